@@ -8,8 +8,8 @@ use Rattle.dg_meaning.specs.Unify.{unify, Binds, binds}
 use Rattle.dg_meaning.proofs.Walks.{walked, resolved_node}
 use Rattle.dg_unify.specs.Store.{Store, told, or_nil, ShowsVar, ShowsPair, Follows}
 use Rattle.dg_unify.specs.Slots.{label_at, value_in, Fields, AreSound, store_of}
-use Rattle.dg_unify.specs.Ends.{subst_in, told_in, TellsOf, IsEnd, EndsAt, MayLink}
-use Rattle.dg_unify.specs.Turns.{FollowsTurn, TurnsInto, met_of}
+use Rattle.dg_unify.specs.inside.Ends.{subst_in, told_in, TellsOf, IsEnd, EndsAt, MayLink}
+use Rattle.dg_unify.specs.inside.Turns.{FollowsTurn, TurnsInto, met_of}
 use Rattle.dg_unify.specs.declared.bindings.Ref.{Ref}
 use Rattle.dg_unify.specs.declared.bindings.Full.{Full}
 use Rattle.dg_unify.proofs.StoreLemmas.{Younger, walked_to, holds_told, contains_var}

@@ -5,7 +5,7 @@ use Rattle.dg_meaning.specs.Values.{Value, Node, Unknown, Closure, leaf, pair}
 use Rattle.dg_meaning.specs.Unify.{top}
 use Rattle.dg_unify.specs.Store.{Saved, Store, told, told_parts, IsTold, Kept, Fresh, Made, Blocked, Bound, trail_for}
 use Rattle.dg_unify.specs.Slots.{value_in, is_constant, Fields, fields_at, AreSound, store_of, Stand, captured_slots, letter_slots, word_slots}
-use Rattle.dg_unify.specs.Ends.{told_in, MayLink}
+use Rattle.dg_unify.specs.inside.Ends.{told_in, MayLink}
 use Rattle.dg_unify.specs.declared.bindings.Ref.{Ref}
 use Rattle.dg_unify.specs.Fences.{fence_for_new, fence_for_link}
 use Rattle.dg_unify.specs.declared.bindings.Mark.{Mark}

@@ -5,7 +5,7 @@ use Rattle.dg_meaning.proofs.Solving.{free, free_falls}
 use Rattle.dg_unify.specs.Store.{or_nil}
 use Rattle.dg_unify.specs.Links.{Once}
 use Rattle.dg_unify.specs.Slots.{value_in, subst_of, Fields, AreSound}
-use Rattle.dg_unify.specs.Ends.{MayLink}
+use Rattle.dg_unify.specs.inside.Ends.{MayLink}
 use Rattle.dg_unify.specs.declared.bindings.Ref.{Ref}
 use Rattle.dg_unify.specs.declared.slots.Slot.{Slot}
 use Rattle.dg_unify.specs.declared.slots.Link.{Link}

@@ -5,7 +5,7 @@ use Rattle.dg_meaning.specs.Substitutions.{resolved, contains}
 use Rattle.dg_meaning.specs.Unify.{unify}
 use Rattle.dg_unify.specs.Store.{Store, told, Follows}
 use Rattle.dg_unify.specs.Slots.{value_in, Fields}
-use Rattle.dg_unify.specs.Ends.{subst_in, told_in, IsEnd}
+use Rattle.dg_unify.specs.inside.Ends.{subst_in, told_in, IsEnd}
 use Rattle.dg_unify.specs.declared.bindings.Ref.{Ref}
 use Rattle.dg_unify.specs.declared.bindings.Full.{Full}
 

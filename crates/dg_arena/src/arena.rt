@@ -5,7 +5,7 @@ ghost use Rattle.std.specs.Prelude.{IfOk, IfSome, MatchResult, length, reverse};
 ghost use Rattle.dg_unify.specs.Store.{Holds, Saved, Kept, Shows, HeapFull, TrailFull, Blocked, Bound};
 ghost use Rattle.dg_unify.specs.Linked.{log_of, vars_of, var_room, link_room};
 ghost use Rattle.dg_unify.specs.Slots.{AreSound, is_constant, store_of};
-ghost use Rattle.dg_unify.specs.Ends.{TellsOf, told_in, IsEnd, Leads, EndsAt, MayLink};
+ghost use Rattle.dg_unify.specs.inside.Ends.{TellsOf, told_in, IsEnd, Leads, EndsAt, MayLink};
 ghost use Rattle.dg_unify.specs.Fences.{IsFenced};
 ghost use Rattle.dg_unify.specs.Props.{are_sound_prop, is_fenced_prop};
 ghost use Rattle.dg_arena.specs.Room.{HasRoom};

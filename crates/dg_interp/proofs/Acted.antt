@@ -18,7 +18,7 @@ use Rattle.dg_unify.specs.declared.list.ListBindings.{ListBindings}
 use Rattle.dg_interp.specs.declared.engine.Engine.{Engine}
 use Rattle.dg_outside.specs.declared.outside.Outside.{Outside}
 use Rattle.dg_outside.specs.Outside.{picks_in, InWorld, MayPick}
-use Rattle.dg_interp.specs.Engine.{store_in, KeepsPlaces, steps_of, There, IsReady, TakesAt, StandsAt, FailsAt, Adds, Then, SameLimits}
+use Rattle.dg_interp.specs.inside.Engine.{store_in, KeepsPlaces, steps_of, There, IsReady, TakesAt, StandsAt, FailsAt, Adds, Then, SameLimits}
 use Rattle.dg_interp.proofs.Takes.{behind, taken_in, adds_taken, store_ready}
 use Rattle.dg_interp.proofs.Giving.{steps_kept, written_agrees}
 

@@ -20,9 +20,9 @@ use Rattle.dg_unify.specs.declared.list.ListBindings.{ListBindings}
 use Rattle.dg_interp.specs.declared.engine.Engine.{Engine}
 use Rattle.dg_interp.specs.declared.frames.Env.{Env}
 use Rattle.dg_terms.specs.Terms.{ThreeMade}
-use Rattle.dg_interp.specs.Frames.{stretch, values_in}
-use Rattle.dg_interp.specs.Engine.{store_in, KeepsPlaces, steps_of, IsReady, TakesAt, Leads}
-use Rattle.dg_interp.specs.Giving.{GivesAt}
+use Rattle.dg_interp.specs.inside.Frames.{stretch, values_in}
+use Rattle.dg_interp.specs.inside.Engine.{store_in, KeepsPlaces, steps_of, IsReady, TakesAt, Leads}
+use Rattle.dg_interp.specs.inside.Giving.{GivesAt}
 use Rattle.dg_interp.proofs.Giving.{with_store, written_acts}
 
 pub arith_held : (op : ArithOp) (a b c : Term) → terms_held (out-Goal (Arith op a b c)) ≡ a ∷ b ∷ c ∷ []

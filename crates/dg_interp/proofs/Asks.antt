@@ -33,11 +33,11 @@ use Rattle.dg_interp.specs.declared.frames.Frame.{Frame}
 use Rattle.dg_interp.specs.declared.frames.Choice.{Choice}
 use Rattle.dg_interp.specs.declared.frames.Left.TheVariants.{Rules}
 use Rattle.dg_interp.specs.declared.engine.Engine.{Engine}
-use Rattle.dg_interp.specs.Rules.{ArgsWritten}
+use Rattle.dg_interp.specs.inside.Rules.{ArgsWritten}
 use Rattle.dg_terms.specs.Terms.{Overflows, Written}
-use Rattle.dg_interp.specs.Frames.{stretch, values_in, steps_behind, AreChoices, AreFrames, IsLeft, StandOn, GoBackTo}
-use Rattle.dg_interp.specs.Engine.{store_in, open_in, KeepsPlaces, HasPlace, IsPlace, Point, IsSound, IsReady, TakesAt, FailsAt, BeginsAt, FullAt, Adds, Leads, SameLimits, steps_of}
-use Rattle.dg_unify.specs.Engines.{Agrees}
+use Rattle.dg_interp.specs.inside.Frames.{stretch, values_in, steps_behind, AreChoices, AreFrames, IsLeft, StandOn, GoBackTo}
+use Rattle.dg_interp.specs.inside.Engine.{store_in, open_in, KeepsPlaces, HasPlace, IsPlace, Point, IsSound, IsReady, TakesAt, FailsAt, BeginsAt, FullAt, Adds, Leads, SameLimits, steps_of}
+use Rattle.dg_unify.specs.inside.Engines.{Agrees}
 use Rattle.dg_interp.proofs.Links.{SameBy, same_here, same_append, behind_new, at_same, frame_raise, frames_append, choices_same, stand_raise, stand_same}
 use Rattle.dg_unify.proofs.StoreLemmas.{kept_same, all_hold}
 use Rattle.dg_interp.proofs.Stores.{values_kept, hold_front, appended_stretch}

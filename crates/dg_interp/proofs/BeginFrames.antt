@@ -26,9 +26,9 @@ use Rattle.dg_interp.specs.declared.frames.Left.{Left}
 use Rattle.dg_interp.specs.declared.frames.Left.TheVariants.{Lists, Ways, Way as OneWay}
 use Rattle.dg_interp.specs.declared.engine.Engine.{Engine}
 use Rattle.dg_terms.specs.Terms.{Overflows}
-use Rattle.dg_interp.specs.Frames.{values_in, steps_behind, steps_at, kind_of, branches_of, IsFrame, IsLeft, IsOrdinary, BeginsWith, has_some, stays_with, cells_if}
-use Rattle.dg_unify.specs.Engines.{Agrees}
-use Rattle.dg_interp.specs.Engine.{store_in, KeepsPlaces, HasPlace, Point, IsSound, BeginsAt, FullAt, WentOn, open_in, kept_if}
+use Rattle.dg_interp.specs.inside.Frames.{values_in, steps_behind, steps_at, kind_of, branches_of, IsFrame, IsLeft, IsOrdinary, BeginsWith, has_some, stays_with, cells_if}
+use Rattle.dg_unify.specs.inside.Engines.{Agrees}
+use Rattle.dg_interp.specs.inside.Engine.{store_in, KeepsPlaces, HasPlace, Point, IsSound, BeginsAt, FullAt, WentOn, open_in, kept_if}
 use Rattle.dg_interp.proofs.Links.{same_here, at_same}
 use Rattle.dg_interp.proofs.Kept.{cells_same}
 use Rattle.dg_interp.proofs.Begun.{begun_values, begun_sound, begun_stands}

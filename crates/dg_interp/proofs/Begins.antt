@@ -39,10 +39,10 @@ use Rattle.dg_interp.specs.declared.engine.Engine.{Engine}
 use Rattle.dg_terms.specs.Terms.{Overflows}
 use Rattle.dg_terms.specs.Passing.{IsCandidate}
 use Rattle.dg_meaning.specs.Selection.{first_excludes, from_candidate}
-use Rattle.dg_interp.specs.Rules.{rule_cells, matched_in, EntersRule, RuleFull}
-use Rattle.dg_interp.specs.Frames.{values_in, frame_steps, steps_behind, steps_at, kind_of, branches_of, IsFrame, IsLeft}
-use Rattle.dg_interp.specs.Engine.{store_in, KeepsPlaces, HasPlace, Point, IsSound, BeginsAt, FullAt, Adds, SameLimits, WentOn, WentWrong, kept_if, open_in}
-use Rattle.dg_unify.specs.Engines.{Agrees}
+use Rattle.dg_interp.specs.inside.Rules.{rule_cells, matched_in, EntersRule, RuleFull}
+use Rattle.dg_interp.specs.inside.Frames.{values_in, frame_steps, steps_behind, steps_at, kind_of, branches_of, IsFrame, IsLeft}
+use Rattle.dg_interp.specs.inside.Engine.{store_in, KeepsPlaces, HasPlace, Point, IsSound, BeginsAt, FullAt, Adds, SameLimits, WentOn, WentWrong, kept_if, open_in}
+use Rattle.dg_unify.specs.inside.Engines.{Agrees}
 use Rattle.dg_interp.proofs.Links.{SameBy, same_here, behind_same}
 use Rattle.dg_unify.proofs.StoreLemmas.{kept_on}
 use Rattle.dg_interp.proofs.Stores.{values_kept, hold_front, appended_stretch, values_count, trail_append, trail_older, made_is}

@@ -15,13 +15,13 @@ use Rattle.dg_unify.specs.Store.{Store, Saved, Holds, Kept}
 use Rattle.dg_unify.specs.declared.bindings.Ref.{Ref}
 use Rattle.dg_unify.specs.declared.bindings.Mark.{Mark as Place}
 use Rattle.dg_unify.specs.declared.list.ListBindings.{ListBindings}
-use Rattle.dg_unify.specs.Engines.{Agrees}
+use Rattle.dg_unify.specs.inside.Engines.{Agrees}
 use Rattle.dg_interp.specs.declared.frames.Frame.{Frame}
 use Rattle.dg_interp.specs.declared.frames.Left.{Left}
 use Rattle.dg_interp.specs.declared.frames.Choice.{Choice}
 use Rattle.dg_interp.specs.declared.engine.Engine.{Engine}
-use Rattle.dg_interp.specs.Frames.{values_in, kind_of, branches_of, lives_of, ways_of, AreChoices, IsLeft, IsOrdinary, StandOn, GoBackTo, stays_with}
-use Rattle.dg_interp.specs.Engine.{store_in, KeepsPlaces, HasPlace, Within, There, IsSound, StandsAt, FailsAt, BeginsAt, SameLimits, steps_of, kept_if, open_in}
+use Rattle.dg_interp.specs.inside.Frames.{values_in, kind_of, branches_of, lives_of, ways_of, AreChoices, IsLeft, IsOrdinary, StandOn, GoBackTo, stays_with}
+use Rattle.dg_interp.specs.inside.Engine.{store_in, KeepsPlaces, HasPlace, Within, There, IsSound, StandsAt, FailsAt, BeginsAt, SameLimits, steps_of, kept_if, open_in}
 use Rattle.dg_outside.specs.Outside.{InWorld}
 use Rattle.dg_interp.proofs.Links.{SameBy, same_here, branches_same, choices_same, back_same, frames_raise, stand_raise}
 use Rattle.dg_unify.proofs.StoreLemmas.{all_hold}

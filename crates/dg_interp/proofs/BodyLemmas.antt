@@ -13,7 +13,7 @@ use Rattle.dg_unify.proofs.StoreLemmas.{kept_same, kept_on, all_hold, all_told}
 use Rattle.dg_unify.specs.declared.bindings.Ref.{Ref}
 use Rattle.dg_unify.specs.declared.bindings.Full.{Full}
 use Rattle.dg_unify.specs.declared.bindings.Full.TheVariants as full
-use Rattle.dg_interp.specs.Bodies.{body_vars, parameters, matched_body, EntersBody, BodyFull}
+use Rattle.dg_interp.specs.inside.Bodies.{body_vars, parameters, matched_body, EntersBody, BodyFull}
 use Rattle.dg_terms.specs.Terms.{Overflows, Appended, MadeVars}
 use Rattle.dg_terms.proofs.TermLemmas.{appended_on}
 use Rattle.dg_interp.proofs.Entering.{vars_are_made, vars_hold}

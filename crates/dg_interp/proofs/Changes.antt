@@ -32,11 +32,11 @@ use Rattle.dg_choose.specs.Dice.{HasDrawn}
 use Rattle.dg_lists.specs.Formed.{IsFormed}
 use Rattle.dg_interp.specs.declared.engine.Engine.{Engine}
 use Rattle.dg_outside.specs.declared.outside.Outside.{Outside}
-use Rattle.dg_interp.specs.Frames.{values_in}
+use Rattle.dg_interp.specs.inside.Frames.{values_in}
 use Rattle.dg_outside.specs.Outside.{outline, HaveGathered, InWorld}
-use Rattle.dg_interp.specs.Engine.{store_in, limit_in, KeepsPlaces, steps_of, IsReady, TakesAt, StandsAt, FailsAt, PassesLimit, Leads, Then, SameLimits, WentOn}
+use Rattle.dg_interp.specs.inside.Engine.{store_in, limit_in, KeepsPlaces, steps_of, IsReady, TakesAt, StandsAt, FailsAt, PassesLimit, Leads, Then, SameLimits, WentOn}
 use Rattle.dg_outside.specs.Changing.{all_in_store, SetsFormed, Became}
-use Rattle.dg_interp.specs.Made.{MadeArgs, changes_at, ChangedMade}
+use Rattle.dg_interp.specs.inside.Made.{MadeArgs, changes_at, ChangedMade}
 use Rattle.dg_interp.proofs.Takes.{behind, taken_in, comes_of}
 use Rattle.dg_interp.proofs.Giving.{written_agrees}
 use Rattle.dg_interp.proofs.Acted.{acted_to, acted_ready, acted_limits, acted_on, acted_not}

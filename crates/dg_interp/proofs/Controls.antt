@@ -8,7 +8,7 @@ use Rattle.dg_base.specs.declared.program.Goal.TheOpen as part
 use Rattle.dg_base.specs.declared.program.Term.{Term}
 use Rattle.dg_interp.specs.declared.frames.Whole.{Whole}
 use Rattle.dg_interp.specs.declared.frames.Whole.TheVariants.{List as InList, Sum as InSum}
-use Rattle.dg_interp.specs.Gathering.{gathering_goal}
+use Rattle.dg_interp.specs.inside.Gathering.{gathering_goal}
 use Rattle.dg_base.specs.Goals.{terms_held}
 use Rattle.dg_meaning.specs.Values.{Value}
 use Rattle.dg_meaning.specs.World.{Game, World}
@@ -29,9 +29,9 @@ use Rattle.dg_interp.specs.declared.frames.Frame.{Frame}
 use Rattle.dg_interp.specs.declared.frames.Left.TheVariants.{Lists, Ways}
 use Rattle.dg_interp.specs.declared.frames.Mark.TheVariants.{Nothing, CutTo, RefuseTo, Exhausted}
 use Rattle.dg_interp.specs.declared.engine.Engine.{Engine}
-use Rattle.dg_interp.specs.Frames.{values_in, mark_steps, steps_behind, steps_at, IsFrame, IsLeft}
-use Rattle.dg_unify.specs.Engines.{Agrees}
-use Rattle.dg_interp.specs.Engine.{store_in, KeepsPlaces, steps_of, IsReady, Point, TakesAt, OpensAt, IsSound, FailsAt, IsPushed, IsAgain, FullAt, Leads, SameLimits, WentOn, Branches}
+use Rattle.dg_interp.specs.inside.Frames.{values_in, mark_steps, steps_behind, steps_at, IsFrame, IsLeft}
+use Rattle.dg_unify.specs.inside.Engines.{Agrees}
+use Rattle.dg_interp.specs.inside.Engine.{store_in, KeepsPlaces, steps_of, IsReady, Point, TakesAt, OpensAt, IsSound, FailsAt, IsPushed, IsAgain, FullAt, Leads, SameLimits, WentOn, Branches}
 use Rattle.dg_interp.proofs.Links.{same_here, same_values, same_append, behind_same, at_same, stand_raise}
 use Rattle.dg_interp.proofs.Takes.{behind, taken_in, comes_of, adds_taken, store_sound}
 use Rattle.dg_interp.proofs.Places.{inside_in, inside_kept, adds_nothing, limits_on}

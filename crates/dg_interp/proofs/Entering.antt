@@ -14,8 +14,8 @@ use Rattle.dg_unify.specs.declared.bindings.Ref.{Ref}
 use Rattle.dg_unify.specs.declared.bindings.Full.{Full}
 use Rattle.dg_unify.specs.declared.bindings.Full.TheVariants as full
 use Rattle.dg_interp.specs.declared.frames.Env.{Env}
-use Rattle.dg_interp.specs.Frames.{stretch, values_in, EndsBy}
-use Rattle.dg_interp.specs.Rules.{matched_in, EntersRule, RuleFull}
+use Rattle.dg_interp.specs.inside.Frames.{stretch, values_in, EndsBy}
+use Rattle.dg_interp.specs.inside.Rules.{matched_in, EntersRule, RuleFull}
 use Rattle.dg_terms.specs.Terms.{Overflows, Written, MadeVars}
 use Rattle.dg_unify.proofs.StoreLemmas.{kept_on, all_hold, all_told}
 use Rattle.dg_interp.proofs.Stores.{stretch_holds, values_kept, take_all, hold_front, front_same}

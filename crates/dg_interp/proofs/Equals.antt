@@ -27,9 +27,9 @@ use Rattle.dg_unify.specs.declared.bindings.Full.TheVariants as full
 use Rattle.dg_unify.specs.declared.list.ListBindings.{ListBindings}
 use Rattle.dg_interp.specs.declared.engine.Engine.{Engine}
 use Rattle.dg_terms.specs.Terms.{Overflows, BothMade}
-use Rattle.dg_interp.specs.Frames.{values_in}
-use Rattle.dg_interp.specs.Engine.{store_in, KeepsPlaces, steps_of, IsReady, TakesAt, FailsAt, FullAt, Adds, Leads, WentOn}
-use Rattle.dg_unify.specs.Engines.{Agrees}
+use Rattle.dg_interp.specs.inside.Frames.{values_in}
+use Rattle.dg_interp.specs.inside.Engine.{store_in, KeepsPlaces, steps_of, IsReady, TakesAt, FailsAt, FullAt, Adds, Leads, WentOn}
+use Rattle.dg_unify.specs.inside.Engines.{Agrees}
 use Rattle.dg_interp.proofs.Stores.{trail_append, trail_within, made_is}
 use Rattle.dg_interp.proofs.Takes.{behind, taken_in, comes_of, adds_taken, terms_full, store_ready}
 use Rattle.dg_interp.proofs.Values.{grown, grown_limits, stands_behind, fails_behind}

@@ -32,7 +32,7 @@ use Rattle.dg_meaning.specs.Transcript.{Run}
 use Rattle.dg_meaning.specs.Keeps.{After, Went, world_at}
 use Rattle.dg_meaning.proofs.Keeps.{has_happened}
 use Rattle.dg_unify.specs.Store.{Store, State, Saved, Kept, Holds, told, or_nil}
-use Rattle.dg_unify.specs.Engines.{Agrees}
+use Rattle.dg_unify.specs.inside.Engines.{Agrees}
 use Rattle.dg_unify.specs.declared.bindings.Ref.{Ref}
 use Rattle.dg_unify.specs.declared.bindings.Full.{Full}
 use Rattle.dg_unify.specs.declared.bindings.Full.TheVariants as full
@@ -44,14 +44,14 @@ use Rattle.dg_world.specs.Worlds.{StandsFor}
 use Rattle.dg_interp.specs.declared.engine.Engine.{Engine}
 use Rattle.dg_outside.specs.declared.subject.Subject.TheVariants.{Open, Thing, Other}
 use Rattle.dg_outside.specs.Subjects.{may_name, IsSubject}
-use Rattle.dg_interp.specs.Frames.{values_in}
-use Rattle.dg_interp.specs.Made.{MadeArgs}
+use Rattle.dg_interp.specs.inside.Frames.{values_in}
+use Rattle.dg_interp.specs.inside.Made.{MadeArgs}
 use Rattle.dg_outside.specs.Outside.{outline, InWorld}
 use Rattle.dg_outside.specs.Finding.{may_find}
 use Rattle.dg_outside.proofs.Finds.{no_copy, same_copy, KeptAs, value_formed, kept_as, kept_none}
-use Rattle.dg_interp.specs.Giving.{ActsAt, UnifiesAt}
-use Rattle.dg_interp.specs.Finding.{EffectAt, made_values, AsksPlaceAt, AsksObjectsAt, TriesObjectsAt, ReadsAt}
-use Rattle.dg_interp.specs.Engine.{Point, store_in, KeepsPlaces, steps_of, IsReady, TakesAt, FailsAt, FullAt, Leads, SameLimits, WentOn}
+use Rattle.dg_interp.specs.inside.Giving.{ActsAt, UnifiesAt}
+use Rattle.dg_interp.specs.inside.Finding.{EffectAt, made_values, AsksPlaceAt, AsksObjectsAt, TriesObjectsAt, ReadsAt}
+use Rattle.dg_interp.specs.inside.Engine.{Point, store_in, KeepsPlaces, steps_of, IsReady, TakesAt, FailsAt, FullAt, Leads, SameLimits, WentOn}
 use Rattle.dg_unify.proofs.StoreLemmas.{kept_told}
 use Rattle.dg_interp.proofs.Places.{adds_nothing, inside_in, inside_kept, limits_here}
 use Rattle.dg_interp.proofs.Takes.{behind, taken_in, comes_of, adds_taken}

@@ -24,7 +24,7 @@ use Rattle.dg_meaning.specs.Keeps.{Stands, After}
 use Rattle.dg_meaning.specs.Peaks.{Aux}
 use Rattle.dg_meaning.proofs.Keeps.{stands_happened, keeps_value}
 use Rattle.dg_unify.specs.Store.{Store, State, Saved, Holds, Kept, Charged, HeapFull, told, marked}
-use Rattle.dg_unify.specs.Engines.{Agrees}
+use Rattle.dg_unify.specs.inside.Engines.{Agrees}
 use Rattle.dg_unify.specs.declared.bindings.Ref.{Ref}
 use Rattle.dg_unify.specs.declared.bindings.Full.{Full}
 use Rattle.dg_unify.specs.declared.bindings.Full.TheVariants as full
@@ -42,9 +42,9 @@ use Rattle.dg_interp.specs.declared.engine.Engine.{Engine}
 use Rattle.dg_outside.specs.declared.outside.Outside.{Outside}
 use Rattle.dg_outside.specs.Outside.{picks_in, InWorld, MayPick, OpensOne, OpensTooMuch}
 use Rattle.dg_terms.specs.Terms.{BothMade}
-use Rattle.dg_interp.specs.Frames.{values_in, steps_at, steps_behind, whole_of, lives_of, ways_of, IsChoice, AreChoices, IsFrame, AreFrames, StandOn, GoBackTo}
-use Rattle.dg_interp.specs.Gathering.{gathering_goal, gathering_live, GathersAt}
-use Rattle.dg_interp.specs.Engine.{Point, store_in, KeepsPlaces, IsReady, TakesAt, Leads, WentOn, FullAt, PassesLimit, steps_of, open_in}
+use Rattle.dg_interp.specs.inside.Frames.{values_in, steps_at, steps_behind, whole_of, lives_of, ways_of, IsChoice, AreChoices, IsFrame, AreFrames, StandOn, GoBackTo}
+use Rattle.dg_interp.specs.inside.Gathering.{gathering_goal, gathering_live, GathersAt}
+use Rattle.dg_interp.specs.inside.Engine.{Point, store_in, KeepsPlaces, IsReady, TakesAt, Leads, WentOn, FullAt, PassesLimit, steps_of, open_in}
 use Rattle.dg_interp.proofs.Links.{SameBy, SameTo, same_append, at_same, behind_new, frame_raise, frames_raise, frames_append, stand_raise, stand_same, choices_same, back_same}
 use Rattle.dg_interp.proofs.Places.{adds_nothing, open_still, inside_kept}
 use Rattle.dg_unify.proofs.StoreLemmas.{kept_on, all_hold, kept_told}

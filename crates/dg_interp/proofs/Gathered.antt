@@ -26,9 +26,9 @@ use Rattle.dg_outside.specs.declared.lack.Lack.{Lack}
 use Rattle.dg_interp.specs.declared.frames.Env.{Env}
 use Rattle.dg_outside.specs.declared.outside.Outside.{Outside}
 use Rattle.dg_outside.specs.Outside.{picks_in, InWorld, MayPick, Gathers, GathersTooMuch}
-use Rattle.dg_interp.specs.Frames.{stretch, values_in}
-use Rattle.dg_interp.specs.Gathering.{KeepsAt}
-use Rattle.dg_interp.specs.Engine.{Point, store_in, KeepsPlaces, IsReady, FullAt, LacksIn, LackAt, Leads, SameLimits, PassesLimit, WentWrong, limit_in}
+use Rattle.dg_interp.specs.inside.Frames.{stretch, values_in}
+use Rattle.dg_interp.specs.inside.Gathering.{KeepsAt}
+use Rattle.dg_interp.specs.inside.Engine.{Point, store_in, KeepsPlaces, IsReady, FullAt, LacksIn, LackAt, Leads, SameLimits, PassesLimit, WentWrong, limit_in}
 use Rattle.dg_meaning.specs.Peaks.{Area, Aux}
 use Rattle.dg_interp.proofs.Places.{adds_nothing, limits_at}
 use Rattle.dg_interp.proofs.Takes.{store_sound}

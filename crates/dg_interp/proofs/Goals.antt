@@ -19,8 +19,8 @@ use Rattle.dg_meaning.specs.Cells.{cells}
 use Rattle.dg_base.specs.Goals.{terms_held}
 use Rattle.dg_interp.specs.declared.frames.Choice.{Choice}
 use Rattle.dg_interp.specs.declared.engine.Engine.{Engine}
-use Rattle.dg_interp.specs.Frames.{values_in}
-use Rattle.dg_interp.specs.Engine.{store_in, steps_of, IsReady, TakesAt, StandsAt, FailsAt, Then, Leads, Ends, Cuts, WentOn}
+use Rattle.dg_interp.specs.inside.Frames.{values_in}
+use Rattle.dg_interp.specs.inside.Engine.{store_in, steps_of, IsReady, TakesAt, StandsAt, FailsAt, Then, Leads, Ends, Cuts, WentOn}
 use Rattle.dg_interp.proofs.Places.{inside_in, cut_base, cut_inside, ways_left}
 use Rattle.dg_interp.proofs.Takes.{behind, taken_in, comes_of, adds_taken}
 

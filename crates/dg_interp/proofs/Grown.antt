@@ -13,8 +13,8 @@ use Rattle.dg_unify.specs.declared.list.ListBindings.{ListBindings}
 use Rattle.dg_interp.specs.declared.frames.Frame.{Frame}
 use Rattle.dg_interp.specs.declared.frames.Choice.{Choice}
 use Rattle.dg_interp.specs.declared.engine.Engine.{Engine}
-use Rattle.dg_interp.specs.Frames.{values_in, AreChoices, GoBackTo}
-use Rattle.dg_interp.specs.Engine.{store_in, KeepsPlaces, Sound, IsReady}
+use Rattle.dg_interp.specs.inside.Frames.{values_in, AreChoices, GoBackTo}
+use Rattle.dg_interp.specs.inside.Engine.{store_in, KeepsPlaces, Sound, IsReady}
 use Rattle.dg_interp.proofs.Links.{SameBy, same_here, frames_raise, choices_same, back_same, stand_raise}
 use Rattle.dg_unify.proofs.StoreLemmas.{all_hold}
 use Rattle.dg_interp.proofs.Stores.{values_kept, hold_front, front_same}

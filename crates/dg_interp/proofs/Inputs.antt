@@ -40,13 +40,13 @@ use Rattle.dg_words.specs.Letters.{IsLine}
 use Rattle.dg_words.proofs.LineLemmas.{left_shorter}
 use Rattle.dg_interp.specs.declared.engine.Engine.{Engine}
 use Rattle.dg_outside.specs.Lacks.{as_stored}
-use Rattle.dg_interp.specs.Engine.{store_in, steps_of, limit_in, StandsAt, Taken, Then, WentOn, HasEndedSo, Branches, FullAt, PassesLimit, SameLimits}
+use Rattle.dg_interp.specs.inside.Engine.{store_in, steps_of, limit_in, StandsAt, Taken, Then, WentOn, HasEndedSo, Branches, FullAt, PassesLimit, SameLimits}
 use Rattle.dg_meaning.specs.Engines.{game, told_behind, left_told}
 use Rattle.dg_meaning.proofs.Engines.{as_told}
 use Rattle.dg_texts.specs.Printing.{Added}
-use Rattle.dg_interp.specs.Running.{HasText, Writes, Gave, Awaits, Stretch, Reaches, HasEnded, MeetsLimit, IsBroken, IsLimited, TakesMore, LosesInput, Broken, GoalDone, DoesGoal, over, outcome_of}
+use Rattle.dg_interp.specs.inside.Running.{HasText, Writes, Gave, Awaits, Stretch, Reaches, HasEnded, MeetsLimit, IsBroken, IsLimited, TakesMore, LosesInput, Broken, GoalDone, DoesGoal, over, outcome_of}
 use Rattle.dg_texts.specs.Spelling.{IsShort, SpellsSome}
-use Rattle.dg_interp.specs.Wording.{words_in, MakesAt, TakesLineAt, AwaitsInput}
+use Rattle.dg_interp.specs.inside.Wording.{words_in, MakesAt, TakesLineAt, AwaitsInput}
 use Rattle.dg_interp.proofs.Places.{inside_in, limits_at, limits_on, adds_nothing}
 use Rattle.dg_texts.proofs.Texts.{render_grows}
 use Rattle.dg_interp.proofs.Runs.{stretched, writes_nothing, text_added, text_begins, finished_so, ended_at, limited_at, no_more}

@@ -21,9 +21,9 @@ use Rattle.dg_interp.specs.declared.frames.Frame.{Frame}
 use Rattle.dg_interp.specs.declared.frames.Left.{Left}
 use Rattle.dg_interp.specs.declared.frames.Left.TheVariants.{Rules, Lists, Ways, Way as OneWay, Behind, TakeOut, Things}
 use Rattle.dg_interp.specs.declared.frames.Choice.{Choice}
-use Rattle.dg_interp.specs.Frames.{values_in, steps_behind, kind_of, branches_of, AreChoices, AreFrames, IsLeft, StandOn, GoBackTo, IsOrdinary, IsNoted, cut_if, lives_of, ways_of, left_in, all_left, has_some, stays_with, cells_if}
-use Rattle.dg_unify.specs.Engines.{Agrees}
-use Rattle.dg_interp.specs.Engine.{KeepsPlaces, kept_if}
+use Rattle.dg_interp.specs.inside.Frames.{values_in, steps_behind, kind_of, branches_of, AreChoices, AreFrames, IsLeft, StandOn, GoBackTo, IsOrdinary, IsNoted, cut_if, lives_of, ways_of, left_in, all_left, has_some, stays_with, cells_if}
+use Rattle.dg_unify.specs.inside.Engines.{Agrees}
+use Rattle.dg_interp.specs.inside.Engine.{KeepsPlaces, kept_if}
 use Rattle.dg_interp.proofs.Links.{stand_raise, no_part, plain_cut, plain_way}
 use Rattle.dg_meaning.specs.Facts.{kinds_of}
 use Rattle.dg_outside.specs.Finding.{may_find, counted}

@@ -17,7 +17,7 @@ use Rattle.dg_meaning.specs.Cells.{writing}
 use Rattle.dg_base.specs.Goals.{terms_held}
 use Rattle.dg_base.specs.declared.program.Goal.{Goal, out-Goal}
 use Rattle.dg_unify.specs.Store.{Store, State, Saved, Holds, Kept, Charged, HeapFull, marked}
-use Rattle.dg_unify.specs.Engines.{Agrees}
+use Rattle.dg_unify.specs.inside.Engines.{Agrees}
 use Rattle.dg_unify.specs.declared.bindings.Ref.{Ref}
 use Rattle.dg_unify.specs.declared.bindings.Full.{Full}
 use Rattle.dg_unify.specs.declared.bindings.Full.TheVariants as full
@@ -28,8 +28,8 @@ use Rattle.dg_interp.specs.declared.frames.Mark.TheVariants.{LeavePart}
 use Rattle.dg_interp.specs.declared.frames.Left.TheVariants.{Behind}
 use Rattle.dg_interp.specs.declared.frames.Choice.{Choice}
 use Rattle.dg_interp.specs.declared.engine.Engine.{Engine}
-use Rattle.dg_interp.specs.Frames.{values_in, steps_at, lives_of, ways_of, IsChoice, AreChoices, IsFrame, StandOn, GoBackTo}
-use Rattle.dg_interp.specs.Engine.{store_in, KeepsPlaces, IsReady, TakesAt, WentOn, FullAt, steps_of, open_in}
+use Rattle.dg_interp.specs.inside.Frames.{values_in, steps_at, lives_of, ways_of, IsChoice, AreChoices, IsFrame, StandOn, GoBackTo}
+use Rattle.dg_interp.specs.inside.Engine.{store_in, KeepsPlaces, IsReady, TakesAt, WentOn, FullAt, steps_of, open_in}
 use Rattle.dg_interp.proofs.Links.{same_here, at_same, stand_raise}
 use Rattle.dg_interp.proofs.Places.{open_still}
 use Rattle.dg_unify.proofs.StoreLemmas.{kept_on, all_hold}

@@ -23,10 +23,10 @@ use Rattle.dg_interp.specs.declared.frames.Query.{Query}
 use Rattle.dg_interp.specs.declared.frames.Env.{Env}
 use Rattle.dg_interp.specs.declared.frames.Left.TheVariants.{Rules}
 use Rattle.dg_interp.specs.declared.engine.Engine.{Engine}
-use Rattle.dg_interp.specs.Frames.{values_in, steps_behind, IsLeft}
+use Rattle.dg_interp.specs.inside.Frames.{values_in, steps_behind, IsLeft}
 use Rattle.dg_outside.specs.Outside.{InWorld}
 use Rattle.dg_interp.proofs.Kept.{rules_open}
-use Rattle.dg_interp.specs.Engine.{store_in, open_in, Point, IsSound, FailsAt, BeginsAt, Adds, Leads, WentWrong}
+use Rattle.dg_interp.specs.inside.Engine.{store_in, open_in, Point, IsSound, FailsAt, BeginsAt, Adds, Leads, WentWrong}
 use Rattle.dg_terms.specs.Passing.{IsFirst, IsCandidate, PassesTo}
 use Rattle.dg_interp.proofs.Places.{there_in, world_still, world_tried, adds_nothing, adds_on, adds_drops, adds_tried, adds_failed, leads_on, leads_nowhere, limits_here}
 use Rattle.dg_interp.proofs.Turns.{all_rest}

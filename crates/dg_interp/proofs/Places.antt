@@ -29,12 +29,12 @@ use Rattle.dg_interp.specs.declared.frames.Mark.TheVariants.{Nothing, AnswerOf, 
 use Rattle.dg_interp.specs.declared.frames.Frame.{Frame}
 use Rattle.dg_interp.specs.declared.frames.Choice.{Choice}
 use Rattle.dg_interp.specs.declared.engine.Engine.{Engine}
-use Rattle.dg_interp.specs.Frames.{values_in, mark_steps, frame_steps, steps_behind, steps_at, lives_of, ways_of, AreChoices, IsFrame, AreFrames, StandOn, GoBackTo, floor_of, all_left}
-use Rattle.dg_interp.specs.Engine.{store_in, limit_in, KeepsPlaces, Within, On, There, Sound, IsReady, Point, StandsAt, FailsAt, Adds, Then, Leads, older_than, Cuts, branches_left, SameLimits, WentOn, WentWrong, HasEndedSo, MarkPassed, Refused, FrameLeft, steps_of}
+use Rattle.dg_interp.specs.inside.Frames.{values_in, mark_steps, frame_steps, steps_behind, steps_at, lives_of, ways_of, AreChoices, IsFrame, AreFrames, StandOn, GoBackTo, floor_of, all_left}
+use Rattle.dg_interp.specs.inside.Engine.{store_in, limit_in, KeepsPlaces, Within, On, There, Sound, IsReady, Point, StandsAt, FailsAt, Adds, Then, Leads, older_than, Cuts, branches_left, SameLimits, WentOn, WentWrong, HasEndedSo, MarkPassed, Refused, FrameLeft, steps_of}
 use Rattle.dg_outside.specs.declared.outside.Outside.{Outside}
 use Rattle.dg_outside.specs.Outside.{row_of, InWorld}
-use Rattle.dg_interp.specs.Gathering.{KeepsAt}
-use Rattle.dg_unify.specs.Engines.{Agrees}
+use Rattle.dg_interp.specs.inside.Gathering.{KeepsAt}
+use Rattle.dg_unify.specs.inside.Engines.{Agrees}
 use Rattle.dg_interp.proofs.Links.{same_take, same_values, behind_same, behind_frame, behind_end, frames_take, choices_same, rest_older, choices_cut, lives_cut, ways_cut, back_cut, keeps_cut, stand_cut, stand_same, stand_floor, floor_within, cut_fewer}
 
 -- ## From world to world

@@ -26,7 +26,7 @@ use Rattle.dg_meaning.specs.Keeps.{After, Stands, Began}
 use Rattle.dg_built.specs.Built.{AreBuilt, IsBuiltBody}
 use Rattle.dg_meaning.proofs.Solving.{solve_extends}
 use Rattle.dg_unify.specs.Store.{Store, State, Saved, Holds, Kept, Made, told, trail_of}
-use Rattle.dg_unify.specs.Engines.{Agrees}
+use Rattle.dg_unify.specs.inside.Engines.{Agrees}
 use Rattle.dg_unify.specs.declared.bindings.Ref.{Ref}
 use Rattle.dg_unify.specs.declared.bindings.Full.{Full}
 use Rattle.dg_unify.specs.declared.bindings.Full.TheVariants as full
@@ -34,11 +34,11 @@ use Rattle.dg_unify.specs.declared.list.ListBindings.{ListBindings}
 use Rattle.dg_interp.specs.declared.frames.Frame.{Frame}
 use Rattle.dg_interp.specs.declared.frames.Choice.{Choice}
 use Rattle.dg_interp.specs.declared.engine.Engine.{Engine}
-use Rattle.dg_interp.specs.Bodies.{IsBody, HasNoBody, parameters, matched_body, EntersBody, BodyFull}
-use Rattle.dg_interp.specs.Frames.{stretch, values_in, frame_steps, mark_steps, steps_behind, AreChoices, AreFrames, StandOn, GoBackTo}
+use Rattle.dg_interp.specs.inside.Bodies.{IsBody, HasNoBody, parameters, matched_body, EntersBody, BodyFull}
+use Rattle.dg_interp.specs.inside.Frames.{stretch, values_in, frame_steps, mark_steps, steps_behind, AreChoices, AreFrames, StandOn, GoBackTo}
 use Rattle.dg_terms.specs.Terms.{Overflows, BothMade}
-use Rattle.dg_interp.specs.Engine.{store_in, KeepsPlaces, Point, IsSound, IsReady, TakesAt, FailsAt, FullAt, Adds, Leads, SameLimits, WentOn, steps_of}
-use Rattle.dg_interp.specs.Querying.{QueriesAt, mark_of}
+use Rattle.dg_interp.specs.inside.Engine.{store_in, KeepsPlaces, Point, IsSound, IsReady, TakesAt, FailsAt, FullAt, Adds, Leads, SameLimits, WentOn, steps_of}
+use Rattle.dg_interp.specs.inside.Querying.{QueriesAt, mark_of}
 use Rattle.dg_interp.proofs.Begins.{began_peaks}
 use Rattle.dg_interp.proofs.Links.{SameBy, same_here, same_append, behind_new, at_same, frame_raise, frames_append, choices_same, stand_raise, stand_same}
 use Rattle.dg_interp.proofs.Stores.{values_kept, hold_front, appended_stretch, trail_append, trail_older, made_is}

@@ -17,14 +17,14 @@ use Rattle.dg_outside.specs.Lacks.{area_of}
 use Rattle.dg_spacing.specs.declared.spacer.Spacer.{Spacer}
 use Rattle.dg_interp.specs.declared.engine.Engine.{Engine}
 use Rattle.dg_base.specs.Written.{SinkView}
-use Rattle.dg_interp.specs.Engine.{PassesLimit, limit_in, IsReady, StandsAt, LacksIn, LackAt, HasEndedSo, AtGoal, GoesToGoal}
+use Rattle.dg_interp.specs.inside.Engine.{PassesLimit, limit_in, IsReady, StandsAt, LacksIn, LackAt, HasEndedSo, AtGoal, GoesToGoal}
 use Rattle.dg_base.specs.Streams.{SourceView}
 use Rattle.dg_meaning.specs.Shows.{IsLeft}
 use Rattle.std.proofs.lemmas.List.{append-nil, append_cancel_left}
 use Rattle.dg_meaning.specs.World.{Print}
 use Rattle.dg_meaning.specs.Engines.{told_behind, left_told}
 use Rattle.dg_meaning.proofs.Engines.{as_told}
-use Rattle.dg_interp.specs.Running.{Gave, Awaits, Stretch, HasText, Reaches, GoesOn, HasEnded, MeetsLimit, Ended, IsBroken, IsLimited, TakesMore, LosesInput, Broken, GoalDone, Does, ending_at, limit_of}
+use Rattle.dg_interp.specs.inside.Running.{Gave, Awaits, Stretch, HasText, Reaches, GoesOn, HasEnded, MeetsLimit, Ended, IsBroken, IsLimited, TakesMore, LosesInput, Broken, GoalDone, Does, ending_at, limit_of}
 use Rattle.dg_interp.proofs.Places.{limits_at, adds_nothing, limits_on, limits_here}
 use Rattle.dg_interp.proofs.Runs.{gave_nothing, gave_on, stretched, ended_at, writes_nothing, writes_on, finished_so, no_more}
 

@@ -32,15 +32,15 @@ use Rattle.dg_spacing.specs.Spacer.{StandsFor}
 use Rattle.dg_meaning.specs.Growth.{growth}
 use Rattle.dg_texts.proofs.Texts.{render_append, render_grows}
 use Rattle.dg_texts.specs.Printing.{Added, as_prints, growth_of, AddsAll}
-use Rattle.dg_interp.specs.Frames.{mark_steps, steps_behind, values_in}
+use Rattle.dg_interp.specs.inside.Frames.{mark_steps, steps_behind, values_in}
 use Rattle.dg_outside.specs.declared.lack.Lack.{Lack}
 use Rattle.dg_outside.specs.Lacks.{lack_of, area_of, as_stored}
-use Rattle.dg_interp.specs.Engine.{store_in, limit_in, Point, LacksIn, LackAt, PassesLimit, IsAct, pieces_at, WrotePrinted, StandsAt, TakesAt, Then, FullAt, Taken, WentOn, HasEndedSo, Branches, Stops}
+use Rattle.dg_interp.specs.inside.Engine.{store_in, limit_in, Point, LacksIn, LackAt, PassesLimit, IsAct, pieces_at, WrotePrinted, StandsAt, TakesAt, Then, FullAt, Taken, WentOn, HasEndedSo, Branches, Stops}
 use Rattle.dg_base.specs.Streams.{SourceView}
 use Rattle.dg_meaning.specs.Shows.{IsLeft}
 use Rattle.dg_meaning.specs.Engines.{left_told}
 use Rattle.dg_meaning.proofs.Engines.{as_told}
-use Rattle.dg_interp.specs.Running.{HasText, Writes, Gave, Awaits, Stretch, Reaches, HasEnded, IsNoFurther, MeetsLimit, Ended, IsBroken, Broken, GoalDone, DoesGoal, ending_at, over, outcome_of}
+use Rattle.dg_interp.specs.inside.Running.{HasText, Writes, Gave, Awaits, Stretch, Reaches, HasEnded, IsNoFurther, MeetsLimit, Ended, IsBroken, Broken, GoalDone, DoesGoal, ending_at, over, outcome_of}
 use Rattle.dg_base.proofs.WrittenLemmas.{wrote_on, broke_first, broke_later}
 use Rattle.dg_interp.proofs.Places.{limits_at, adds_nothing, adds_on, adds_drops, limits_on}
 use Rattle.dg_interp.proofs.Goals.{prints_word, prints_gap, quits}

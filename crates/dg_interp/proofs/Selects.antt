@@ -21,7 +21,7 @@ use Rattle.dg_world.specs.declared.world.World.{World as FactsWorld}
 use Rattle.dg_outside.specs.declared.outside.Outside.{Outside}
 use Rattle.dg_interp.specs.declared.engine.Engine.{Engine}
 use Rattle.dg_outside.specs.Outside.{picks_in, MayPick, PicksOne}
-use Rattle.dg_interp.specs.Engine.{steps_of, IsReady, TakesAt, WentOn}
+use Rattle.dg_interp.specs.inside.Engine.{steps_of, IsReady, TakesAt, WentOn}
 use Rattle.dg_interp.proofs.Takes.{behind, taken_in, comes_of, adds_taken}
 use Rattle.dg_interp.proofs.Opens.{agrees_here}
 use Rattle.dg_interp.proofs.Controls.{values_of, behind_all, then_frame, then_is}

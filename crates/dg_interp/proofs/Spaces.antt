@@ -29,12 +29,12 @@ use Rattle.dg_unify.specs.declared.list.ListBindings.{ListBindings}
 use Rattle.dg_spacing.specs.declared.spacer.Spacer.{Spacer}
 use Rattle.dg_spacing.specs.Spacer.{StandsFor}
 use Rattle.dg_interp.specs.declared.engine.Engine.{Engine}
-use Rattle.dg_interp.specs.Frames.{values_in}
-use Rattle.dg_interp.specs.Engine.{store_in, KeepsPlaces, steps_of, IsReady, TakesAt, StandsAt, Taken, Leads, Then, WentWrong}
+use Rattle.dg_interp.specs.inside.Frames.{values_in}
+use Rattle.dg_interp.specs.inside.Engine.{store_in, KeepsPlaces, steps_of, IsReady, TakesAt, StandsAt, Taken, Leads, Then, WentWrong}
 use Rattle.dg_terms.specs.Throwing.{number_in}
-use Rattle.dg_interp.specs.Giving.{ActsAt, PrintsOne, TellsSpaces}
+use Rattle.dg_interp.specs.inside.Giving.{ActsAt, PrintsOne, TellsSpaces}
 use Rattle.dg_texts.specs.Printing.{Added}
-use Rattle.dg_interp.specs.Running.{GoalDone, Reaches, IsBroken}
+use Rattle.dg_interp.specs.inside.Running.{GoalDone, Reaches, IsBroken}
 use Rattle.dg_interp.proofs.Takes.{store_sound, store_ready}
 use Rattle.dg_interp.proofs.Places.{inside_in, limits_on}
 use Rattle.dg_base.specs.Streams.{SourceView}

@@ -40,10 +40,10 @@ use Rattle.dg_interp.specs.declared.frames.Left.TheVariants.{TakeOut}
 use Rattle.dg_outside.specs.declared.outside.Outside.{Outside}
 use Rattle.dg_interp.specs.declared.engine.Engine.{Engine}
 use Rattle.dg_outside.specs.Outside.{row_of, InWorld, MayPick, Closes, picks_in}
-use Rattle.dg_interp.specs.Frames.{values_in, steps_at, whole_of, IsLeft}
-use Rattle.dg_interp.specs.Giving.{SolvesAt, UnifiesAt, GivesAt}
-use Rattle.dg_interp.specs.Gathering.{TakesOutAt}
-use Rattle.dg_interp.specs.Engine.{Point, store_in, steps_of, KeepsPlaces, open_in, IsSound, IsReady, FailsAt, FullAt, BeginsAt, Leads, SameLimits, WentWrong, Tries}
+use Rattle.dg_interp.specs.inside.Frames.{values_in, steps_at, whole_of, IsLeft}
+use Rattle.dg_interp.specs.inside.Giving.{SolvesAt, UnifiesAt, GivesAt}
+use Rattle.dg_interp.specs.inside.Gathering.{TakesOutAt}
+use Rattle.dg_interp.specs.inside.Engine.{Point, store_in, steps_of, KeepsPlaces, open_in, IsSound, IsReady, FailsAt, FullAt, BeginsAt, Leads, SameLimits, WentWrong, Tries}
 use Rattle.dg_unify.proofs.StoreLemmas.{kept_told}
 use Rattle.dg_interp.proofs.Stores.{values_kept, hold_front}
 use Rattle.dg_interp.proofs.Links.{same_here, at_same}

@@ -25,9 +25,9 @@ use Rattle.dg_choose.specs.declared.dice.Dice.{Dice}
 use Rattle.dg_interp.specs.declared.engine.Engine.{Engine}
 use Rattle.dg_outside.specs.Outside.{InWorld}
 use Rattle.dg_terms.specs.Terms.{ThreeMade}
-use Rattle.dg_interp.specs.Frames.{values_in}
-use Rattle.dg_interp.specs.Engine.{store_in, KeepsPlaces, steps_of, There, IsReady, SameLimits, TakesAt, Leads, Then}
-use Rattle.dg_interp.specs.Giving.{GivesAt}
+use Rattle.dg_interp.specs.inside.Frames.{values_in}
+use Rattle.dg_interp.specs.inside.Engine.{store_in, KeepsPlaces, steps_of, There, IsReady, SameLimits, TakesAt, Leads, Then}
+use Rattle.dg_interp.specs.inside.Giving.{GivesAt}
 use Rattle.dg_terms.specs.Throwing.{Throws}
 use Rattle.dg_interp.proofs.Takes.{behind, taken_in, comes_of, adds_taken, store_ready}
 use Rattle.dg_interp.proofs.Giving.{steps_kept, written_agrees}

@@ -25,7 +25,7 @@ use Rattle.dg_meaning.proofs.Keeps.{has_happened}
 use Rattle.dg_built.specs.Built.{AreBuilt}
 use Rattle.dg_built.proofs.BuiltLemmas.{all_none}
 use Rattle.dg_unify.specs.Store.{Store, State, Saved, Kept, Holds, Charged, told, or_nil}
-use Rattle.dg_unify.specs.Engines.{Agrees}
+use Rattle.dg_unify.specs.inside.Engines.{Agrees}
 use Rattle.dg_unify.specs.declared.bindings.Ref.{Ref}
 use Rattle.dg_unify.specs.declared.bindings.Full.{Full}
 use Rattle.dg_unify.specs.declared.bindings.Full.TheVariants as full
@@ -39,13 +39,13 @@ use Rattle.dg_interp.specs.declared.frames.Left.TheVariants.{Things}
 use Rattle.dg_interp.specs.declared.frames.Choice.{Choice}
 use Rattle.dg_interp.specs.declared.engine.Engine.{Engine}
 use Rattle.dg_terms.specs.Terms.{Overflows}
-use Rattle.dg_interp.specs.Querying.{mark_of}
-use Rattle.dg_interp.specs.Frames.{stretch, values_in, mark_steps, steps_behind, branches_of, EndsBy, IsLeft, has_some}
+use Rattle.dg_interp.specs.inside.Querying.{mark_of}
+use Rattle.dg_interp.specs.inside.Frames.{stretch, values_in, mark_steps, steps_behind, branches_of, EndsBy, IsLeft, has_some}
 use Rattle.dg_outside.specs.Finding.{may_find, counted}
-use Rattle.dg_interp.specs.Trying.{trial_branches}
-use Rattle.dg_interp.specs.Giving.{SolvesAt}
-use Rattle.dg_interp.specs.Finding.{made_values, TriesObjectsAt, FindsAt}
-use Rattle.dg_interp.specs.Engine.{Point, store_in, KeepsPlaces, steps_of, HasPlace, IsSound, IsReady, IsPushed, FailsAt, FullAt, BeginsAt, OpensAt, Leads, SameLimits, WentWrong, kept_if, open_in}
+use Rattle.dg_interp.specs.inside.Trying.{trial_branches}
+use Rattle.dg_interp.specs.inside.Giving.{SolvesAt}
+use Rattle.dg_interp.specs.inside.Finding.{made_values, TriesObjectsAt, FindsAt}
+use Rattle.dg_interp.specs.inside.Engine.{Point, store_in, KeepsPlaces, steps_of, HasPlace, IsSound, IsReady, IsPushed, FailsAt, FullAt, BeginsAt, OpensAt, Leads, SameLimits, WentWrong, kept_if, open_in}
 use Rattle.dg_outside.proofs.Finds.{numbers_counted, counted_first, same_copy, behind_simple}
 use Rattle.dg_interp.proofs.Trials.{counted_some, trials_all}
 use Rattle.dg_unify.proofs.StoreLemmas.{kept_same}

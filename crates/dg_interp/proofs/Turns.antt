@@ -30,13 +30,13 @@ use Rattle.dg_interp.specs.declared.frames.Mark.TheVariants.{Nothing}
 use Rattle.dg_interp.specs.declared.frames.Frame.{Frame}
 use Rattle.dg_interp.specs.declared.frames.Choice.{Choice}
 use Rattle.dg_interp.specs.declared.engine.Engine.{Engine}
-use Rattle.dg_interp.specs.Frames.{values_in, frame_steps, steps_behind, steps_at, AreChoices, lives_of, ways_of, StandOn, GoBackTo}
-use Rattle.dg_unify.specs.Engines.{Agrees}
+use Rattle.dg_interp.specs.inside.Frames.{values_in, frame_steps, steps_behind, steps_at, AreChoices, lives_of, ways_of, StandOn, GoBackTo}
+use Rattle.dg_unify.specs.inside.Engines.{Agrees}
 use Rattle.dg_outside.specs.declared.outside.Outside.{Outside}
 use Rattle.dg_meaning.specs.Choosing.{Picks}
 use Rattle.dg_outside.specs.Outside.{picks_in, MayPick, StartsOutside}
 use Rattle.dg_outside.proofs.Picks.{may_fewer}
-use Rattle.dg_interp.specs.Engine.{store_in, limit_in, IsReady, StandsAt, Starts, Taken}
+use Rattle.dg_interp.specs.inside.Engine.{store_in, limit_in, IsReady, StandsAt, Starts, Taken}
 use Rattle.dg_interp.proofs.Links.{behind_end}
 
 -- ## Lists

@@ -10,13 +10,13 @@ use Rattle.dg_meaning.specs.Moves.{path_of}
 use Rattle.dg_meaning.specs.Transcript.{Run}
 use Rattle.dg_meaning.specs.Keeps.{Stands}
 use Rattle.dg_unify.specs.Store.{Saved, Holds, told}
-use Rattle.dg_unify.specs.Engines.{Agrees}
+use Rattle.dg_unify.specs.inside.Engines.{Agrees}
 use Rattle.dg_unify.specs.declared.bindings.Ref.{Ref}
 use Rattle.dg_unify.specs.declared.list.ListBindings.{ListBindings}
 use Rattle.dg_interp.specs.declared.engine.Engine.{Engine}
-use Rattle.dg_interp.specs.Frames.{values_in, steps_at, GoBackTo}
+use Rattle.dg_interp.specs.inside.Frames.{values_in, steps_at, GoBackTo}
 use Rattle.dg_interp.proofs.Places.{inside_kept}
-use Rattle.dg_interp.specs.Engine.{store_in, KeepsPlaces, IsReady, StandsAt, Adds, StaysBut, WrotePrinted, pieces_at}
+use Rattle.dg_interp.specs.inside.Engine.{store_in, KeepsPlaces, IsReady, StandsAt, Adds, StaysBut, WrotePrinted, pieces_at}
 
 module _ (mid : Engine) (store : ListBindings) (same : store_in store ≡ store_in mid.store) (places : (ms : List Saved) → KeepsPlaces mid.store ms → KeepsPlaces store ms) where
   abbrev new : Engine

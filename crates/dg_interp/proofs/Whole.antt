@@ -29,9 +29,9 @@ use Rattle.dg_meaning.specs.Growth.{ending_line}
 use Rattle.dg_outside.specs.declared.lack.Lack.{Lack}
 use Rattle.dg_outside.specs.declared.lack.Lack.TheVariants as lack
 use Rattle.dg_outside.specs.Outside.{LacksAtStart}
-use Rattle.dg_interp.specs.Engine.{limit_in, Starts}
+use Rattle.dg_interp.specs.inside.Engine.{limit_in, Starts}
 use Rattle.dg_base.specs.Streams.{SourceView}
-use Rattle.dg_interp.specs.Running.{limit_of as ending_of_lack, Gave, LeftBehind, Awaits, Stretch, HasText, Reaches, HasEnded, MeetsLimit, IsNoFurther, Ended, HasPart, IsLimited, TakesMore, LosesInput, IsBroken, Broken}
+use Rattle.dg_interp.specs.inside.Running.{limit_of as ending_of_lack, Gave, LeftBehind, Awaits, Stretch, HasText, Reaches, HasEnded, MeetsLimit, IsNoFurther, Ended, HasPart, IsLimited, TakesMore, LosesInput, IsBroken, Broken}
 use Rattle.dg_meaning.specs.Engines.{game, left_told, ForTyped, HasShown, HasLostInput, HasLostOutput, HasLostMemory}
 use Rattle.dg_base.proofs.WrittenLemmas.{wrote_nothing, wrote_on, broke_first, broke_later}
 

@@ -24,19 +24,19 @@ use Rattle.dg_meaning.specs.Transcript.{Run}
 use Rattle.dg_meaning.specs.Keeps.{Went, world_at}
 use Rattle.dg_meaning.proofs.Keeps.{has_happened}
 use Rattle.dg_unify.specs.Store.{Store, State, Saved, Kept, Holds, Made, told, or_nil}
-use Rattle.dg_unify.specs.Engines.{Agrees}
+use Rattle.dg_unify.specs.inside.Engines.{Agrees}
 use Rattle.dg_unify.specs.declared.bindings.Ref.{Ref}
 use Rattle.dg_unify.specs.declared.bindings.Full.{Full}
 use Rattle.dg_unify.specs.declared.bindings.Full.TheVariants as full
 use Rattle.dg_unify.specs.declared.list.ListBindings.{ListBindings}
 use Rattle.dg_interp.specs.declared.engine.Engine.{Engine}
-use Rattle.dg_interp.specs.Frames.{values_in}
+use Rattle.dg_interp.specs.inside.Frames.{values_in}
 use Rattle.dg_terms.specs.Terms.{BothMade}
 use Rattle.dg_texts.specs.Spelling.{TooMany}
-use Rattle.dg_interp.specs.Engine.{store_in, KeepsPlaces, steps_of, IsReady, TakesAt, FailsAt, FullAt, Leads, Branches}
-use Rattle.dg_interp.specs.Giving.{UnifiesAt}
+use Rattle.dg_interp.specs.inside.Engine.{store_in, KeepsPlaces, steps_of, IsReady, TakesAt, FailsAt, FullAt, Leads, Branches}
+use Rattle.dg_interp.specs.inside.Giving.{UnifiesAt}
 use Rattle.dg_meaning.specs.Engines.{game}
-use Rattle.dg_interp.specs.Wording.{words_in, MakesAt, AwaitsInput}
+use Rattle.dg_interp.specs.inside.Wording.{words_in, MakesAt, AwaitsInput}
 use Rattle.dg_meaning.proofs.OneRun.{grows_on, begun_grows}
 use Rattle.dg_interp.proofs.Takes.{store_ready}
 use Rattle.dg_interp.proofs.Places.{adds_nothing}

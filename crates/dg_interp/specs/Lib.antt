@@ -1,12 +1,1 @@
-pub mod Rules
-pub mod Bodies
-pub mod Frames
-pub mod Engine
-pub mod Querying
-pub mod Running
-pub mod Giving
-pub mod Wording
-pub mod Made
-pub mod Gathering
-pub mod Trying
-pub mod Finding
+pub mod inside

@@ -7,7 +7,7 @@ ghost use Rattle.dg_meaning.specs.Substitutions.{walk};
 ghost use Rattle.dg_unify.specs.Store.{Saved, told, Holds, Kept, IsClosureAt};
 ghost use Rattle.dg_unify.specs.declared.bindings.Full.TheVariants.{OutOfMemory as WantOfMemory};
 ghost use Rattle.dg_terms.specs.Terms.{Appended};
-ghost use Rattle.dg_interp.specs.Bodies.{FindsBody, EntersBody, BodyFull};
+ghost use Rattle.dg_interp.specs.inside.Bodies.{FindsBody, EntersBody, BodyFull};
 
 use dg_base::{ClosureBody, CoreProgram};
 use dg_terms::{new_variables, unify_all};

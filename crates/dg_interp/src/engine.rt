@@ -8,12 +8,12 @@ ghost use Rattle.dg_interp.specs.declared.frames.Mark.TheVariants.{Nothing as No
 ghost use Rattle.dg_interp.specs.declared.frames.Left.TheVariants.{Rules, Lists, Ways, Way};
 ghost use Rattle.dg_unify.specs.declared.bindings.Full.TheVariants.{OutOfMemory as WantOfMemory};
 ghost use Rattle.dg_interp.specs.declared.frames.Left.{Left as TheLeft};
-ghost use Rattle.dg_interp.specs.Frames.{IsFrame, BeginsWith, IsOrdinary, cut_of, noting, IsLeft, stays_with, left_in, floor_of, stretch as the_stretch, values_in, EndsBy, cells_if};
-ghost use Rattle.dg_interp.specs.Engine.{Starts, left_by, IsSound, IsReady, StandsAt, FailsAt, TakesAt, BeginsAt, OpensAt, IsPushed, HasPlace, Cuts, Passes, Settles, FrameLeft, GoesToGoal, GoesBack, Retries, Taken, Branches, WentOn, Tries, FullAt, LackAt, store_in, open_in, pieces_at, WrotePrinted, StaysBut, branches_left, KeepsPlaces, kept_if};
+ghost use Rattle.dg_interp.specs.inside.Frames.{IsFrame, BeginsWith, IsOrdinary, cut_of, noting, IsLeft, stays_with, left_in, floor_of, stretch as the_stretch, values_in, EndsBy, cells_if};
+ghost use Rattle.dg_interp.specs.inside.Engine.{Starts, left_by, IsSound, IsReady, StandsAt, FailsAt, TakesAt, BeginsAt, OpensAt, IsPushed, HasPlace, Cuts, Passes, Settles, FrameLeft, GoesToGoal, GoesBack, Retries, Taken, Branches, WentOn, Tries, FullAt, LackAt, store_in, open_in, pieces_at, WrotePrinted, StaysBut, branches_left, KeepsPlaces, kept_if};
 ghost use Rattle.dg_base.specs.declared.program.CoreProgram.{CoreProgram as Program};
 ghost use Rattle.dg_base.specs.declared.run.Limits.{Limits as TheLimits};
 ghost use Rattle.dg_meaning.specs.Cells.{cells};
-ghost use Rattle.dg_interp.specs.Rules.{EntersRule, RuleFull, ArgsWritten};
+ghost use Rattle.dg_interp.specs.inside.Rules.{EntersRule, RuleFull, ArgsWritten};
 ghost use Rattle.dg_terms.specs.Terms.{Overflows};
 ghost use Rattle.dg_outside.specs.Outside.{StartsOutside};
 ghost use Rattle.dg_terms.specs.Passing.{IsFirst, IsCandidate};

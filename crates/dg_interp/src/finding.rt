@@ -11,7 +11,7 @@ ghost use Rattle.dg_lists.specs.Formed.{IsFormed};
 ghost use Rattle.dg_lists.specs.Reading.{Copied, Stopped};
 ghost use Rattle.dg_world.specs.Tables.{Outline, simple_value};
 ghost use Rattle.dg_world.specs.Worlds.{StandsFor};
-ghost use Rattle.dg_interp.specs.Engine.{KeepsPlaces, store_in};
+ghost use Rattle.dg_interp.specs.inside.Engine.{KeepsPlaces, store_in};
 
 use dg_base::{Cell, CoreProgram, PlaceKind, Simple};
 use dg_lists::from_cells;

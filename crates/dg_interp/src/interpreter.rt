@@ -4,7 +4,7 @@ ghost use Rattle.dg_base.specs.Causes.{Rose};
 ghost use Rattle.dg_meaning.specs.Transcript.{line_of};
 ghost use Rattle.dg_meaning.specs.Shows.{IsLeft};
 ghost use Rattle.dg_base.specs.Sound.{IsSound};
-ghost use Rattle.dg_interp.specs.Engine.{Starts};
+ghost use Rattle.dg_interp.specs.inside.Engine.{Starts};
 ghost use Rattle.dg_outside.specs.Outside.{LacksAtStart};
 ghost use Rattle.dg_meaning.specs.Engines.{game, left_told, ForTyped, HasShown, HasBrokenOff};
 

@@ -4,10 +4,10 @@ ghost use Rattle.dg_base.specs.declared.program.Goal.TheVariants.{GapN as GapNGo
 ghost use Rattle.dg_base.specs.declared.program.Term.{Term};
 ghost use Rattle.dg_base.specs.Streams.{SourceView};
 ghost use Rattle.dg_interp.specs.declared.engine.Engine.{Engine as TheEngine};
-ghost use Rattle.dg_interp.specs.Engine.{IsReady, Taken, store_in};
-ghost use Rattle.dg_interp.specs.Wording.{AwaitsInput};
+ghost use Rattle.dg_interp.specs.inside.Engine.{IsReady, Taken, store_in};
+ghost use Rattle.dg_interp.specs.inside.Wording.{AwaitsInput};
 ghost use Rattle.dg_unify.specs.Store.{Holds};
-ghost use Rattle.dg_interp.specs.Running.{Broken, Ended, DoesGoal, Does, limit_of, outcome_of};
+ghost use Rattle.dg_interp.specs.inside.Running.{Broken, Ended, DoesGoal, Does, limit_of, outcome_of};
 ghost use Rattle.dg_meaning.specs.World.{GapOf};
 ghost use Rattle.dg_spacing.specs.Gaps.{print_of};
 

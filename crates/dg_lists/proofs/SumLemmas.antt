@@ -11,7 +11,7 @@ use Rattle.dg_meaning.specs.Values.{Num, Word, Unknown, Object, Nil, Pair, Closu
 use Rattle.dg_meaning.specs.ValueCells.{cells_of}
 use Rattle.dg_meaning.specs.Numbers.{in_range, plus, sum_of, total}
 use Rattle.dg_lists.specs.Formed.{IsFormed}
-use Rattle.dg_lists.specs.Summing.{sum_in, total_from}
+use Rattle.dg_lists.specs.inside.Summing.{sum_in, total_from}
 
 more : (s n : ℕ) (o : Option ℕ) → option_and_then in_range (plus s (plus n o)) ≡ option_and_then in_range (plus (s + n) o)
 more s n None = refl

@@ -2,4 +2,4 @@ pub mod Gathered
 pub mod Formed
 pub mod Reading
 pub mod Writing
-pub mod Summing
+pub mod inside

@@ -52,7 +52,7 @@ use Rattle.dg_machine.specs.declared.tables.Tables.{Tables}
 use Rattle.dg_machine.specs.Layout.{Holds, Lacks}
 use Rattle.dg_machine.specs.Refs.{RefsAt, Keeps}
 use Rattle.dg_machine.specs.Standing.{CodeIs, Stands, Around}
-use Rattle.dg_machine.specs.Writing.{Overflows, SpareFits}
+use Rattle.dg_machine.specs.inside.Writing.{Overflows, SpareFits}
 use Rattle.dg_machine.proofs.Opens.{on_arena, registers_held, registers_roomy, roomy, roomy_on}
 use Rattle.dg_machine.proofs.Unifying.{done_unifies}
 

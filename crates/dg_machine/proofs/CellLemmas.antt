@@ -14,7 +14,7 @@ use Rattle.dg_unify.specs.Store.{Store}
 use Rattle.dg_unify.specs.declared.bindings.Ref.{Ref}
 use Rattle.dg_unify.specs.declared.bindings.Full.{Full}
 use Rattle.dg_unify.specs.declared.bindings.Full.TheVariants as full
-use Rattle.dg_machine.specs.Writing.{Overflows, SpareFits}
+use Rattle.dg_machine.specs.inside.Writing.{Overflows, SpareFits}
 use Rattle.dg_machine.proofs.Opens.{grows_not}
 
 -- ## How many cells a value has

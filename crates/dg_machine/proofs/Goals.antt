@@ -55,8 +55,8 @@ use Rattle.dg_machine.specs.Tables.{IsOf}
 use Rattle.dg_machine.specs.Built.{OpBuilt, OpsBuilt, IsBuilt, IsQuiet, IsQuietOp}
 use Rattle.dg_machine.specs.Layout.{HasRoom, HasPut, Holds, Roomy}
 use Rattle.dg_machine.specs.Standing.{CodeIs, Stands, Falls, DoesOp, DoesMark, Asks, AsksLast, EntersRule, IsThere, GoesOn, KeepsOne, FailsTo, LeavesAround, HasStatus, Around, HasOutside, StandsWith}
-use Rattle.dg_machine.specs.Reading.{ReadsNone}
-use Rattle.dg_machine.specs.Running.{rests, DoesMarks, HasText, GoalDone, GoalLost}
+use Rattle.dg_machine.specs.inside.Reading.{ReadsNone}
+use Rattle.dg_machine.specs.inside.Running.{rests, DoesMarks, HasText, GoalDone, GoalLost}
 use Rattle.std.proofs.Common.{map}
 use Rattle.dg_base.specs.declared.program.CoreProgram.{CoreProgram}
 use Rattle.dg_meaning.specs.Values.{value_of}

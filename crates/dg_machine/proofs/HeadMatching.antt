@@ -23,7 +23,7 @@ use Rattle.dg_unify.proofs.Goings.{broke_later}
 use Rattle.dg_arena.specs.declared.arena.Arena.{Arena}
 use Rattle.dg_arena.specs.Held.{meaning_of}
 use Rattle.dg_machine.specs.Refs.{Keeps, Stays, RefsAt, AreRefs}
-use Rattle.dg_machine.specs.Writing.{cells_of}
+use Rattle.dg_machine.specs.inside.Writing.{cells_of}
 use Rattle.dg_machine.specs.Built.{IsPlain}
 use Rattle.dg_machine.specs.Heads.{IsFlat, AreFlat, flat_in, flat_cells, at_heap}
 use Rattle.dg_machine.proofs.PathLemmas.{cells_pair, value_pair}

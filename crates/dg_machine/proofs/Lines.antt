@@ -52,9 +52,9 @@ use Rattle.dg_machine.specs.declared.now.Now.TheVariants.{Runs, Enters, Resumes,
 use Rattle.dg_machine.specs.declared.tables.Tables.{Tables}
 use Rattle.dg_machine.specs.Built.{OpsBuilt}
 use Rattle.dg_machine.specs.Layout.{Holds, HasPut, Lacks, Roomy}
-use Rattle.dg_machine.specs.Reading.{LeftBehind, Gave, line_behind}
+use Rattle.dg_machine.specs.inside.Reading.{LeftBehind, Gave, line_behind}
 use Rattle.dg_machine.specs.Refs.{RefsAt}
-use Rattle.dg_machine.specs.Running.{HasText, GoalDone, ReadsGoal, LosesLine, LosesText, BreaksGoal}
+use Rattle.dg_machine.specs.inside.Running.{HasText, GoalDone, ReadsGoal, LosesLine, LosesText, BreaksGoal}
 use Rattle.dg_machine.specs.Standing.{CodeIs, Stands, Around, HasOutside}
 use Rattle.dg_machine.specs.Tables.{IsOf}
 use Rattle.dg_machine.specs.Wording.{Gives}

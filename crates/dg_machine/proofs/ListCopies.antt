@@ -14,7 +14,7 @@ use Rattle.dg_arena.specs.declared.arena.Arena.{Arena}
 use Rattle.dg_arena.specs.Held.{meaning_of}
 use Rattle.dg_lists.specs.Formed.{IsFormed, AreFormed}
 use Rattle.dg_lists.specs.Reading.{Stopped, Copied, ListCopied}
-use Rattle.dg_machine.specs.Writing.{Overflows}
+use Rattle.dg_machine.specs.inside.Writing.{Overflows}
 use Rattle.dg_machine.proofs.CellLemmas.{few_cells, stopped_over}
 
 -- ## Values as parts

@@ -14,7 +14,7 @@ use Rattle.dg_unify.specs.Store.{Store, Kept}
 use Rattle.dg_unify.specs.declared.bindings.Ref.{Ref}
 use Rattle.dg_machine.specs.declared.now.Side.{Side}
 use Rattle.dg_machine.specs.declared.now.Side.TheVariants.{Head, Tail}
-use Rattle.dg_machine.specs.Writing.{part_in, part_of, reached, IsHead, IsGone, AreGone, left_in, left_around, cells_of, nodes_of, cells_around}
+use Rattle.dg_machine.specs.inside.Writing.{part_in, part_of, reached, IsHead, IsGone, AreGone, left_in, left_around, cells_of, nodes_of, cells_around}
 
 -- ## Pairs
 

@@ -24,7 +24,7 @@ use Rattle.dg_texts.proofs.Texts.{all_prints, text_grows, text_breaks}
 use Rattle.dg_spacing.specs.Spacer.{StandsFor}
 use Rattle.dg_machine.specs.declared.memory.Memory.{Memory}
 use Rattle.dg_machine.specs.Layout.{Holds, Lacks}
-use Rattle.dg_machine.specs.Running.{HasText}
+use Rattle.dg_machine.specs.inside.Running.{HasText}
 use Rattle.dg_machine.proofs.Opens.{fits}
 use Rattle.dg_machine.proofs.Leads.{charged_on, charged_off}
 use Rattle.dg_machine.proofs.Outsides.{all_outside}

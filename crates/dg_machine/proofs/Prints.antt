@@ -18,7 +18,7 @@ use Rattle.dg_machine.specs.declared.memory.Memory.{Memory}
 use Rattle.dg_machine.specs.Built.{OpsBuilt}
 use Rattle.dg_machine.specs.Layout.{Holds}
 use Rattle.dg_machine.specs.Standing.{CodeIs, Stands, Around, HasOutside}
-use Rattle.dg_machine.specs.Running.{HasText, GoalDone, GoalLost}
+use Rattle.dg_machine.specs.inside.Running.{HasText, GoalDone, GoalLost}
 
 said_runs : (ps : List Print) (m : Mid) → said_to ps (RunsOf m) ≡ ps
 said_runs [] m = refl

@@ -11,7 +11,7 @@ use Rattle.dg_mid.specs.Step.{more}
 use Rattle.dg_machine.specs.declared.memory.Memory.{Memory}
 use Rattle.dg_machine.specs.Built.{most_args}
 use Rattle.dg_machine.specs.Refs.{Keeps, Puts}
-use Rattle.dg_machine.specs.Writing.{Overflows}
+use Rattle.dg_machine.specs.inside.Writing.{Overflows}
 use Rattle.dg_machine.specs.declared.now.Row.{Row}
 use Rattle.dg_machine.specs.Layout.{Holds, HasRoom, Lacks, HasPut, HasHeads, MadeRule, MadeHead, made_state}
 use Rattle.dg_machine.proofs.Kept.{row_kept}

@@ -19,8 +19,8 @@ use Rattle.dg_spacing.specs.declared.spacer.Spacer.{Spacer}
 use Rattle.dg_machine.specs.declared.now.Now.{Now}
 use Rattle.dg_machine.specs.declared.memory.Memory.{Memory}
 use Rattle.dg_machine.specs.declared.tables.Tables.{Tables}
-use Rattle.dg_machine.specs.Reading.{IsEnd, LeftBehind, Gave, ReadsNone, NoLine}
-use Rattle.dg_machine.specs.Running.{DoesGoal, ReadsGoal}
+use Rattle.dg_machine.specs.inside.Reading.{IsEnd, LeftBehind, Gave, ReadsNone, NoLine}
+use Rattle.dg_machine.specs.inside.Running.{DoesGoal, ReadsGoal}
 
 -- ## Steps that read nothing
 

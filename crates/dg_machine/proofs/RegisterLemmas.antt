@@ -14,7 +14,7 @@ use Rattle.dg_unify.specs.Store.{Store, Kept, Made}
 use Rattle.dg_unify.specs.declared.bindings.Ref.{Ref}
 use Rattle.dg_unify.specs.declared.bindings.Full.{Full}
 use Rattle.dg_machine.specs.Refs.{RefsAt, Puts}
-use Rattle.dg_machine.specs.Writing.{Overflows, SpareFits}
+use Rattle.dg_machine.specs.inside.Writing.{Overflows, SpareFits}
 use Rattle.dg_machine.proofs.Kept.{refs_kept}
 use Rattle.dg_machine.proofs.TermLemmas.{refs_end}
 use Rattle.dg_machine.proofs.WriteSteps.{charged_none, charged_both, overflows_behind}

@@ -48,8 +48,8 @@ use Rattle.dg_machine.proofs.Seeks.{all_seek}
 use Rattle.dg_machine.specs.Built.{IsBuilt}
 use Rattle.dg_machine.specs.declared.tables.Tables.{Tables}
 use Rattle.dg_machine.specs.Tables.{IsOf}
-use Rattle.dg_machine.specs.Running.{rests, MarkDone, DoesMarks, ReadsGoal, LosesText, LosesLine, HasText, HasSettled, Settles, IsAt, IsLost, IsUnread, EndsSo, HasEnded, IsLostWithin, IsUnreadWithin}
-use Rattle.dg_machine.specs.Reading.{LeftBehind}
+use Rattle.dg_machine.specs.inside.Running.{rests, MarkDone, DoesMarks, ReadsGoal, LosesText, LosesLine, HasText, HasSettled, Settles, IsAt, IsLost, IsUnread, EndsSo, HasEnded, IsLostWithin, IsUnreadWithin}
+use Rattle.dg_machine.specs.inside.Reading.{LeftBehind}
 use Rattle.dg_machine.proofs.Readings.{mark_leaves}
 use Rattle.dg_meaning.specs.Engines.{HasShown, HasLostInput, HasLostOutput}
 use Rattle.dg_meaning.proofs.Engines.{may_write}

@@ -29,7 +29,7 @@ use Rattle.dg_machine.specs.Stops.{StopIs, Among}
 use Rattle.dg_machine.proofs.StopLemmas.{none_open}
 use Rattle.dg_machine.specs.Layout.{Roomy, HoldsWith, limit_in, at_rest}
 use Rattle.dg_meaning.specs.Engines.{game}
-use Rattle.dg_machine.specs.Running.{HasText, IsAt, IsSomewhereAt, Finishes, BreaksRun}
+use Rattle.dg_machine.specs.inside.Running.{HasText, IsAt, IsSomewhereAt, Finishes, BreaksRun}
 
 -- what was emptied has its room
 pub record Emptied (r new : Memory) : Type 0 where

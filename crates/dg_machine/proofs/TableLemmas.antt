@@ -22,7 +22,7 @@ use Rattle.dg_machine.specs.declared.tables.Tables.{Tables}
 use Rattle.dg_machine.specs.Built.{IsPlain, IsNoPair}
 use Rattle.dg_machine.specs.Refs.{RefsAt}
 use Rattle.dg_machine.specs.Tables.{IsOf, items_in, captured_at}
-use Rattle.dg_machine.specs.Writing.{cells_of}
+use Rattle.dg_machine.specs.inside.Writing.{cells_of}
 use Rattle.dg_machine.proofs.Kept.{refs_kept}
 use Rattle.dg_machine.proofs.TermLemmas.{refs_end}
 

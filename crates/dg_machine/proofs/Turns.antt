@@ -29,8 +29,8 @@ use Rattle.dg_machine.specs.Standing.{Stands, HasOutside}
 use Rattle.dg_outside.specs.declared.outside.Outside.{Outside}
 use Rattle.dg_machine.specs.declared.tables.Tables.{Tables}
 use Rattle.dg_machine.specs.Tables.{IsOf}
-use Rattle.dg_machine.specs.Running.{rests, HasText, DoesMarks, ReadsGoal, Settles, Takes, IsAt, IsLost, IsUnread, IsSomewhere, IsSomewhereWith, IsSomewhereLeft, IsSomewhereAt, IsSomewhereStill, HasEnded, Finishes, IsLostWithin, IsUnreadWithin, BreaksGoal, BreaksTurn, BreaksRun}
-use Rattle.dg_machine.specs.Reading.{IsEnd, LeftBehind}
+use Rattle.dg_machine.specs.inside.Running.{rests, HasText, DoesMarks, ReadsGoal, Settles, Takes, IsAt, IsLost, IsUnread, IsSomewhere, IsSomewhereWith, IsSomewhereLeft, IsSomewhereAt, IsSomewhereStill, HasEnded, Finishes, IsLostWithin, IsUnreadWithin, BreaksGoal, BreaksTurn, BreaksRun}
+use Rattle.dg_machine.specs.inside.Reading.{IsEnd, LeftBehind}
 use Rattle.dg_machine.proofs.Opens.{roomy}
 use Rattle.dg_machine.proofs.Readings.{gave_nothing, gave_on, some_behind, left_still}
 use Rattle.dg_machine.proofs.Runs.{goal_at, one_mark, typed_at, took_goal, lost_goal, unread_goal}

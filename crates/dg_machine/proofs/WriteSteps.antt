@@ -16,7 +16,7 @@ use Rattle.dg_arena.specs.Held.{meaning_of}
 use Rattle.dg_machine.specs.declared.now.Side.{Side}
 use Rattle.dg_machine.specs.declared.now.Side.TheVariants.{Head, Tail}
 use Rattle.dg_machine.specs.Built.{IsPlain}
-use Rattle.dg_machine.specs.Writing.{part_of, reached, IsHead, AreGone, IsAtPart, cells_of, nodes_of, cells_around, cells_left, nodes_around, nodes_left, Overflows, Descends, HeadMade}
+use Rattle.dg_machine.specs.inside.Writing.{part_of, reached, IsHead, AreGone, IsAtPart, cells_of, nodes_of, cells_around, cells_left, nodes_around, nodes_left, Overflows, Descends, HeadMade}
 use Rattle.dg_machine.proofs.Opens.{heap_full}
 use Rattle.dg_machine.proofs.TermLemmas.{plain_nodes}
 use Rattle.dg_machine.proofs.PathLemmas.{cells_pair, value_pair, nodes_pair, some_node, head_part, tail_part, head_left, tail_left, reached_push, left_push, gone_push, gone_pop, least_left, gone_kept}

@@ -1,7 +1,6 @@
 pub mod Links
 pub mod Refs
 pub mod Tables
-pub mod Writing
 pub mod Passing
 pub mod Stops
 pub mod Heads
@@ -11,7 +10,6 @@ pub mod Seeking
 pub mod Measure
 pub mod Standing
 pub mod Wording
-pub mod Reading
 pub mod Finding
-pub mod Running
 pub mod Program
+pub mod inside

@@ -10,7 +10,7 @@ ghost use Rattle.dg_arena.specs.Held.{meaning_of};
 ghost use Rattle.dg_machine.specs.Built.{IsNoPair};
 ghost use Rattle.dg_machine.specs.Refs.{RowAt, RefsAt, Keeps, Stays};
 ghost use Rattle.dg_machine.specs.Tables.{IsOf};
-ghost use Rattle.dg_machine.specs.Writing.{cells_of, Overflows, SpareFits};
+ghost use Rattle.dg_machine.specs.inside.Writing.{cells_of, Overflows, SpareFits};
 
 use crate::now::Row;
 use crate::tables::Tables;

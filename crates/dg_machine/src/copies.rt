@@ -9,7 +9,7 @@ ghost use Rattle.dg_meaning.specs.ValueCells.{cells_of};
 ghost use Rattle.dg_meaning.specs.Values.{Value};
 ghost use Rattle.dg_unify.specs.Store.{Holds};
 ghost use Rattle.dg_machine.specs.Refs.{Keeps};
-ghost use Rattle.dg_machine.specs.Writing.{Overflows, SpareFits};
+ghost use Rattle.dg_machine.specs.inside.Writing.{Overflows, SpareFits};
 
 use dg_arena::Arena;
 use dg_base::Cell;

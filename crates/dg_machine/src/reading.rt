@@ -13,8 +13,8 @@ ghost use Rattle.dg_mid.specs.Step.{followed};
 ghost use Rattle.dg_outside.specs.declared.outside.Outside.{Outside};
 ghost use Rattle.dg_machine.specs.Built.{OpsBuilt};
 ghost use Rattle.dg_machine.specs.Layout.{Holds, Roomy};
-ghost use Rattle.dg_machine.specs.Reading.{ReadsNone, line_behind};
-ghost use Rattle.dg_machine.specs.Running.{HasText, ReadsGoal, BreaksGoal};
+ghost use Rattle.dg_machine.specs.inside.Reading.{ReadsNone, line_behind};
+ghost use Rattle.dg_machine.specs.inside.Running.{HasText, ReadsGoal, BreaksGoal};
 
 use crate::memory::Memory;
 use crate::now::Now;

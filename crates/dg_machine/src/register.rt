@@ -7,7 +7,7 @@ ghost use Rattle.dg_unify.specs.Store.{Made};
 ghost use Rattle.dg_arena.specs.Held.{meaning_of};
 ghost use Rattle.dg_machine.specs.Tables.{IsOf};
 ghost use Rattle.dg_machine.specs.Refs.{RowAt, RefsAt, Keeps, Puts};
-ghost use Rattle.dg_machine.specs.Writing.{Overflows, SpareFits};
+ghost use Rattle.dg_machine.specs.inside.Writing.{Overflows, SpareFits};
 
 use crate::closures::leaf_value;
 use crate::now::{Row, Side};

@@ -16,9 +16,9 @@ ghost use Rattle.dg_outside.specs.declared.outside.Outside.{Outside as TheOutsid
 ghost use Rattle.dg_outside.specs.Outside.{MayPick, picks_in};
 ghost use Rattle.dg_machine.specs.Layout.{HasRoom, Holds, Roomy};
 ghost use Rattle.dg_machine.specs.Standing.{DoesOp, DoesMark, HasStatus, PicksOnce};
-ghost use Rattle.dg_machine.specs.Reading.{IsEnd, ReadsNone, NoLine};
-ghost use Rattle.dg_machine.specs.Running.{rests, DoesMarks, DoesGoal, LosesGoal, ReadsGoal, BreaksGoal, Settles, Takes, BreaksTurn, Finishes, BreaksRun};
-ghost use Rattle.dg_machine.specs.Running.{IsSomewhereWith, IsSomewhereAt, IsSomewhereStill};
+ghost use Rattle.dg_machine.specs.inside.Reading.{IsEnd, ReadsNone, NoLine};
+ghost use Rattle.dg_machine.specs.inside.Running.{rests, DoesMarks, DoesGoal, LosesGoal, ReadsGoal, BreaksGoal, Settles, Takes, BreaksTurn, Finishes, BreaksRun};
+ghost use Rattle.dg_machine.specs.inside.Running.{IsSomewhereWith, IsSomewhereAt, IsSomewhereStill};
 
 use crate::doing::code_at;
 use crate::memory::Memory;

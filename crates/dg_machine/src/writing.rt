@@ -9,7 +9,7 @@ ghost use Rattle.dg_arena.specs.Held.{meaning_of};
 ghost use Rattle.dg_machine.specs.Built.{IsNoPair};
 ghost use Rattle.dg_machine.specs.Tables.{IsOf};
 ghost use Rattle.dg_machine.specs.Refs.{RowAt, Keeps};
-ghost use Rattle.dg_machine.specs.Writing.{part_of, reached, AreGone, IsAtPart, cells_left, cells_around, Descends, Closes, Overflows, SpareFits};
+ghost use Rattle.dg_machine.specs.inside.Writing.{part_of, reached, AreGone, IsAtPart, cells_left, cells_around, Descends, Closes, Overflows, SpareFits};
 
 use crate::closures::leaf_value;
 use crate::now::{Row, Side};

@@ -27,7 +27,7 @@ use Rattle.dg_mid.proofs.Whole.{is_at}
 use Rattle.dg_base.specs.declared.program.CoreProgram.{CoreProgram}
 use Rattle.dg_mid.specs.Code.{block_at}
 use Rattle.dg_mid.specs.Potential.{MidFine, StatusFine, pending}
-use Rattle.dg_mid.specs.Shapes.{RulesFit, MayBody, ShapedAt, head_of, Active, StatusShaped}
+use Rattle.dg_mid.specs.inside.Shapes.{RulesFit, MayBody, ShapedAt, head_of, Active, StatusShaped}
 use Rattle.dg_mid.proofs.Law.{due_most, Unwinds, MayStop, StatusMayStop, pays}
 use Rattle.dg_mid.proofs.Shapes.{found, unwinds}
 use Rattle.dg_mid.proofs.Shaped.{shaped}

@@ -28,7 +28,7 @@ use Rattle.dg_mid.specs.State.{Place, Frame, Call, Target, ToPred, ToBody, Find,
 use Rattle.dg_mid.specs.Step.{Setting, parameter, body_frame, body_equations, enters_body, calls, body_of, closure_at, queries, queries_last, asked_by, values, does, seeks, trying, tries, done, made_in, gathers, taken_out, step, runs, charged, more, unified, bound, trail_more, if_agreed, if_passed, inside, passed, within, new_choice, enters, begins, asks, asks_last, last, first_of, returned, returns, commits, refuses, leaves, keeps, new_frame, new_stop, enter, entered, resumed, goes_on, goes_back, at_rule, call_of, shielded, gathering, stops, stops_at, keeps_value, takes, with_gathering, newest_with, takes_newest}
 use Rattle.dg_mid.specs.Codes.{End, Returns, Commits, Refuses, Backs, Leaves, Keeps, Stands, Others, last_list, more_lists, jumps, returns as stands_returns, commits as stands_commits, refuses as stands_refuses, backs, leaves as stands_leaves, keeps as stands_keeps, shields, collects, accumulates, finishes, acts, ask, last_ask, query, last_query, holds, objects, found_goals, found_end, only, either, selects, once, negates, branch, exhausts, forever}
 use Rattle.dg_mid.specs.Potential.{one_from, cut_from, pending, ChoicesFine, MidFine, StatusFine}
-use Rattle.dg_mid.specs.Shapes.{StopOlder, head_of, Fits, FitsCode, BlockFits, plain, retry, FramesFit, StopCovers, ActiveAt, Active, AllTrails, RuleFits, RulesFit, BodyFits, MayBody, TargetFits, CallFits, GoesFit, TriesFit, WayFits, ChoicesShaped, MidShaped, ShapedAt, RunShaped, StatusShaped, TakesFit}
+use Rattle.dg_mid.specs.inside.Shapes.{StopOlder, head_of, Fits, FitsCode, BlockFits, plain, retry, FramesFit, StopCovers, ActiveAt, Active, AllTrails, RuleFits, RulesFit, BodyFits, MayBody, TargetFits, CallFits, GoesFit, TriesFit, WayFits, ChoicesShaped, MidShaped, ShapedAt, RunShaped, StatusShaped, TakesFit}
 use Rattle.dg_mid.proofs.Pending.{one_falls, cut_falls}
 use Rattle.dg_mid.proofs.Backs.{goes_plainly}
 use Rattle.dg_mid.proofs.Chosen.{branch_stands}

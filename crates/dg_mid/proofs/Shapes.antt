@@ -5,7 +5,7 @@ use Rattle.std.proofs.lemmas.Bool.{cond_both, ltb-true, ltb-false, eqb-true, ne_
 use Rattle.dg_mid.specs.declared.code.Code.{Code}
 use Rattle.dg_mid.specs.State.{Place, Stop, Choice, Mid, cut_choices, stop_to}
 use Rattle.dg_mid.specs.Potential.{one_from, pending, Lower, ChoicesFine}
-use Rattle.dg_mid.specs.Shapes.{StopOlder, head_of, StopCovers, StopFine, ActiveAt, Active, StopsBelow, AllTrails, StopsTrail, ChoicesShaped}
+use Rattle.dg_mid.specs.inside.Shapes.{StopOlder, head_of, StopCovers, StopFine, ActiveAt, Active, StopsBelow, AllTrails, StopsTrail, ChoicesShaped}
 use Rattle.dg_mid.proofs.Pending.{one_there, pending_falls, Fewer, choices_fewer, cut_fine}
 use Rattle.dg_mid.proofs.Law.{Unwinds}
 

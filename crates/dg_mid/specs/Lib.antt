@@ -10,9 +10,8 @@ pub mod Runs
 pub mod Heights
 pub mod Falling
 pub mod Potential
-pub mod Shapes
 pub mod Laws
 pub mod Tidying
 pub mod Writing
-pub mod Copying
 pub mod Weights
+pub mod inside

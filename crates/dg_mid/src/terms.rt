@@ -1,6 +1,6 @@
 // Copies of terms.
 ghost use Rattle.std.specs.Prelude.{◌≡◌, ◌++◌, ◌∷◌, [], IfOk, OnOk, reverse};
-ghost use Rattle.dg_mid.specs.Copying.{behind_work, behind_all, last_term};
+ghost use Rattle.dg_mid.specs.inside.Copying.{behind_work, behind_all, last_term};
 ghost use Rattle.dg_mid.specs.declared.terms.CopyWork.TheVariants as work;
 
 use dg_base::{Boxed, Items, Term};

@@ -7,7 +7,7 @@ use Rattle.dg_meaning.specs.Numbers.{are_in_order}
 use Rattle.dg_unify.specs.Store.{Store, Shows}
 use Rattle.dg_unify.specs.declared.bindings.View.{View}
 use Rattle.dg_unify.specs.declared.bindings.View.TheVariants as view
-use Rattle.dg_terms.specs.Comparing.{order_of}
+use Rattle.dg_terms.specs.inside.Comparing.{order_of}
 
 order_with : (op : CompareOp) (s : Store) (m : ℕ) (u : Value) (second : View) → Shows s u second → order_of op (view.Simple (simple.Num m)) second ≡ are_in_order op (leaf (Num m)) u
 order_with op s m u (view.Unbound r) h = ap (are_in_order op (leaf (Num m))) (sym h.is)

@@ -1,4 +1,4 @@
 pub mod Terms
 pub mod Passing
-pub mod Comparing
 pub mod Throwing
+pub mod inside

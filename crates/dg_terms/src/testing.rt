@@ -6,7 +6,7 @@ ghost use Rattle.dg_meaning.specs.TypeTests.{top_passes, passes};
 ghost use Rattle.dg_meaning.specs.Numbers.{are_in_order};
 ghost use Rattle.dg_meaning.specs.Substitutions.{walk};
 ghost use Rattle.dg_unify.specs.Store.{Saved, told, Holds, Shows};
-ghost use Rattle.dg_terms.specs.Comparing.{order_of};
+ghost use Rattle.dg_terms.specs.inside.Comparing.{order_of};
 
 use dg_base::{CompareOp, Simple, TestKind};
 use dg_unify::{Bindings, Ref, View, is_open};

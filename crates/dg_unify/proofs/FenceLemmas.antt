@@ -9,7 +9,7 @@ use Rattle.dg_meaning.specs.Unify.{top, tops}
 use Rattle.dg_meaning.proofs.Walks.{or_false, replaced_absent}
 use Rattle.dg_unify.specs.Store.{Store, Saved, or_nil, IsTold}
 use Rattle.dg_unify.specs.Slots.{pair_told, captured_slot, captured_in, letters_in, closure_told, word_told, slot_value, label_at, value_at, value_in, subst_of, AreTold, Begins, is_marked, is_constant, Fits, Fields, AreSound, fields_at, Stand}
-use Rattle.dg_unify.specs.Ends.{TellsOf, told_in}
+use Rattle.dg_unify.specs.inside.Ends.{TellsOf, told_in}
 use Rattle.dg_unify.specs.Fences.{AreClosed, top_of_bound, IsFenced, stands_between, fence_for_new, fence_for_link}
 use Rattle.dg_unify.specs.declared.bindings.Ref.{Ref}
 use Rattle.dg_unify.specs.declared.bindings.Mark.{Mark}

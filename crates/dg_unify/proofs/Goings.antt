@@ -9,7 +9,7 @@ use Rattle.dg_meaning.proofs.Solving.{solve_extends}
 use Rattle.dg_meaning.proofs.UnifyLaws.{solve_none, solve_step, solve_first}
 use Rattle.dg_unify.specs.Store.{State, Store, told, Holds, Kept, trail_of, OnlyBinds, Does, UnifyFull, BrokeOff, Follows}
 use Rattle.dg_unify.specs.Parts.{values_of, AreIn, IsSplit}
-use Rattle.dg_unify.specs.Turns.{AreLeft, Stays, IsFirst}
+use Rattle.dg_unify.specs.inside.Turns.{AreLeft, Stays, IsFirst}
 use Rattle.dg_unify.specs.Waits.{with_parts}
 use Rattle.dg_unify.specs.declared.bindings.Ref.{Ref}
 use Rattle.dg_unify.specs.declared.bindings.Full.{Full}

@@ -12,8 +12,8 @@ use Rattle.dg_meaning.proofs.UnifyLaws.{resolved_later}
 use Rattle.dg_meaning.proofs.Unifiers.{makes_equal}
 use Rattle.dg_meaning.proofs.EqualValues.{equal_values}
 use Rattle.dg_unify.specs.Store.{Store, told, Holds, Kept, Does}
-use Rattle.dg_unify.specs.Turns.{TurnsInto, AreLeft}
-use Rattle.dg_unify.specs.Known.{IsEqual, is_equal_pair, AreEqual}
+use Rattle.dg_unify.specs.inside.Turns.{TurnsInto, AreLeft}
+use Rattle.dg_unify.specs.inside.Known.{IsEqual, is_equal_pair, AreEqual}
 use Rattle.dg_unify.specs.declared.bindings.Ref.{Ref}
 use Rattle.dg_unify.specs.declared.known.Known.{Known}
 use Rattle.dg_unify.specs.declared.parts.Parts.{Parts}

@@ -9,7 +9,7 @@ use Rattle.dg_meaning.proofs.Walks.{resolved_unbound, walked}
 use Rattle.dg_meaning.proofs.LookUps.{walk_free}
 use Rattle.dg_meaning.proofs.UnifyLaws.{solve_none, solve_step}
 use Rattle.dg_unify.specs.Store.{State, Store, told, Holds, ShowsVar, MayBind, Bound, TrailFull, trail_for, OnlyBinds, Does, UnifyFull}
-use Rattle.dg_unify.specs.Turns.{IsUnbound, FollowsTurn, TurnsInto, met_of, Compares}
+use Rattle.dg_unify.specs.inside.Turns.{IsUnbound, FollowsTurn, TurnsInto, met_of, Compares}
 use Rattle.dg_unify.specs.declared.bindings.Ref.{Ref}
 use Rattle.dg_unify.specs.declared.bindings.Full.{Full}
 use Rattle.dg_unify.specs.declared.bindings.Full.TheVariants as full

@@ -10,7 +10,7 @@ use Rattle.dg_meaning.proofs.LookUps.{walk_node, walk_free}
 use Rattle.dg_unify.specs.Store.{or_nil, IsTold, count_of, part_at, IsPart, IsClosureAt, IsUnknownAt, ShowsVar, ShowsPair, ShowsClosure, ShowsUnknown}
 use Rattle.dg_unify.specs.Links.{to_of}
 use Rattle.dg_unify.specs.Slots.{pair_told, and_part, and_letter, captured_of, captured_slot, letter_slot, captured_in, letters_in, closure_told, word_told, slot_value, label_at, value_at, value_in, Fields, AreSound, store_of}
-use Rattle.dg_unify.specs.Ends.{subst_in, TellsOf, told_in, IsEnd, Leads}
+use Rattle.dg_unify.specs.inside.Ends.{subst_in, TellsOf, told_in, IsEnd, Leads}
 use Rattle.dg_unify.specs.Laws.{place_of_var}
 use Rattle.dg_unify.specs.declared.bindings.Ref.{Ref}
 use Rattle.dg_unify.specs.declared.slots.Slot.{Slot}

@@ -1,7 +1,7 @@
 -- What is known of a value that is noted.
 use Rattle.std.proofs.Common.{◌≡◌, ℕ, List, Bool, false, subst, Option, Some, None, slice_index_or}
 use Rattle.std.specs.List.{All}
-use Rattle.dg_unify.specs.Seen.{is_free}
+use Rattle.dg_unify.specs.inside.Seen.{is_free}
 use Rattle.dg_unify.specs.declared.bindings.Ref.{Ref}
 use Rattle.dg_unify.proofs.NoteLemmas.{at_place, same_ref}
 

@@ -6,8 +6,8 @@ use Rattle.dg_meaning.specs.Unify.{Equations, turn}
 use Rattle.dg_meaning.proofs.Walks.{walked}
 use Rattle.dg_meaning.proofs.UnifyLaws.{EqualUnder, Makes, turned_makes, resolved_later}
 use Rattle.dg_unify.specs.Store.{Store, told, Kept}
-use Rattle.dg_unify.specs.Turns.{AreLeft, IsFirst}
-use Rattle.dg_unify.specs.Known.{IsEqual}
+use Rattle.dg_unify.specs.inside.Turns.{AreLeft, IsFirst}
+use Rattle.dg_unify.specs.inside.Known.{IsEqual}
 use Rattle.dg_unify.specs.Waits.{with_parts}
 use Rattle.dg_unify.specs.Parts.{values_of}
 use Rattle.dg_unify.specs.declared.parts.Parts.{Parts}

@@ -9,7 +9,7 @@ use Rattle.dg_unify.specs.Store.{Store, Saved, or_nil, IsTold, Kept, Fresh, Made
 use Rattle.dg_unify.specs.declared.bindings.Full.{Full}
 use Rattle.dg_unify.specs.Links.{to_of}
 use Rattle.dg_unify.specs.Slots.{value_in, Fields, AreSound, store_of, fields_at, GivesBack, Saves, Stand, word_slot, captured_slots, letter_slots, word_slots}
-use Rattle.dg_unify.specs.Ends.{subst_in, told_in, EndsAt, MayLink}
+use Rattle.dg_unify.specs.inside.Ends.{subst_in, told_in, EndsAt, MayLink}
 use Rattle.dg_unify.specs.declared.bindings.Ref.{Ref}
 use Rattle.dg_unify.specs.declared.bindings.Mark.{Mark}
 use Rattle.dg_unify.specs.declared.slots.Slot.{Slot}

@@ -3,7 +3,7 @@ use Rattle.std.specs.Prelude.{◌≡◌, ℕ, eqb, ◌||◌, Option, Some, None,
 use Rattle.dg_meaning.specs.Values.{Value, Var, Node, Values, NoMore, More}
 use Rattle.dg_meaning.specs.Substitutions.{resolved}
 use Rattle.dg_unify.specs.Store.{Store, told}
-use Rattle.dg_unify.specs.Seen.{AreFree}
+use Rattle.dg_unify.specs.inside.Seen.{AreFree}
 use Rattle.dg_unify.specs.declared.bindings.Ref.{Ref}
 use Rattle.dg_unify.specs.declared.seen.Seen.{Seen}
 

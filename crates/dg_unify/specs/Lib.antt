@@ -5,12 +5,8 @@ pub mod Slots
 pub mod Fences
 pub mod Props
 pub mod Laws
-pub mod Ends
 pub mod Listed
 pub mod Parts
 pub mod Waits
 pub mod Finds
-pub mod Seen
-pub mod Known
-pub mod Turns
-pub mod Engines
+pub mod inside

@@ -2,7 +2,7 @@
 
 ghost use Rattle.std.specs.Prelude.{◌≡◌, true};
 ghost use Rattle.dg_unify.specs.Store.{Store};
-ghost use Rattle.dg_unify.specs.Known.{IsEqual, AreEqual};
+ghost use Rattle.dg_unify.specs.inside.Known.{IsEqual, AreEqual};
 
 use crate::bindings::Ref;
 

@@ -57,7 +57,7 @@ pub struct ListBindings {
 impl ListBindings {
     ghost use Rattle.dg_meaning.specs.Unify.{top};
     ghost use Rattle.dg_unify.specs.Store.{Saved, Kept, Shows, TrailFull, Bound};
-    ghost use Rattle.dg_unify.specs.Ends.{TellsOf, told_in, IsEnd, Leads, EndsAt, MayLink};
+    ghost use Rattle.dg_unify.specs.inside.Ends.{TellsOf, told_in, IsEnd, Leads, EndsAt, MayLink};
     ghost use Rattle.dg_unify.specs.Listed.{fields_of};
     ghost use Rattle.dg_unify.specs.Slots.{is_constant};
 

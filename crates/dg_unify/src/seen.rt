@@ -1,7 +1,7 @@
 // Values that were looked through, and in which nothing was found.
 
 ghost use Rattle.std.specs.Prelude.{◌≡◌, Bool, true, false};
-ghost use Rattle.dg_unify.specs.Seen.{AreFree};
+ghost use Rattle.dg_unify.specs.inside.Seen.{AreFree};
 ghost use Rattle.dg_unify.specs.declared.bindings.Ref.{Ref as Number};
 
 use crate::bindings::Ref;

@@ -7,8 +7,8 @@ ghost use Rattle.dg_meaning.specs.Unify.{same_label, as_many, side_by_side, Bind
 ghost use Rattle.dg_unify.specs.Store.{Saved, told, Holds, Kept, label_of, Shows, IsClosureAt, IsUnknownAt, MayBind, Follows};
 ghost use Rattle.dg_unify.specs.Parts.{AreIn, values_of, IsOpened};
 ghost use Rattle.dg_unify.specs.Waits.{HasRoom};
-ghost use Rattle.dg_unify.specs.Known.{AreEqual};
-ghost use Rattle.dg_unify.specs.Turns.{IsUnbound, FollowsTurn, TurnsInto, IsFirstOf, Compares, met_of};
+ghost use Rattle.dg_unify.specs.inside.Known.{AreEqual};
+ghost use Rattle.dg_unify.specs.inside.Turns.{IsUnbound, FollowsTurn, TurnsInto, IsFirstOf, Compares, met_of};
 
 use crate::bindings::{Bindings, Full, Ref, View};
 use crate::finding::{put_behind, stands_in};

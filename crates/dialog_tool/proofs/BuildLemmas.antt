@@ -10,7 +10,7 @@ use Rattle.dg_story.specs.Refusals as story
 use Rattle.z_model.specs.Story.{refusal_of}
 use Rattle.dialog_tool.specs.Answers
 use Rattle.dialog_tool.specs.Answers.{Reads, HasStory, HasNone, Builds, no_story_of, plays, IsStored, stores}
-use Rattle.dialog_tool.specs.Building.{HasNoStory, none, no_room}
+use Rattle.dialog_tool.specs.inside.Building.{HasNoStory, none, no_room}
 use Rattle.dialog_tool.specs.Call.{Call, Outside, IsFetched, call}
 use Rattle.dialog_tool.specs.Command.{Command, Task, build, run}
 use Rattle.dialog_tool.specs.Playing.{HasPlayed}

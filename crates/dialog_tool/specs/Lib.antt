@@ -1,10 +1,9 @@
 pub mod Command
-pub mod CommandView
 pub mod Dice
 pub mod Lines
 pub mod Call
 pub mod Playing
 pub mod Report
 pub mod Making
-pub mod Building
 pub mod Answers
+pub mod inside

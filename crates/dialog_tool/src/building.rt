@@ -6,10 +6,10 @@ ghost use Rattle.dg_base.specs.Streams.{SourceView};
 ghost use Rattle.dg_base.specs.declared.program.CoreProgram.{CoreProgram as Core};
 ghost use Rattle.dg_story.specs.Refusals.{refusal_of};
 ghost use Rattle.dialog_tool.specs.Answers.{Answers, HasStory};
-ghost use Rattle.dialog_tool.specs.Building.{HasNoStory};
+ghost use Rattle.dialog_tool.specs.inside.Building.{HasNoStory};
 ghost use Rattle.dialog_tool.specs.Call.{call, IsFetched};
 ghost use Rattle.dialog_tool.specs.Command.{build as build_command, run as run_command};
-ghost use Rattle.dialog_tool.specs.CommandView.{task_view, HasDice};
+ghost use Rattle.dialog_tool.specs.inside.CommandView.{task_view, HasDice};
 ghost use Rattle.dg_compile.specs.Source.{Compiles};
 
 use crate::command::Task;

@@ -3,7 +3,7 @@ ghost use Rattle.std.specs.Prelude.{◌≡◌, ◌≤◌, ◌<◌, ◌^◌, Some
 ghost use Rattle.std.specs.Option.{option_map};
 ghost use Rattle.dialog_tool.specs.Command as spec;
 ghost use Rattle.dialog_tool.specs.Command.{texts};
-ghost use Rattle.dialog_tool.specs.CommandView.{task_view, command_view, values_view, HasDice, CommandHasDice};
+ghost use Rattle.dialog_tool.specs.inside.CommandView.{task_view, command_view, values_view, HasDice, CommandHasDice};
 
 use crate::numbers::{dice_of, number_of};
 use dg_base::Limits;

@@ -5,7 +5,7 @@ ghost use Rattle.dg_base.specs.Sound.{IsSound};
 ghost use Rattle.dialog_tool.specs.Answers.{Answers, Decides};
 ghost use Rattle.dialog_tool.specs.Call.{call, IsFetched};
 ghost use Rattle.dialog_tool.specs.Command.{texts, command_of, debug as debug_command, limits_of};
-ghost use Rattle.dialog_tool.specs.CommandView.{task_view, HasDice};
+ghost use Rattle.dialog_tool.specs.inside.CommandView.{task_view, HasDice};
 ghost use Rattle.dg_compile.specs.Source.{Compiles};
 
 use crate::building::{build, run};

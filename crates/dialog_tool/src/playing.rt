@@ -5,7 +5,7 @@ ghost use Rattle.dg_base.specs.Shelves.{ShelfView};
 ghost use Rattle.dialog_tool.specs.Answers.{Answers};
 ghost use Rattle.dialog_tool.specs.Call.{call, IsFetched};
 ghost use Rattle.dialog_tool.specs.Command.{Command, thrown, play as play_command};
-ghost use Rattle.dialog_tool.specs.CommandView.{task_view, HasDice};
+ghost use Rattle.dialog_tool.specs.inside.CommandView.{task_view, HasDice};
 ghost use Rattle.dialog_tool.specs.Playing.{status_of_end, HasPlayed};
 ghost use Rattle.z_play.specs.Ready.{IsLoaded};
 

@@ -2,7 +2,7 @@
 ghost use Rattle.std.specs.Prelude.{◌≡◌, ◌+◌, ◌<◌, ◌^◌, [], ◌∷◌, IfOk, IfErr};
 ghost use Rattle.dg_base.specs.declared.program.Goal.{out-Goal};
 ghost use Rattle.dg_built.specs.Built.{AreBuilt, IsBuiltGoal};
-ghost use Rattle.dg_interp.specs.Engine.{IsReady, TakesAt, Branches, FullAt, LackAt, IsAct, IsOnStore, IsAgain, store_in};
+ghost use Rattle.dg_interp.specs.inside.Engine.{IsReady, TakesAt, Branches, FullAt, LackAt, IsAct, IsOnStore, IsAgain, store_in};
 ghost use Rattle.dg_outside.specs.Outside.{picks_in, MayPick};
 
 use super::Engine;

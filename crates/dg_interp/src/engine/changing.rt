@@ -5,8 +5,8 @@ ghost use Rattle.dg_base.specs.declared.program.CoreProgram.{CoreProgram as Prog
 ghost use Rattle.dg_meaning.specs.Cells.{cells};
 ghost use Rattle.dg_unify.specs.Store.{Holds};
 ghost use Rattle.dg_terms.specs.Terms.{Overflows};
-ghost use Rattle.dg_interp.specs.Engine.{IsReady, TakesAt, Branches, LackAt, store_in};
-ghost use Rattle.dg_interp.specs.Made.{MadeArgs, ChangedMade};
+ghost use Rattle.dg_interp.specs.inside.Engine.{IsReady, TakesAt, Branches, LackAt, store_in};
+ghost use Rattle.dg_interp.specs.inside.Made.{MadeArgs, ChangedMade};
 
 use super::{Engine, stretch};
 use dg_base::Term;

@@ -1,7 +1,7 @@
 // Values that are made equal, compared and tested.
 ghost use Rattle.std.specs.Prelude.{◌≡◌, IfOk, IfErr};
 ghost use Rattle.dg_base.specs.declared.program.Goal.TheVariants.{Equal as EqualGoal, Test as TestGoal, Compare as CompareGoal};
-ghost use Rattle.dg_interp.specs.Engine.{IsReady, TakesAt, Branches, FullAt, store_in};
+ghost use Rattle.dg_interp.specs.inside.Engine.{IsReady, TakesAt, Branches, FullAt, store_in};
 
 use super::{Engine, stretch};
 use dg_base::{CompareOp, Term, TestKind};

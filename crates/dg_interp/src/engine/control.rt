@@ -2,7 +2,7 @@
 ghost use Rattle.std.specs.Prelude.{◌≡◌, ◌+◌, ◌<◌, ◌^◌, IfOk, IfErr, All};
 ghost use Rattle.dg_base.specs.declared.program.Goal.TheVariants.{Either as EitherGoal, Once as OnceGoal, Not as NotGoal, If as IfGoal, Forever as ForeverGoal, Exhaust as ExhaustGoal};
 ghost use Rattle.dg_built.specs.Built.{AreBuilt};
-ghost use Rattle.dg_interp.specs.Engine.{IsReady, TakesAt, Branches, FullAt, IsAgain, store_in};
+ghost use Rattle.dg_interp.specs.inside.Engine.{IsReady, TakesAt, Branches, FullAt, IsAgain, store_in};
 
 use super::Engine;
 use crate::frames::{Frame, Left, Mark};

@@ -5,9 +5,9 @@ ghost use Rattle.dg_base.specs.declared.program.PlaceKind.TheVariants.{Global as
 ghost use Rattle.dg_meaning.specs.Facts.{kinds_of, value_at};
 ghost use Rattle.dg_meaning.specs.Changes.{found as the_found};
 ghost use Rattle.dg_unify.specs.Store.{Holds};
-ghost use Rattle.dg_interp.specs.Engine.{IsReady, TakesAt, Branches, FullAt, store_in};
+ghost use Rattle.dg_interp.specs.inside.Engine.{IsReady, TakesAt, Branches, FullAt, store_in};
 ghost use Rattle.dg_outside.specs.Finding.{may_find};
-ghost use Rattle.dg_interp.specs.Finding.{made_values, ReadsAt, AsksPlaceAt, AsksObjectsAt};
+ghost use Rattle.dg_interp.specs.inside.Finding.{made_values, ReadsAt, AsksPlaceAt, AsksObjectsAt};
 
 use super::Engine;
 use crate::finding::{copy, first_of, second_of, simple};

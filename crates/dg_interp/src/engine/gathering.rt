@@ -9,10 +9,10 @@ ghost use Rattle.dg_built.specs.Built.{AreBuilt};
 ghost use Rattle.dg_outside.specs.declared.lack.Lack.TheVariants.{OutOfMemory as WantOfMemory};
 ghost use Rattle.dg_interp.specs.declared.frames.Left.TheVariants.{TakeOut};
 ghost use Rattle.dg_interp.specs.declared.frames.Whole.TheVariants.{List as InList, Sum as InSum};
-ghost use Rattle.dg_interp.specs.Frames.{IsLeft};
-ghost use Rattle.dg_interp.specs.Giving.{UnifiesAt};
-ghost use Rattle.dg_interp.specs.Gathering.{KeepsAt, TakesOutAt, GathersAt, gathering_goal};
-ghost use Rattle.dg_interp.specs.Engine.{IsReady, IsSound, TakesAt, BeginsAt, Branches, Tries, WentOn, WentWrong, FullAt, LackAt, KeepsPlaces, branches_left, store_in};
+ghost use Rattle.dg_interp.specs.inside.Frames.{IsLeft};
+ghost use Rattle.dg_interp.specs.inside.Giving.{UnifiesAt};
+ghost use Rattle.dg_interp.specs.inside.Gathering.{KeepsAt, TakesOutAt, GathersAt, gathering_goal};
+ghost use Rattle.dg_interp.specs.inside.Engine.{IsReady, IsSound, TakesAt, BeginsAt, Branches, Tries, WentOn, WentWrong, FullAt, LackAt, KeepsPlaces, branches_left, store_in};
 ghost use Rattle.dg_unify.specs.Store.{Saved, Kept, Holds};
 ghost use Rattle.dg_unify.specs.declared.bindings.Mark.{Mark as ThePlace};
 

@@ -2,8 +2,8 @@
 ghost use Rattle.std.specs.Prelude.{◌≡◌, IfOk, IfErr};
 ghost use Rattle.dg_base.specs.declared.program.Goal.TheVariants.{Arith as ArithGoal, GapN as GapNGoal};
 ghost use Rattle.dg_unify.specs.Store.{Holds};
-ghost use Rattle.dg_interp.specs.Engine.{IsReady, TakesAt, Branches, FullAt, store_in};
-ghost use Rattle.dg_interp.specs.Giving.{UnifiesAt, GivesAt, TellsSpaces};
+ghost use Rattle.dg_interp.specs.inside.Engine.{IsReady, TakesAt, Branches, FullAt, store_in};
+ghost use Rattle.dg_interp.specs.inside.Giving.{UnifiesAt, GivesAt, TellsSpaces};
 
 use super::{Engine, stretch};
 use dg_base::{ArithOp, Term};

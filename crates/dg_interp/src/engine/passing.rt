@@ -1,6 +1,6 @@
 // The first argument of a query.
-ghost use Rattle.dg_interp.specs.Frames.{EndsBy, values_in};
-ghost use Rattle.dg_interp.specs.Engine.{IsSound, store_in};
+ghost use Rattle.dg_interp.specs.inside.Frames.{EndsBy, values_in};
+ghost use Rattle.dg_interp.specs.inside.Engine.{IsSound, store_in};
 ghost use Rattle.dg_terms.specs.Passing.{IsFirst};
 ghost use Rattle.std.specs.Prelude.{length};
 

@@ -1,8 +1,8 @@
 // Queries of closures.
 ghost use Rattle.std.specs.Prelude.{◌≡◌, ◌+◌, ◌<◌, ◌≤◌, ◌^◌, None, Some, All, IfOk, IfErr, length};
 ghost use Rattle.dg_base.specs.declared.program.Goal.TheVariants.{Query as QueryGoal};
-ghost use Rattle.dg_interp.specs.Engine.{IsReady, TakesAt, Branches, FullAt, store_in};
-ghost use Rattle.dg_interp.specs.Querying.{QueriesAt, mark_of};
+ghost use Rattle.dg_interp.specs.inside.Engine.{IsReady, TakesAt, Branches, FullAt, store_in};
+ghost use Rattle.dg_interp.specs.inside.Querying.{QueriesAt, mark_of};
 ghost use Rattle.dg_unify.specs.Store.{Holds};
 
 use super::{Engine, stretch};

@@ -2,7 +2,7 @@
 ghost use Rattle.std.specs.Prelude.{◌≡◌, ◌+◌, [], All, IfOk, IfErr, get_or};
 ghost use Rattle.dg_base.specs.declared.program.Goal.TheVariants.{Select as SelectGoal};
 ghost use Rattle.dg_built.specs.Built.{AreBuilt};
-ghost use Rattle.dg_interp.specs.Engine.{IsReady, TakesAt, Branches, FullAt, store_in};
+ghost use Rattle.dg_interp.specs.inside.Engine.{IsReady, TakesAt, Branches, FullAt, store_in};
 ghost use Rattle.dg_outside.specs.Outside.{picks_in, MayPick};
 
 use super::Engine;

@@ -2,7 +2,7 @@
 ghost use Rattle.std.specs.Prelude.{◌≡◌, ◌+◌, ◌<◌, ◌^◌, eqb, IfOk, IfErr};
 ghost use Rattle.dg_base.specs.declared.program.Goal.TheVariants.{Stoppable as StoppableGoal};
 ghost use Rattle.dg_built.specs.Built.{AreBuilt};
-ghost use Rattle.dg_interp.specs.Engine.{IsReady, IsSound, TakesAt, StopsAt, Branches, Stops, StopsOn, StopsTo, part_at, FullAt, store_in};
+ghost use Rattle.dg_interp.specs.inside.Engine.{IsReady, IsSound, TakesAt, StopsAt, Branches, Stops, StopsOn, StopsTo, part_at, FullAt, store_in};
 
 use super::{Engine, cut, waiting};
 use crate::frames::{Choice, Frame, Left, Mark};

@@ -4,9 +4,9 @@ ghost use Rattle.dg_base.specs.declared.program.Goal.TheVariants.{SplitWord as S
 ghost use Rattle.dg_meaning.specs.Words.{each_alone, spellings_of, spelled_value, spelled_list};
 ghost use Rattle.dg_unify.specs.Store.{Holds};
 ghost use Rattle.dg_words.specs.Letters.{AreSmall};
-ghost use Rattle.dg_interp.specs.Engine.{IsReady, TakesAt, Branches, FullAt, store_in};
+ghost use Rattle.dg_interp.specs.inside.Engine.{IsReady, TakesAt, Branches, FullAt, store_in};
 ghost use Rattle.dg_texts.specs.Spelling.{IsShort, SpellsSome};
-ghost use Rattle.dg_interp.specs.Wording.{words_in, MakesAt, AwaitsInput};
+ghost use Rattle.dg_interp.specs.inside.Wording.{words_in, MakesAt, AwaitsInput};
 
 use super::{Engine, stretch};
 use dg_base::Term;

@@ -1,6 +1,6 @@
 use Rattle.std.proofs.Common.{◌≡◌, vec_len}
 use Rattle.std.specs.Prelude.{reverse}
-use Rattle.dg_interp.specs.Engine.{older_than}
+use Rattle.dg_interp.specs.inside.Engine.{older_than}
 use Rattle.dg_interp.proofs.engine.cut.Given as goal
 
 abbrev pub invariant-newest : goal.invariant-newest

@@ -2,8 +2,8 @@ use Rattle.std.proofs.Common.{rules, refl, sym, ap, subst, ◌∙◌, List, arit
 use Rattle.std.specs.List.{All}
 use Rattle.dg_unify.specs.Store.{Holds}
 use Rattle.dg_unify.specs.declared.bindings.Ref.{Ref}
-use Rattle.dg_interp.specs.Engine.{store_in}
-use Rattle.dg_interp.specs.Frames.{stretch}
+use Rattle.dg_interp.specs.inside.Engine.{store_in}
+use Rattle.dg_interp.specs.inside.Frames.{stretch}
 use Rattle.dg_unify.proofs.StoreLemmas.{kept_on}
 use Rattle.dg_interp.proofs.Entering.{args_hold, head_hold, rule_does, head_full, vars_hold, vars_more}
 use Rattle.dg_interp.proofs.engine.enter.Goals as goal

@@ -1,6 +1,6 @@
 use Rattle.std.proofs.Common.{rules, ap, ◌∙◌}
-use Rattle.dg_interp.specs.Engine.{store_in}
-use Rattle.dg_interp.specs.Frames.{stretch}
+use Rattle.dg_interp.specs.inside.Engine.{store_in}
+use Rattle.dg_interp.specs.inside.Frames.{stretch}
 use Rattle.dg_interp.proofs.Asks.{args_written}
 use Rattle.dg_interp.proofs.engine.write_args.Goals as goal
 

@@ -1,7 +1,7 @@
 use Rattle.std.proofs.Common.{subst}
 use Rattle.std.specs.Prelude.{Err}
 use Rattle.dg_base.specs.declared.program.Goal.TheVariants.{Print}
-use Rattle.dg_interp.specs.Engine.{TakesAt}
+use Rattle.dg_interp.specs.inside.Engine.{TakesAt}
 use Rattle.dg_interp.proofs.Runs.{lack_from, one_done, one_lost, word_prints, gap_prints, value_done, value_lost, is_act, goal_does, goal_breaks, goal_quits, goal_stops, goal_stopped}
 use Rattle.dg_meaning.specs.World.{Piece}
 use Rattle.dg_spacing.specs.Gaps.{print_of}

@@ -2,8 +2,8 @@ use Rattle.std.proofs.Common.{subst, ◌∙◌, None, Some}
 use Rattle.std.specs.Prelude.{Err}
 use Rattle.dg_base.specs.declared.program.Goal.TheVariants.{GapN}
 use Rattle.dg_meaning.specs.World.{SpacesOf}
-use Rattle.dg_interp.specs.Engine.{store_in, FailsAt, TakesAt, Branches}
-use Rattle.dg_interp.specs.Giving.{TellsSpaces}
+use Rattle.dg_interp.specs.inside.Engine.{store_in, FailsAt, TakesAt, Branches}
+use Rattle.dg_interp.specs.inside.Giving.{TellsSpaces}
 use Rattle.dg_interp.proofs.Branches.{full_made, back_made}
 use Rattle.dg_interp.proofs.Runs.{lack_from, stored_done, stored_lacks, goal_does, goal_breaks}
 use Rattle.dg_interp.proofs.Spaces.{told_done, told_lost}

@@ -1,6 +1,6 @@
 use Rattle.std.specs.Prelude.{Err}
 use Rattle.dg_base.specs.declared.program.Goal.TheVariants.{Input}
-use Rattle.dg_interp.specs.Engine.{TakesAt}
+use Rattle.dg_interp.specs.inside.Engine.{TakesAt}
 use Rattle.dg_interp.proofs.Runs.{lack_from, goal_does, goal_breaks}
 use Rattle.dg_interp.proofs.run.read_input.Goals as goal
 

@@ -2,7 +2,7 @@ use Rattle.std.proofs.Common.{Ok, sym, subst, ap, ◌∙◌}
 use Rattle.dg_words.specs.Lines.{Took, IsOver}
 use Rattle.dg_words.specs.Letters.{IsLine, ReadsLine}
 use Rattle.dg_meaning.specs.Words.{letters_of, first_line}
-use Rattle.dg_interp.specs.Running.{outcome_of}
+use Rattle.dg_interp.specs.inside.Running.{outcome_of}
 use Rattle.dg_texts.specs.Spelling.{IsShort, SpellsSome}
 use Rattle.dg_texts.proofs.TypedLetters.{line_short}
 use Rattle.dg_interp.proofs.Inputs.{input_ends, input_fails, short_line, line_spelled, gap_lost, line_does, line_breaks}

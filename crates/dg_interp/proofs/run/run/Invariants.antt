@@ -1,4 +1,4 @@
-use Rattle.dg_interp.specs.Running.{GoesOn}
+use Rattle.dg_interp.specs.inside.Running.{GoesOn}
 use Rattle.dg_interp.proofs.run.run.Given as goal
 
 abbrev pub invariant-goals : goal.invariant-goals

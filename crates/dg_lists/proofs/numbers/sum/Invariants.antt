@@ -1,5 +1,5 @@
 use Rattle.std.proofs.Common.{◌≡◌, ◌≤◌, length}
-use Rattle.dg_lists.specs.Summing.{total_from}
+use Rattle.dg_lists.specs.inside.Summing.{total_from}
 use Rattle.dg_lists.proofs.numbers.sum.Given as goal
 
 abbrev pub decreases-cells : goal.decreases-cells

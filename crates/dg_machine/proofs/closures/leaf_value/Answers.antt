@@ -3,7 +3,7 @@ use Rattle.std.specs.Prelude.{MatchResult}
 use Rattle.dg_meaning.specs.Values.{value_of}
 use Rattle.dg_unify.specs.Store.{Made}
 use Rattle.dg_arena.specs.Held.{meaning_of}
-use Rattle.dg_machine.specs.Writing.{cells_of, Overflows}
+use Rattle.dg_machine.specs.inside.Writing.{cells_of, Overflows}
 use Rattle.dg_machine.proofs.TableLemmas.{leaf_plain}
 use Rattle.dg_machine.proofs.WriteSteps.{plain_made}
 use Rattle.dg_machine.proofs.closures.leaf_value.Goals as goal

@@ -8,7 +8,7 @@ use Rattle.dg_meaning.specs.Render.{render}
 use Rattle.dg_meaning.specs.World.{GapOf}
 use Rattle.dg_mid.specs.Step.{followed}
 use Rattle.dg_texts.proofs.Texts.{render_grows}
-use Rattle.dg_machine.specs.Running.{HasText}
+use Rattle.dg_machine.specs.inside.Running.{HasText}
 use Rattle.dg_machine.proofs.Lines.{line_on}
 use Rattle.dg_machine.proofs.reading.print_line.Goals as goal
 

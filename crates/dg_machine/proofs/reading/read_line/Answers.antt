@@ -9,8 +9,8 @@ use Rattle.dg_mid.specs.Step.{more, followed}
 use Rattle.dg_texts.specs.Spelling.{IsShort, SpellsSome}
 use Rattle.dg_words.specs.Letters.{IsLine, ReadsLine}
 use Rattle.dg_words.specs.Lines.{Took, IsOver}
-use Rattle.dg_machine.specs.Reading.{line_behind}
-use Rattle.dg_machine.specs.Running.{HasText, ReadsGoal}
+use Rattle.dg_machine.specs.inside.Reading.{line_behind}
+use Rattle.dg_machine.specs.inside.Running.{HasText, ReadsGoal}
 use Rattle.dg_unify.proofs.StoreLemmas.{holds_some}
 use Rattle.dg_arena.specs.Held.{meaning_of}
 use Rattle.dg_machine.proofs.Opens.{roomy}

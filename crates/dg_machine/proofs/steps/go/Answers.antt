@@ -1,8 +1,8 @@
 use Rattle.std.proofs.Common.{◌≡◌, ◌+◌, ◌-◌, refl, subst, arith}
 use Rattle.dg_outside.specs.Outside.{MayPick, picks_in}
 use Rattle.dg_outside.proofs.Picks.{may_fewer}
-use Rattle.dg_machine.specs.Reading.{IsEnd}
-use Rattle.dg_machine.specs.Running.{IsSomewhereAt}
+use Rattle.dg_machine.specs.inside.Reading.{IsEnd}
+use Rattle.dg_machine.specs.inside.Running.{IsSomewhereAt}
 use Rattle.dg_machine.proofs.Selects.{may_on}
 use Rattle.dg_machine.proofs.Turns.{somewhere_first, left_settled, takes_none, takes_on, finishes, limits, breaks}
 use Rattle.dg_machine.proofs.steps.go.Goals as goal

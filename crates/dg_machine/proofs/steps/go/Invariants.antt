@@ -1,6 +1,6 @@
 use Rattle.std.proofs.Common.{◌≡◌, true, ◌≤◌, ◌-◌}
 use Rattle.dg_outside.specs.Outside.{MayPick, picks_in}
-use Rattle.dg_machine.specs.Running.{Takes, IsSomewhereStill, rests}
+use Rattle.dg_machine.specs.inside.Running.{Takes, IsSomewhereStill, rests}
 use Rattle.dg_machine.proofs.steps.go.Given as goal
 
 abbrev pub invariant-goals : goal.invariant-goals

@@ -2,7 +2,7 @@ use Rattle.std.proofs.Common.{◌∷◌, take, drop, length, ◌-◌, refl, sym,
 use Rattle.dg_mid.specs.declared.code.Op.TheVariants as op
 use Rattle.dg_mid.specs.declared.code.Action.TheVariants as action
 use Rattle.dg_machine.specs.Built.{OpBuilt, OpsBuilt}
-use Rattle.dg_machine.specs.Reading.{ReadsNone}
+use Rattle.dg_machine.specs.inside.Reading.{ReadsNone}
 use Rattle.dg_machine.proofs.Readings.{unread_first}
 use Rattle.dg_machine.proofs.Leaving.{split_list}
 use Rattle.dg_machine.proofs.Goals.{quiet_done, quiet_op, first_goal, silent_with, built_first}

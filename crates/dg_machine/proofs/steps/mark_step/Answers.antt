@@ -1,6 +1,6 @@
 use Rattle.std.proofs.Common.{sym, subst, ap, ◌∙◌, ◌≡◌, ◌∷◌, false, take, drop, length, ◌-◌}
 use Rattle.dg_mid.specs.Step.{at_goal, is_goal}
-use Rattle.dg_machine.specs.Running.{rests, DoesMarks}
+use Rattle.dg_machine.specs.inside.Running.{rests, DoesMarks}
 use Rattle.dg_machine.proofs.Leaving.{split_list}
 use Rattle.dg_machine.proofs.Goals.{held_of, marks_run, marks_keep, quiet_mark_op, marks_enter, marks_resume, marks_leave, marks_miss, marks_fail}
 use Rattle.dg_machine.proofs.steps.mark_step.Goals as goal

@@ -1,5 +1,5 @@
 use Rattle.std.proofs.Common.{rules, ◌≡◌, ◌∙◌, false}
-use Rattle.dg_machine.specs.Running.{rests}
+use Rattle.dg_machine.specs.inside.Running.{rests}
 use Rattle.dg_machine.proofs.Runs.{settled_on, mark_falls}
 use Rattle.dg_machine.proofs.Turns.{somewhere_marked, end_rests}
 use Rattle.dg_machine.proofs.steps.settle.Goals as goal

@@ -1,6 +1,6 @@
 use Rattle.std.proofs.Common.{◌≡◌}
-use Rattle.dg_machine.specs.Running.{Settles, IsSomewhereWith}
-use Rattle.dg_machine.specs.Reading.{IsEnd}
+use Rattle.dg_machine.specs.inside.Running.{Settles, IsSomewhereWith}
+use Rattle.dg_machine.specs.inside.Reading.{IsEnd}
 use Rattle.dg_machine.specs.Measure.{left_of}
 use Rattle.dg_machine.proofs.steps.settle.Given as goal
 

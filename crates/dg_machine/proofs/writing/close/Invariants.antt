@@ -4,7 +4,7 @@ use Rattle.dg_base.specs.declared.program.Term.{Term}
 use Rattle.dg_meaning.specs.Values.{Value}
 use Rattle.dg_arena.specs.Held.{meaning_of}
 use Rattle.dg_machine.specs.Refs.{Keeps}
-use Rattle.dg_machine.specs.Writing.{IsAtPart}
+use Rattle.dg_machine.specs.inside.Writing.{IsAtPart}
 use Rattle.dg_machine.proofs.WriteSteps.{Closing}
 use Rattle.dg_machine.proofs.writing.close.Given as goal
 

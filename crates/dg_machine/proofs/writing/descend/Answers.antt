@@ -3,7 +3,7 @@ use Rattle.dg_meaning.specs.Values.{value_of}
 use Rattle.dg_unify.specs.Store.{State, Made}
 use Rattle.dg_arena.specs.Held.{meaning_of}
 use Rattle.dg_machine.specs.declared.now.Side.TheVariants.{Head, Tail}
-use Rattle.dg_machine.specs.Writing.{reached, cells_of, nodes_of, Descends, Overflows}
+use Rattle.dg_machine.specs.inside.Writing.{reached, cells_of, nodes_of, Descends, Overflows}
 use Rattle.dg_machine.proofs.Kept.{row_kept}
 use Rattle.dg_machine.proofs.TermLemmas.{no_program}
 use Rattle.dg_machine.proofs.TableLemmas.{a_program, a_program_is, no_pair}

@@ -5,7 +5,7 @@ use Rattle.dg_meaning.specs.Values.{Value}
 use Rattle.dg_arena.specs.Held.{meaning_of}
 use Rattle.dg_machine.specs.Refs.{RowAt, Keeps}
 use Rattle.dg_machine.specs.Tables.{IsOf}
-use Rattle.dg_machine.specs.Writing.{reached, AreGone, Descends}
+use Rattle.dg_machine.specs.inside.Writing.{reached, AreGone, Descends}
 use Rattle.dg_machine.proofs.writing.descend.Given as goal
 
 abbrev pub invariant-pairs : goal.invariant-pairs

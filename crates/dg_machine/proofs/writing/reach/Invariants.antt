@@ -1,5 +1,5 @@
 use Rattle.std.proofs.Common.{◌≡◌, take}
-use Rattle.dg_machine.specs.Writing.{reached}
+use Rattle.dg_machine.specs.inside.Writing.{reached}
 use Rattle.dg_machine.proofs.writing.reach.Given as goal
 
 abbrev pub invariant-sides : goal.invariant-sides

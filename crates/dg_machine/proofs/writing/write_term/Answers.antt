@@ -1,7 +1,7 @@
 use Rattle.std.proofs.Common.{◌∙◌, refl, ap, subst, arith, length}
 use Rattle.dg_unify.specs.Store.{State}
 use Rattle.dg_arena.specs.Held.{meaning_of}
-use Rattle.dg_machine.specs.Writing.{Closes}
+use Rattle.dg_machine.specs.inside.Writing.{Closes}
 use Rattle.dg_machine.proofs.Kept.{row_kept}
 use Rattle.dg_machine.proofs.TableLemmas.{a_program, a_program_is}
 use Rattle.dg_machine.proofs.HeadLemmas.{keeps_same, keeps_on}

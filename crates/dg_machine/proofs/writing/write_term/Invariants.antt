@@ -4,7 +4,7 @@ use Rattle.dg_meaning.specs.Values.{Value}
 use Rattle.dg_arena.specs.Held.{meaning_of}
 use Rattle.dg_machine.specs.Refs.{RowAt, Keeps}
 use Rattle.dg_machine.specs.Tables.{IsOf}
-use Rattle.dg_machine.specs.Writing.{nodes_left}
+use Rattle.dg_machine.specs.inside.Writing.{nodes_left}
 use Rattle.dg_machine.proofs.WriteSteps.{IsWriting}
 use Rattle.dg_machine.proofs.writing.write_term.Given as goal
 

@@ -1,5 +1,5 @@
 use Rattle.std.proofs.Common.{◌≡◌, ◌∷◌, [], reverse}
-use Rattle.dg_mid.specs.Copying.{behind_all}
+use Rattle.dg_mid.specs.inside.Copying.{behind_all}
 use Rattle.dg_mid.proofs.terms.copy.Given as goal
 
 abbrev pub invariant-loop-turn : goal.invariant-loop-turn

@@ -3,7 +3,7 @@ use Rattle.dg_meaning.specs.Values.{Var}
 use Rattle.dg_meaning.specs.Substitutions.{walk}
 use Rattle.dg_meaning.specs.Unify.{Binds, binds}
 use Rattle.dg_unify.specs.Store.{told, MayBind}
-use Rattle.dg_unify.specs.Turns.{FollowsTurn}
+use Rattle.dg_unify.specs.inside.Turns.{FollowsTurn}
 use Rattle.dg_unify.proofs.Meets.{point_clash, point_binds, point_follows}
 use Rattle.dg_unify.proofs.unifying.point.Goals as goal
 

@@ -2,8 +2,8 @@ use Rattle.std.proofs.Common.{◌≡◌, ◌∙◌, ◌<◌, [], ◌∷◌, true
 use Rattle.dg_meaning.specs.Unify.{unify, solve}
 use Rattle.dg_meaning.proofs.Solving.{solve_extends}
 use Rattle.dg_unify.specs.Store.{told, Does}
-use Rattle.dg_unify.specs.Known.{AreEqual}
-use Rattle.dg_unify.specs.Turns.{AreLeft}
+use Rattle.dg_unify.specs.inside.Known.{AreEqual}
+use Rattle.dg_unify.specs.inside.Turns.{AreLeft}
 use Rattle.dg_unify.specs.Waits.{with_parts}
 use Rattle.dg_unify.specs.declared.parts.Wait.{Wait}
 use Rattle.dg_unify.proofs.KnownLemmas.{equal_behind, equal_made}

@@ -1,6 +1,6 @@
 use Rattle.std.proofs.Common.{List}
 use Rattle.dg_unify.specs.Store.{Saved}
-use Rattle.dg_unify.specs.Known.{AreEqual}
+use Rattle.dg_unify.specs.inside.Known.{AreEqual}
 use Rattle.dg_unify.proofs.Goings.{Going, equations, need}
 use Rattle.dg_unify.proofs.Standing.{Nesting}
 use Rattle.dg_unify.proofs.Settling.{Settled}

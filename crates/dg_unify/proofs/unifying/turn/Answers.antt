@@ -1,5 +1,5 @@
 use Rattle.std.proofs.Common.{refl}
-use Rattle.dg_unify.specs.Turns.{AreLeft}
+use Rattle.dg_unify.specs.inside.Turns.{AreLeft}
 use Rattle.dg_unify.proofs.KnownLemmas.{left_done}
 use Rattle.dg_unify.proofs.unifying.turn.Goals as goal
 

@@ -1,7 +1,7 @@
 use Rattle.std.proofs.Common.{◌≡◌, ◌∙◌, [], refl, sym, subst, length, append-nil}
 use Rattle.dg_meaning.specs.Unify.{unify, solve}
 use Rattle.dg_unify.specs.Store.{told, Follows, BrokeOff}
-use Rattle.dg_unify.specs.Turns.{AreLeft}
+use Rattle.dg_unify.specs.inside.Turns.{AreLeft}
 use Rattle.dg_unify.specs.Parts.{IsOpened}
 use Rattle.dg_unify.specs.Waits.{HasRoom}
 use Rattle.dg_unify.proofs.Rooms.{room_for_all}

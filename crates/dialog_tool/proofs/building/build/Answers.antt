@@ -1,7 +1,7 @@
 use Rattle.std.proofs.Common.{◌∙◌, refl, sym, subst, Some, List, ℕ}
 use Rattle.dg_base.specs.Written.{SinkView}
 use Rattle.dialog_tool.specs.Answers.{Answers, HasStory}
-use Rattle.dialog_tool.specs.Building.{HasNoStory}
+use Rattle.dialog_tool.specs.inside.Building.{HasNoStory}
 use Rattle.dialog_tool.specs.Call.{call}
 use Rattle.dialog_tool.specs.Command.{build as build_command}
 use Rattle.dialog_tool.proofs.BuildLemmas.{none_to_store}

@@ -1,5 +1,5 @@
 use Rattle.std.proofs.Common.{refl}
-use Rattle.dialog_tool.specs.CommandView.{task_view}
+use Rattle.dialog_tool.specs.inside.CommandView.{task_view}
 use Rattle.dialog_tool.proofs.AnswerLemmas.{no_room}
 use Rattle.dialog_tool.proofs.BuildLemmas.{built_plays}
 use Rattle.dialog_tool.proofs.building.play_story.Goals as goal

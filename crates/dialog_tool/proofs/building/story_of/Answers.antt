@@ -1,5 +1,5 @@
 use Rattle.std.proofs.Common.{refl}
-use Rattle.dialog_tool.specs.Building.{none, no_room}
+use Rattle.dialog_tool.specs.inside.Building.{none, no_room}
 use Rattle.dialog_tool.proofs.building.story_of.Goals as goal
 
 pub returns-in-Refused-clause-none : goal.returns-in-Refused-clause-none

@@ -1,5 +1,5 @@
 use Rattle.std.proofs.Common.{sym, ◌∙◌}
-use Rattle.dialog_tool.specs.CommandView.{values_view}
+use Rattle.dialog_tool.specs.inside.CommandView.{values_view}
 use Rattle.dialog_tool.proofs.OptionLemmas.{two_more}
 use Rattle.dialog_tool.proofs.command.+values_behind.Goals as goal
 

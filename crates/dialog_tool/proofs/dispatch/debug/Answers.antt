@@ -3,7 +3,7 @@ use Rattle.dg_base.specs.Written.{SinkView}
 use Rattle.dialog_tool.specs.Answers.{Answers}
 use Rattle.dialog_tool.specs.Call.{call}
 use Rattle.dialog_tool.specs.Command.{debug as debug_command}
-use Rattle.dialog_tool.specs.CommandView.{task_view}
+use Rattle.dialog_tool.specs.inside.CommandView.{task_view}
 use Rattle.dialog_tool.proofs.dispatch.debug.Goals as goal
 
 pub returns-in-Ok : goal.returns-in-Ok

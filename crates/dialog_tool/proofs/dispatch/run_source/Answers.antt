@@ -1,6 +1,6 @@
 use Rattle.std.proofs.Common.{refl}
 use Rattle.dialog_tool.specs.Answers.{ran, input_lost, out_lost}
-use Rattle.dialog_tool.specs.CommandView.{task_view}
+use Rattle.dialog_tool.specs.inside.CommandView.{task_view}
 use Rattle.dialog_tool.proofs.AnswerLemmas.{run_comes, no_room_to_run}
 use Rattle.dialog_tool.proofs.dispatch.run_source.Goals as goal
 

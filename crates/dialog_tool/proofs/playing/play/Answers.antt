@@ -1,5 +1,5 @@
 use Rattle.std.proofs.Common.{refl}
-use Rattle.dialog_tool.specs.CommandView.{task_view}
+use Rattle.dialog_tool.specs.inside.CommandView.{task_view}
 use Rattle.dialog_tool.proofs.AnswerLemmas.{story_long, story_lost, no_room}
 use Rattle.dialog_tool.proofs.playing.play.Goals as goal
 

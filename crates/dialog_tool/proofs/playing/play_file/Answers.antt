@@ -1,5 +1,5 @@
 use Rattle.std.proofs.Common.{refl}
-use Rattle.dialog_tool.specs.CommandView.{task_view}
+use Rattle.dialog_tool.specs.inside.CommandView.{task_view}
 use Rattle.dialog_tool.proofs.AnswerLemmas.{story_refused, no_room}
 use Rattle.dialog_tool.proofs.PlayLemmas.{play_comes}
 use Rattle.dialog_tool.proofs.playing.play_file.Goals as goal

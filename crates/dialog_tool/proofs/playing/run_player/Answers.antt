@@ -1,6 +1,6 @@
 use Rattle.std.proofs.Common.{Ok, Err, refl}
 use Rattle.dg_base.specs.declared.run.Fault.TheVariants.{Read, Write}
-use Rattle.dialog_tool.specs.CommandView.{task_view}
+use Rattle.dialog_tool.specs.inside.CommandView.{task_view}
 use Rattle.dialog_tool.proofs.PlayLemmas.{file_plays, file_plays_some, play_ends, play_unread, play_unwritten}
 use Rattle.dialog_tool.proofs.playing.run_player.Goals as goal
 

@@ -1,7 +1,7 @@
 use Rattle.std.proofs.Common.{refl, reverse, true}
 use Rattle.std.specs.Prelude.{Ok, Err}
 use Rattle.dg_unify.specs.Linked.{log_of, vars_of}
-use Rattle.dg_unify.specs.Ends.{told_in}
+use Rattle.dg_unify.specs.inside.Ends.{told_in}
 use Rattle.dg_unify.specs.Laws.{slots_younger}
 use Rattle.dg_unify.proofs.Meets.{follows_bound, follows_full}
 use Rattle.dg_arena.specs.Held.{fields_of, meaning_of}

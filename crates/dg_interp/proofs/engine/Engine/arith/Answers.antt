@@ -1,8 +1,8 @@
 use Rattle.std.proofs.Common.{refl, ap, ◌∙◌}
 use Rattle.dg_base.specs.declared.program.Goal.TheVariants.{Arith}
-use Rattle.dg_interp.specs.Frames.{stretch}
-use Rattle.dg_interp.specs.Engine.{store_in, TakesAt}
-use Rattle.dg_interp.specs.Giving.{GivesAt}
+use Rattle.dg_interp.specs.inside.Frames.{stretch}
+use Rattle.dg_interp.specs.inside.Engine.{store_in, TakesAt}
+use Rattle.dg_interp.specs.inside.Giving.{GivesAt}
 use Rattle.dg_interp.proofs.Takes.{store_ready}
 use Rattle.dg_interp.proofs.Giving.{kept_limits, written_full, branches_made}
 use Rattle.dg_interp.proofs.Ariths.{arith_held, three_among, arith_leads}

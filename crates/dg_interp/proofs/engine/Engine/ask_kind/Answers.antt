@@ -2,9 +2,9 @@ use Rattle.std.proofs.Common.{List, Bool, Some, refl, ap, ◌∙◌}
 use Rattle.std.specs.Prelude.{is_some}
 use Rattle.dg_meaning.specs.Facts.{Fact, value_at}
 use Rattle.dg_meaning.specs.Path.{Tests}
-use Rattle.dg_interp.specs.Giving.{ActsAt}
-use Rattle.dg_interp.specs.Finding.{made_values, AsksPlaceAt, AsksObjectsAt, ReadsAt}
-use Rattle.dg_interp.specs.Engine.{Point, store_in, FailsAt}
+use Rattle.dg_interp.specs.inside.Giving.{ActsAt}
+use Rattle.dg_interp.specs.inside.Finding.{made_values, AsksPlaceAt, AsksObjectsAt, ReadsAt}
+use Rattle.dg_interp.specs.inside.Engine.{Point, store_in, FailsAt}
 use Rattle.dg_interp.proofs.Places.{leads_on, limits_here}
 use Rattle.dg_interp.proofs.Giving.{branches_made}
 use Rattle.dg_interp.proofs.Branches.{went_on_from, full_made, back_made}

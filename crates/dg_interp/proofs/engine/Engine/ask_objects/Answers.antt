@@ -1,8 +1,8 @@
 use Rattle.std.proofs.Common.{refl, drop}
 use Rattle.dg_meaning.specs.Changes.{found}
 use Rattle.dg_unify.proofs.StoreLemmas.{walked_to}
-use Rattle.dg_interp.specs.Finding.{made_values, AsksObjectsAt, TriesObjectsAt, ReadsAt}
-use Rattle.dg_interp.specs.Engine.{store_in, FailsAt}
+use Rattle.dg_interp.specs.inside.Finding.{made_values, AsksObjectsAt, TriesObjectsAt, ReadsAt}
+use Rattle.dg_interp.specs.inside.Engine.{store_in, FailsAt}
 use Rattle.dg_interp.proofs.Places.{limits_here}
 use Rattle.dg_interp.proofs.Giving.{branches_made}
 use Rattle.dg_interp.proofs.Branches.{full_made, back_made}

@@ -1,6 +1,6 @@
 use Rattle.std.proofs.Common.{refl, sym}
-use Rattle.dg_interp.specs.Finding.{AsksPlaceAt}
-use Rattle.dg_interp.specs.Engine.{store_in, FailsAt}
+use Rattle.dg_interp.specs.inside.Finding.{AsksPlaceAt}
+use Rattle.dg_interp.specs.inside.Engine.{store_in, FailsAt}
 use Rattle.dg_interp.proofs.Places.{limits_here}
 use Rattle.dg_interp.proofs.Branches.{full_made, back_made}
 use Rattle.dg_interp.proofs.Findings.{asks_no_place}

@@ -1,6 +1,6 @@
 use Rattle.std.proofs.Common.{rules, refl, ap, arith, ◌≡◌, ◌-◌, length, length-append}
-use Rattle.dg_interp.specs.Engine.{store_in, FailsAt}
-use Rattle.dg_interp.specs.Querying.{QueriesAt}
+use Rattle.dg_interp.specs.inside.Engine.{store_in, FailsAt}
+use Rattle.dg_interp.specs.inside.Querying.{QueriesAt}
 use Rattle.dg_interp.proofs.Branches.{full_made, back_made}
 use Rattle.dg_interp.proofs.Places.{limits_here}
 use Rattle.dg_interp.proofs.Queries.{asks_nothing, built, body_full, entering_limits, entering_sound, enters_not, begins_body}

@@ -1,6 +1,6 @@
 use Rattle.std.proofs.Common.{refl, arith, ◌≤◌}
 use Rattle.dg_meaning.specs.Path.{Failing}
-use Rattle.dg_interp.specs.Engine.{FailsAt, store_in, branches_left}
+use Rattle.dg_interp.specs.inside.Engine.{FailsAt, store_in, branches_left}
 use Rattle.dg_interp.proofs.Places.{leads_nowhere, limits_here}
 use Rattle.dg_interp.proofs.Branches.{went_on_from, went_wrong_from, ended_from, full_from}
 use Rattle.dg_interp.proofs.engine.Engine.back.Goals as goal

@@ -1,4 +1,4 @@
-use Rattle.dg_interp.specs.Engine.{FailsAt, WentWrong, branches_left}
+use Rattle.dg_interp.specs.inside.Engine.{FailsAt, WentWrong, branches_left}
 use Rattle.std.proofs.Common.{◌≤◌}
 use Rattle.dg_interp.proofs.engine.Engine.back.Given as goal
 

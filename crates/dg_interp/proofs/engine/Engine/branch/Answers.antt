@@ -1,7 +1,7 @@
 use Rattle.std.proofs.Common.{rules, ◌≡◌, ◌∙◌, length}
 use Rattle.dg_base.specs.declared.program.Goal.TheVariants.{If}
 use Rattle.dg_interp.specs.declared.frames.Left.TheVariants.{Ways}
-use Rattle.dg_interp.specs.Engine.{store_in, TakesAt, OpensAt, IsPushed}
+use Rattle.dg_interp.specs.inside.Engine.{store_in, TakesAt, OpensAt, IsPushed}
 use Rattle.dg_interp.proofs.Branches.{full_made}
 use Rattle.dg_interp.proofs.Controls.{branches_made, pushed_room, twice, then_frame, test_frame, other_frame, branch_opens, branch_left}
 use Rattle.dg_interp.proofs.engine.Engine.branch.Goals as goal

@@ -1,7 +1,7 @@
 use Rattle.std.proofs.Common.{ap, sym, subst, ◌∙◌}
 use Rattle.std.specs.Prelude.{Ok}
 use Rattle.dg_base.specs.declared.program.Goal.TheVariants.{Now}
-use Rattle.dg_interp.specs.Engine.{TakesAt, FailsAt, LackAt, Branches, store_in}
+use Rattle.dg_interp.specs.inside.Engine.{TakesAt, FailsAt, LackAt, Branches, store_in}
 use Rattle.dg_interp.proofs.Changes.{now_held, made_hold, changed_ready, changed_limits, changed_left, changed_on, changed_not, changed_full}
 use Rattle.dg_interp.proofs.Giving.{written_full}
 use Rattle.dg_interp.proofs.Branches.{full_made, back_made}

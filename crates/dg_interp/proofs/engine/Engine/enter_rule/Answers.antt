@@ -1,5 +1,5 @@
-use Rattle.dg_interp.specs.Frames.{values_in}
-use Rattle.dg_interp.specs.Engine.{store_in}
+use Rattle.dg_interp.specs.inside.Frames.{values_in}
+use Rattle.dg_interp.specs.inside.Engine.{store_in}
 use Rattle.std.proofs.Common.{arith, length, take, drop, ◌-◌, ◌≡◌, rules}
 use Rattle.dg_interp.proofs.Turns.{first_and_rest}
 use Rattle.dg_interp.proofs.Begins.{keep_full, enter_full, rule_wrong, rule_begun}

@@ -1,6 +1,6 @@
 use Rattle.std.proofs.Common.{refl}
 use Rattle.dg_base.specs.declared.program.Goal.TheVariants.{Fail}
-use Rattle.dg_interp.specs.Engine.{store_in, FailsAt, TakesAt}
+use Rattle.dg_interp.specs.inside.Engine.{store_in, FailsAt, TakesAt}
 use Rattle.dg_interp.proofs.Places.{limits_here}
 use Rattle.dg_interp.proofs.Goals.{fails_taken}
 use Rattle.dg_interp.proofs.Branches.{full_made, back_made}

@@ -3,10 +3,10 @@ use Rattle.dg_base.specs.declared.cells.Simple.TheVariants as simple
 use Rattle.dg_unify.specs.Store.{Saved}
 use Rattle.dg_unify.specs.declared.bindings.Ref.{Ref}
 use Rattle.dg_world.specs.Tables.{simple_value}
-use Rattle.dg_interp.specs.Frames.{stretch}
-use Rattle.dg_interp.specs.Finding.{FindsAt}
-use Rattle.dg_interp.specs.Giving.{SolvesAt}
-use Rattle.dg_interp.specs.Engine.{store_in, KeepsPlaces}
+use Rattle.dg_interp.specs.inside.Frames.{stretch}
+use Rattle.dg_interp.specs.inside.Finding.{FindsAt}
+use Rattle.dg_interp.specs.inside.Giving.{SolvesAt}
+use Rattle.dg_interp.specs.inside.Engine.{store_in, KeepsPlaces}
 use Rattle.dg_unify.proofs.StoreLemmas.{kept_on}
 use Rattle.dg_interp.proofs.Giving.{kept_limits}
 use Rattle.dg_interp.proofs.Takes.{store_ready}

@@ -1,7 +1,7 @@
 use Rattle.std.proofs.Common.{◌∷◌, [], ap, ◌∙◌, refl}
-use Rattle.dg_interp.specs.Frames.{stretch}
-use Rattle.dg_interp.specs.Gathering.{gathering_goal, GathersAt}
-use Rattle.dg_interp.specs.Engine.{TakesAt}
+use Rattle.dg_interp.specs.inside.Frames.{stretch}
+use Rattle.dg_interp.specs.inside.Gathering.{gathering_goal, GathersAt}
+use Rattle.dg_interp.specs.inside.Engine.{TakesAt}
 use Rattle.dg_interp.proofs.Runs.{lack_from}
 use Rattle.dg_interp.proofs.Takes.{store_ready}
 use Rattle.dg_interp.proofs.Stores.{both_among}

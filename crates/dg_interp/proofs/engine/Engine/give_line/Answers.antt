@@ -1,10 +1,10 @@
 use Rattle.std.proofs.Common.{subst}
-use Rattle.dg_interp.specs.Engine.{store_in}
+use Rattle.dg_interp.specs.inside.Engine.{store_in}
 use Rattle.dg_meaning.specs.Words.{spelled_list, spellings_of}
 use Rattle.dg_meaning.specs.Copies.{copy_cells}
 use Rattle.dg_unify.specs.Store.{Made}
 use Rattle.dg_texts.specs.Spelling.{TooMany}
-use Rattle.dg_interp.specs.Wording.{words_in}
+use Rattle.dg_interp.specs.inside.Wording.{words_in}
 use Rattle.dg_interp.proofs.Takes.{store_ready}
 use Rattle.dg_interp.proofs.Wordings.{made_full, made_done, made_stops}
 use Rattle.dg_interp.proofs.engine.Engine.give_line.Goals as goal

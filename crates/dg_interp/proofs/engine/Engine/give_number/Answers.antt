@@ -1,6 +1,6 @@
 use Rattle.std.proofs.Common.{refl, subst, sym}
-use Rattle.dg_interp.specs.Engine.{store_in, FailsAt, Leads}
-use Rattle.dg_interp.specs.Giving.{GivesAt, UnifiesAt}
+use Rattle.dg_interp.specs.inside.Engine.{store_in, FailsAt, Leads}
+use Rattle.dg_interp.specs.inside.Giving.{GivesAt, UnifiesAt}
 use Rattle.dg_interp.proofs.Takes.{store_ready}
 use Rattle.dg_unify.proofs.StoreLemmas.{kept_holds}
 use Rattle.dg_unify.proofs.StoreLemmas.{holds_some}

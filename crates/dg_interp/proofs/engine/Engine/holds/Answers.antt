@@ -1,6 +1,6 @@
 use Rattle.dg_base.specs.declared.program.Goal.TheVariants.{Holds as HoldsGoal}
-use Rattle.dg_interp.specs.Finding.{AsksPlaceAt}
-use Rattle.dg_interp.specs.Engine.{store_in, TakesAt}
+use Rattle.dg_interp.specs.inside.Finding.{AsksPlaceAt}
+use Rattle.dg_interp.specs.inside.Engine.{store_in, TakesAt}
 use Rattle.dg_interp.proofs.Changes.{made_hold}
 use Rattle.dg_interp.proofs.Giving.{written_full, branches_made}
 use Rattle.dg_interp.proofs.Branches.{full_made}

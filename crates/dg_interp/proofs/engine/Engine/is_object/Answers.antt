@@ -1,7 +1,7 @@
 use Rattle.std.proofs.Common.{◌∷◌, [], None}
 use Rattle.dg_base.specs.declared.program.Goal.TheVariants.{IsObject}
-use Rattle.dg_interp.specs.Finding.{AsksObjectsAt}
-use Rattle.dg_interp.specs.Engine.{store_in, TakesAt}
+use Rattle.dg_interp.specs.inside.Finding.{AsksObjectsAt}
+use Rattle.dg_interp.specs.inside.Engine.{store_in, TakesAt}
 use Rattle.dg_interp.proofs.Changes.{made_hold}
 use Rattle.dg_interp.proofs.Giving.{written_full, branches_made}
 use Rattle.dg_interp.proofs.Branches.{full_made}

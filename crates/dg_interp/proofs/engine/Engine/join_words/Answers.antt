@@ -1,11 +1,11 @@
 use Rattle.std.proofs.Common.{◌≡◌, [], ◌∷◌, None, true, false, rules, refl, subst, ap, ◌∙◌}
 use Rattle.dg_base.specs.declared.program.Goal.TheVariants.{JoinWords}
 use Rattle.dg_meaning.specs.Words.{joined_letters, spelled_value}
-use Rattle.dg_interp.specs.Frames.{stretch}
+use Rattle.dg_interp.specs.inside.Frames.{stretch}
 use Rattle.dg_texts.specs.Printing.{value_at}
 use Rattle.dg_texts.specs.Spelling.{IsJoined}
-use Rattle.dg_interp.specs.Engine.{store_in, FailsAt, TakesAt}
-use Rattle.dg_interp.specs.Wording.{words_in, MakesAt}
+use Rattle.dg_interp.specs.inside.Engine.{store_in, FailsAt, TakesAt}
+use Rattle.dg_interp.specs.inside.Wording.{words_in, MakesAt}
 use Rattle.dg_interp.proofs.Takes.{store_sound, store_ready}
 use Rattle.dg_interp.proofs.Stores.{both_among}
 use Rattle.dg_interp.proofs.Giving.{kept_limits, written_full, branches_made}

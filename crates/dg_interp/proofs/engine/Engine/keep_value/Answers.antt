@@ -1,8 +1,8 @@
 use Rattle.std.proofs.Common.{ap, ◌∙◌}
 use Rattle.dg_unify.proofs.StoreLemmas.{holds_some}
-use Rattle.dg_interp.specs.Frames.{stretch}
-use Rattle.dg_interp.specs.Gathering.{KeepsAt}
-use Rattle.dg_interp.specs.Engine.{store_in}
+use Rattle.dg_interp.specs.inside.Frames.{stretch}
+use Rattle.dg_interp.specs.inside.Gathering.{KeepsAt}
+use Rattle.dg_interp.specs.inside.Engine.{store_in}
 use Rattle.dg_interp.proofs.Runs.{lack_from}
 use Rattle.dg_interp.proofs.Gathered.{nothing_full, var_among, keep_full, value_kept}
 use Rattle.dg_interp.proofs.engine.Engine.keep_value.Goals as goal

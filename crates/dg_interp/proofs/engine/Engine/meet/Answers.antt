@@ -1,4 +1,4 @@
-use Rattle.dg_interp.specs.Engine.{branches_left}
+use Rattle.dg_interp.specs.inside.Engine.{branches_left}
 use Rattle.dg_interp.proofs.Giving.{equation}
 use Rattle.dg_interp.proofs.TakingOut.{met, met_full, no_more}
 use Rattle.dg_interp.proofs.engine.Engine.meet.Goals as goal

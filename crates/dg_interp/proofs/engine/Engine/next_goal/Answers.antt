@@ -1,6 +1,6 @@
 use Rattle.dg_base.specs.declared.run.Ending.TheVariants.{Done}
 use Rattle.dg_meaning.specs.Path.{Failing, End}
-use Rattle.dg_interp.specs.Engine.{FailsAt, StandsAt, store_in}
+use Rattle.dg_interp.specs.inside.Engine.{FailsAt, StandsAt, store_in}
 use Rattle.dg_interp.proofs.Places.{went_nowhere, went_wrong}
 use Rattle.dg_interp.proofs.Runs.{lack_from}
 use Rattle.dg_interp.proofs.Gathered.{lacks_from}

@@ -1,4 +1,4 @@
-use Rattle.dg_interp.specs.Engine.{StandsAt, WentOn, branches_left}
+use Rattle.dg_interp.specs.inside.Engine.{StandsAt, WentOn, branches_left}
 use Rattle.dg_interp.proofs.engine.Engine.next_goal.Given as goal
 
 abbrev pub invariant-answers : goal.invariant-answers

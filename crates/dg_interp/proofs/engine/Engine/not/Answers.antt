@@ -1,6 +1,6 @@
 use Rattle.std.proofs.Common.{refl, arith}
 use Rattle.dg_base.specs.declared.program.Goal.TheVariants.{Not}
-use Rattle.dg_interp.specs.Engine.{store_in, TakesAt, OpensAt}
+use Rattle.dg_interp.specs.inside.Engine.{store_in, TakesAt, OpensAt}
 use Rattle.dg_interp.proofs.Branches.{full_made}
 use Rattle.dg_interp.proofs.Controls.{branches_made, not_opens}
 use Rattle.dg_interp.proofs.engine.Engine.not.Goals as goal

@@ -1,8 +1,8 @@
 use Rattle.std.proofs.Common.{rules, ◌≡◌, length, arith, ◌+◌}
 use Rattle.dg_base.specs.declared.program.Goal.TheVariants.{Once}
 use Rattle.dg_interp.specs.declared.frames.Mark.TheVariants.{CutTo}
-use Rattle.dg_interp.specs.Frames.{IsFrame}
-use Rattle.dg_interp.specs.Engine.{store_in, TakesAt}
+use Rattle.dg_interp.specs.inside.Frames.{IsFrame}
+use Rattle.dg_interp.specs.inside.Engine.{store_in, TakesAt}
 use Rattle.dg_interp.proofs.Branches.{full_from, went_on_from}
 use Rattle.dg_interp.proofs.Controls.{pushed_means, pushed_here, pushed_leads, pushed_room, stays, once_full, once_begun}
 use Rattle.dg_interp.proofs.engine.Engine.once.Goals as goal

@@ -1,5 +1,5 @@
 use Rattle.std.proofs.Common.{refl, ◌+◌}
-use Rattle.dg_interp.specs.Engine.{store_in, OpensAt, BeginsAt, FailsAt}
+use Rattle.dg_interp.specs.inside.Engine.{store_in, OpensAt, BeginsAt, FailsAt}
 use Rattle.dg_interp.proofs.Branches.{went_on_from, went_wrong_from, full_from, full_made, back_made}
 use Rattle.dg_interp.proofs.Opens.{opened_place, opened_limits, opened_sound, opens_begins}
 use Rattle.dg_interp.proofs.engine.Engine.open.Goals as goal

@@ -1,6 +1,6 @@
 use Rattle.std.proofs.Common.{rules, ◌≡◌, refl, length}
-use Rattle.dg_interp.specs.Engine.{store_in}
-use Rattle.dg_interp.specs.Gathering.{GathersAt}
+use Rattle.dg_interp.specs.inside.Engine.{store_in}
+use Rattle.dg_interp.specs.inside.Gathering.{GathersAt}
 use Rattle.dg_interp.proofs.Runs.{lack_from}
 use Rattle.dg_interp.proofs.Turns.{reverse_pop}
 use Rattle.dg_interp.proofs.GatherOpens.{open_full, cells_full, gathering_opened}

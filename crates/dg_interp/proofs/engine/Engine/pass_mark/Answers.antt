@@ -1,6 +1,6 @@
 use Rattle.std.proofs.Common.{refl}
-use Rattle.dg_interp.specs.Engine.{StandsAt}
-use Rattle.dg_interp.specs.Gathering.{KeepsAt}
+use Rattle.dg_interp.specs.inside.Engine.{StandsAt}
+use Rattle.dg_interp.specs.inside.Gathering.{KeepsAt}
 use Rattle.dg_interp.proofs.Places.{not_true, not_false, nothing_passed, answer_passed, cut_passed, tag_passed, refused, back_passed, part_left, marked_off, keep_ready, keep_leads, value_passed}
 use Rattle.dg_interp.proofs.Gathered.{lacks_from}
 use Rattle.dg_interp.proofs.engine.Engine.pass_mark.Goals as goal

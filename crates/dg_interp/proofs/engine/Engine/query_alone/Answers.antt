@@ -3,9 +3,9 @@ use Rattle.dg_base.specs.declared.program.Goal.TheVariants.{Query}
 use Rattle.dg_unify.specs.Store.{told}
 use Rattle.dg_unify.specs.declared.bindings.Ref.{Ref}
 use Rattle.dg_unify.proofs.StoreLemmas.{told_is}
-use Rattle.dg_interp.specs.Frames.{stretch}
-use Rattle.dg_interp.specs.Engine.{store_in, TakesAt}
-use Rattle.dg_interp.specs.Querying.{QueriesAt}
+use Rattle.dg_interp.specs.inside.Frames.{stretch}
+use Rattle.dg_interp.specs.inside.Engine.{store_in, TakesAt}
+use Rattle.dg_interp.specs.inside.Querying.{QueriesAt}
 use Rattle.dg_interp.proofs.Branches.{full_made}
 use Rattle.dg_interp.proofs.Controls.{branches_made}
 use Rattle.dg_interp.proofs.Queries.{asks, one_full, one_agrees, one_among}

@@ -1,9 +1,9 @@
 use Rattle.std.proofs.Common.{◌≡◌, [], ◌∷◌, refl, ap, ◌∙◌}
 use Rattle.dg_base.specs.declared.program.CoreProgram.{CoreProgram}
 use Rattle.dg_base.specs.declared.program.Goal.TheVariants.{Random}
-use Rattle.dg_interp.specs.Frames.{stretch}
-use Rattle.dg_interp.specs.Engine.{store_in, TakesAt}
-use Rattle.dg_interp.specs.Giving.{GivesAt}
+use Rattle.dg_interp.specs.inside.Frames.{stretch}
+use Rattle.dg_interp.specs.inside.Engine.{store_in, TakesAt}
+use Rattle.dg_interp.specs.inside.Giving.{GivesAt}
 use Rattle.dg_interp.proofs.Giving.{written_full, branches_made}
 use Rattle.dg_interp.proofs.Ariths.{three_among}
 use Rattle.dg_interp.proofs.Throws.{random_held, thrown_ready, thrown_limits, random_leads}

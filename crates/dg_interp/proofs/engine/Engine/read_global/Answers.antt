@@ -2,10 +2,10 @@ use Rattle.std.proofs.Common.{List, Option, Some, None, refl, drop}
 use Rattle.dg_meaning.specs.Facts.{Fact, value_at}
 use Rattle.dg_meaning.specs.Values.{Value}
 use Rattle.dg_unify.specs.Store.{Holds, told}
-use Rattle.dg_interp.specs.Giving.{UnifiesAt}
-use Rattle.dg_interp.specs.Finding.{made_values, ReadsAt}
+use Rattle.dg_interp.specs.inside.Giving.{UnifiesAt}
+use Rattle.dg_interp.specs.inside.Finding.{made_values, ReadsAt}
 use Rattle.dg_unify.proofs.StoreLemmas.{kept_holds}
-use Rattle.dg_interp.specs.Engine.{store_in, FailsAt}
+use Rattle.dg_interp.specs.inside.Engine.{store_in, FailsAt}
 use Rattle.dg_interp.proofs.Places.{limits_here}
 use Rattle.dg_interp.proofs.Giving.{kept_limits, branches_made}
 use Rattle.dg_interp.proofs.Branches.{full_made, back_made}

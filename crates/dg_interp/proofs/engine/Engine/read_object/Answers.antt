@@ -5,9 +5,9 @@ use Rattle.dg_meaning.specs.Changes.{found}
 use Rattle.dg_unify.specs.Store.{Holds}
 use Rattle.dg_unify.proofs.StoreLemmas.{holds_some, kept_holds}
 use Rattle.dg_world.specs.Tables.{simple_value}
-use Rattle.dg_interp.specs.Giving.{UnifiesAt}
-use Rattle.dg_interp.specs.Finding.{made_values, ReadsAt}
-use Rattle.dg_interp.specs.Engine.{store_in, FailsAt}
+use Rattle.dg_interp.specs.inside.Giving.{UnifiesAt}
+use Rattle.dg_interp.specs.inside.Finding.{made_values, ReadsAt}
+use Rattle.dg_interp.specs.inside.Engine.{store_in, FailsAt}
 use Rattle.dg_interp.proofs.Places.{limits_here}
 use Rattle.dg_interp.proofs.Giving.{kept_limits, branches_made}
 use Rattle.dg_interp.proofs.Branches.{full_made, back_made}

@@ -1,6 +1,6 @@
 use Rattle.std.proofs.Common.{refl, arith}
-use Rattle.dg_interp.specs.Frames.{left_in}
-use Rattle.dg_interp.specs.Engine.{FailsAt, BeginsAt, store_in}
+use Rattle.dg_interp.specs.inside.Frames.{left_in}
+use Rattle.dg_interp.specs.inside.Engine.{FailsAt, BeginsAt, store_in}
 use Rattle.dg_interp.proofs.Branches.{none_popped, popped_sound, popped_place, popped_limits, begins_popped, fewer_left, retried_from, full_from, popped_left, popped_stays, may_undo, part_retried}
 use Rattle.dg_interp.proofs.engine.Engine.retry.Goals as goal
 

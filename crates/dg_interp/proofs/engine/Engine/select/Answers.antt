@@ -3,7 +3,7 @@ use Rattle.dg_base.specs.declared.program.Goal.TheVariants.{Select}
 use Rattle.dg_built.specs.Built.{AreBuilt}
 use Rattle.dg_interp.specs.declared.engine.Engine.{Engine}
 use Rattle.dg_outside.specs.Outside.{picks_in, MayPick, PicksOne}
-use Rattle.dg_interp.specs.Engine.{TakesAt}
+use Rattle.dg_interp.specs.inside.Engine.{TakesAt}
 use Rattle.dg_interp.proofs.Branches.{went_on_from}
 use Rattle.dg_interp.proofs.Selects.{one_built, picked_on, select_goes}
 use Rattle.dg_interp.proofs.Controls.{pushed_means, pushed_here, pushed_leads, stays}

@@ -1,5 +1,5 @@
 use Rattle.std.proofs.Common.{arith, ◌≤◌, ◌∙◌}
-use Rattle.dg_interp.specs.Engine.{StandsAt, branches_left}
+use Rattle.dg_interp.specs.inside.Engine.{StandsAt, branches_left}
 use Rattle.dg_interp.proofs.Places.{went_nowhere, went_further, went_wrong, all_done}
 use Rattle.dg_interp.proofs.Gathered.{lacks_from}
 use Rattle.dg_interp.proofs.engine.Engine.settle.Goals as goal

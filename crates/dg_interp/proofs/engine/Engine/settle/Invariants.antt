@@ -1,5 +1,5 @@
 use Rattle.std.proofs.Common.{◌≤◌}
-use Rattle.dg_interp.specs.Engine.{StandsAt, WentOn, branches_left}
+use Rattle.dg_interp.specs.inside.Engine.{StandsAt, WentOn, branches_left}
 use Rattle.dg_interp.proofs.engine.Engine.settle.Given as goal
 
 abbrev pub invariant-loop-self : goal.invariant-loop-self

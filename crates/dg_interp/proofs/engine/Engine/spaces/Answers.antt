@@ -1,8 +1,8 @@
 use Rattle.std.proofs.Common.{[], ◌∷◌, refl, ap, ◌∙◌}
 use Rattle.dg_base.specs.declared.program.Goal.TheVariants.{GapN}
 use Rattle.dg_unify.proofs.StoreLemmas.{holds_some, walked_to}
-use Rattle.dg_interp.specs.Frames.{stretch}
-use Rattle.dg_interp.specs.Engine.{store_in}
+use Rattle.dg_interp.specs.inside.Frames.{stretch}
+use Rattle.dg_interp.specs.inside.Engine.{store_in}
 use Rattle.dg_interp.proofs.Values.{made_among}
 use Rattle.dg_interp.proofs.Giving.{written_full}
 use Rattle.dg_interp.proofs.Spaces.{spaces_held, spaces_told}

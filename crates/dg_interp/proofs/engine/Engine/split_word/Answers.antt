@@ -2,9 +2,9 @@ use Rattle.std.proofs.Common.{◌≡◌, [], ◌∷◌, Some, None, refl, sym, a
 use Rattle.dg_base.specs.declared.program.Goal.TheVariants.{SplitWord}
 use Rattle.dg_meaning.specs.Words.{letters_in_word, each_alone, spelled_list}
 use Rattle.dg_unify.proofs.StoreLemmas.{walked_to}
-use Rattle.dg_interp.specs.Frames.{stretch}
-use Rattle.dg_interp.specs.Engine.{store_in, FailsAt, TakesAt}
-use Rattle.dg_interp.specs.Wording.{words_in, MakesAt}
+use Rattle.dg_interp.specs.inside.Frames.{stretch}
+use Rattle.dg_interp.specs.inside.Engine.{store_in, FailsAt, TakesAt}
+use Rattle.dg_interp.specs.inside.Wording.{words_in, MakesAt}
 use Rattle.dg_interp.proofs.Takes.{store_sound, store_ready}
 use Rattle.dg_interp.proofs.Stores.{both_among}
 use Rattle.dg_interp.proofs.Giving.{kept_limits, written_full, branches_made}

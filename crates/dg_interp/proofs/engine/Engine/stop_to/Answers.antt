@@ -1,6 +1,6 @@
 use Rattle.dg_meaning.specs.Path.{End}
 use Rattle.dg_base.specs.declared.run.Ending.TheVariants.{Stopped}
-use Rattle.dg_interp.specs.Engine.{StopsAt}
+use Rattle.dg_interp.specs.inside.Engine.{StopsAt}
 use Rattle.dg_interp.proofs.Branches.{went_on_from, ended_from}
 use Rattle.dg_interp.proofs.Parts.{stops_nowhere, stops_later}
 use Rattle.dg_interp.proofs.engine.Engine.stop_to.Goals as goal

@@ -1,4 +1,4 @@
-use Rattle.dg_interp.specs.Engine.{StopsWithin, branches_left}
+use Rattle.dg_interp.specs.inside.Engine.{StopsWithin, branches_left}
 use Rattle.dg_interp.proofs.engine.Engine.stop_to.Given as goal
 
 abbrev pub invariant-choices : goal.invariant-choices

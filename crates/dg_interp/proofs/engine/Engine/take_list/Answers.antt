@@ -1,9 +1,9 @@
 use Rattle.std.proofs.Common.{◌-◌, subst, arith, refl}
 use Rattle.dg_interp.specs.declared.frames.Whole.TheVariants.{List as InList}
 use Rattle.dg_outside.specs.Outside.{Closes}
-use Rattle.dg_interp.specs.Giving.{UnifiesAt}
-use Rattle.dg_interp.specs.Gathering.{TakesOutAt}
-use Rattle.dg_interp.specs.Engine.{store_in}
+use Rattle.dg_interp.specs.inside.Giving.{UnifiesAt}
+use Rattle.dg_interp.specs.inside.Gathering.{TakesOutAt}
+use Rattle.dg_interp.specs.inside.Engine.{store_in}
 use Rattle.dg_unify.proofs.StoreLemmas.{kept_holds}
 use Rattle.dg_interp.proofs.Branches.{tries_made, full_made}
 use Rattle.dg_interp.proofs.TakingOut.{none_wrong, some_first, list_full, list_ready, list_limits, list_taken}

@@ -2,9 +2,9 @@ use Rattle.std.proofs.Common.{ap, ◌∙◌, refl}
 use Rattle.dg_unify.proofs.StoreLemmas.{holds_some}
 use Rattle.dg_interp.specs.declared.frames.Left.TheVariants.{TakeOut}
 use Rattle.dg_interp.specs.declared.frames.Whole.TheVariants.{List as InList, Sum as InSum}
-use Rattle.dg_interp.specs.Frames.{stretch}
-use Rattle.dg_interp.specs.Gathering.{TakesOutAt}
-use Rattle.dg_interp.specs.Engine.{store_in, BeginsAt}
+use Rattle.dg_interp.specs.inside.Frames.{stretch}
+use Rattle.dg_interp.specs.inside.Gathering.{TakesOutAt}
+use Rattle.dg_interp.specs.inside.Engine.{store_in, BeginsAt}
 use Rattle.dg_interp.proofs.Branches.{tries_made, full_made}
 use Rattle.dg_interp.proofs.Gathered.{nothing_full, var_among}
 use Rattle.dg_interp.proofs.TakingOut.{out_ready, out_limits, out_begins}

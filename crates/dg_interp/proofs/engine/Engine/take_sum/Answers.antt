@@ -2,9 +2,9 @@ use Rattle.std.proofs.Common.{◌-◌, subst, arith, refl, Some, None}
 use Rattle.dg_unify.proofs.StoreLemmas.{holds_some, kept_holds}
 use Rattle.dg_interp.specs.declared.frames.Whole.TheVariants.{Sum as InSum}
 use Rattle.dg_outside.specs.Outside.{Closes}
-use Rattle.dg_interp.specs.Giving.{UnifiesAt, GivesAt}
-use Rattle.dg_interp.specs.Gathering.{TakesOutAt}
-use Rattle.dg_interp.specs.Engine.{store_in, FailsAt, Leads}
+use Rattle.dg_interp.specs.inside.Giving.{UnifiesAt, GivesAt}
+use Rattle.dg_interp.specs.inside.Gathering.{TakesOutAt}
+use Rattle.dg_interp.specs.inside.Engine.{store_in, FailsAt, Leads}
 use Rattle.dg_interp.proofs.Takes.{store_ready}
 use Rattle.dg_interp.proofs.Places.{leads_on, limits_on}
 use Rattle.dg_interp.proofs.Giving.{kept_limits, none_given, number_given}

@@ -4,8 +4,8 @@ use Rattle.dg_meaning.specs.Values.{value_of}
 use Rattle.dg_meaning.specs.TypeTests.{passes}
 use Rattle.dg_unify.specs.Store.{Kept, Made, told}
 use Rattle.dg_base.specs.declared.program.Goal.TheVariants.{Test}
-use Rattle.dg_interp.specs.Frames.{stretch, values_in}
-use Rattle.dg_interp.specs.Engine.{store_in, FailsAt, TakesAt}
+use Rattle.dg_interp.specs.inside.Frames.{stretch, values_in}
+use Rattle.dg_interp.specs.inside.Engine.{store_in, FailsAt, TakesAt}
 use Rattle.dg_interp.proofs.Takes.{store_sound}
 use Rattle.dg_interp.proofs.Values.{grown_limits, test_full, test_passed, test_failed, made_among}
 use Rattle.dg_unify.proofs.StoreLemmas.{holds_some}

@@ -1,6 +1,6 @@
 use Rattle.std.proofs.Common.{◌≡◌, ◌++◌, refl, length, rules}
-use Rattle.dg_interp.specs.Finding.{TriesObjectsAt}
-use Rattle.dg_interp.specs.Engine.{store_in, FailsAt, OpensAt}
+use Rattle.dg_interp.specs.inside.Finding.{TriesObjectsAt}
+use Rattle.dg_interp.specs.inside.Engine.{store_in, FailsAt, OpensAt}
 use Rattle.dg_interp.proofs.Places.{limits_here}
 use Rattle.dg_interp.proofs.Giving.{branches_made}
 use Rattle.dg_interp.proofs.Branches.{full_made, back_made}

@@ -1,6 +1,6 @@
 use Rattle.std.proofs.Common.{refl}
-use Rattle.dg_interp.specs.Engine.{store_in, FailsAt}
-use Rattle.dg_interp.specs.Giving.{UnifiesAt}
+use Rattle.dg_interp.specs.inside.Engine.{store_in, FailsAt}
+use Rattle.dg_interp.specs.inside.Giving.{UnifiesAt}
 use Rattle.dg_interp.proofs.Takes.{store_sound}
 use Rattle.dg_interp.proofs.Giving.{equation, kept_limits, solved_full, solved_on, solved_fails}
 use Rattle.dg_interp.proofs.Branches.{full_made, back_made}

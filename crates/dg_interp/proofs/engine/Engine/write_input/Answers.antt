@@ -1,6 +1,6 @@
 use Rattle.std.proofs.Common.{ap, ◌∙◌, [], ◌∷◌}
 use Rattle.dg_base.specs.declared.program.Goal.TheVariants.{Input}
-use Rattle.dg_interp.specs.Frames.{stretch}
+use Rattle.dg_interp.specs.inside.Frames.{stretch}
 use Rattle.dg_interp.proofs.Branches.{match_ok, match_err}
 use Rattle.dg_interp.proofs.Values.{made_among}
 use Rattle.dg_interp.proofs.Giving.{written_full}

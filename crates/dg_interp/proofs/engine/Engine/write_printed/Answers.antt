@@ -1,5 +1,5 @@
 use Rattle.std.proofs.Common.{ap, ◌∙◌, []}
-use Rattle.dg_interp.specs.Frames.{stretch}
+use Rattle.dg_interp.specs.inside.Frames.{stretch}
 use Rattle.dg_interp.proofs.Branches.{match_ok, match_err}
 use Rattle.dg_interp.proofs.Values.{print_full, wrote_printed, made_among}
 use Rattle.dg_interp.proofs.engine.Engine.write_printed.Goals as goal

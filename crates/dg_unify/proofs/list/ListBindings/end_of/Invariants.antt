@@ -1,6 +1,6 @@
 use Rattle.std.proofs.Common.{◌≡◌}
 use Rattle.dg_meaning.specs.Substitutions.{walk, links}
-use Rattle.dg_unify.specs.Ends.{subst_in, TellsOf, told_in}
+use Rattle.dg_unify.specs.inside.Ends.{subst_in, TellsOf, told_in}
 use Rattle.dg_unify.specs.Listed.{fields_of}
 use Rattle.dg_unify.proofs.list.ListBindings.end_of.Given as goal
 

@@ -11,9 +11,9 @@ use Rattle.dg_meaning.specs.World.{Game, World}
 use Rattle.dg_unify.specs.Store.{told}
 use Rattle.dg_interp.specs.declared.engine.Engine.{Engine}
 use Rattle.dg_interp.specs.declared.frames.Env.{Env}
-use Rattle.dg_interp.specs.Engine.{Point, There, store_in, steps_of}
-use Rattle.dg_interp.specs.Frames.{values_in}
-use Rattle.dg_interp.specs.Giving.{ActsAt}
+use Rattle.dg_interp.specs.inside.Engine.{Point, There, store_in, steps_of}
+use Rattle.dg_interp.specs.inside.Frames.{values_in}
+use Rattle.dg_interp.specs.inside.Giving.{ActsAt}
 
 -- The run comes from what a goal does, of which the terms are written, in front of where the engine is.
 pub record EffectAt (effect : Game → List Step → Registers → World → Effect) (e : Engine) (g : Game) (n : ℕ) (w : World) (run : Run) : Type 0 where

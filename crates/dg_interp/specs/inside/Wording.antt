@@ -7,8 +7,8 @@ use Rattle.dg_meaning.specs.Moves.{gives, takes_line}
 use Rattle.dg_unify.specs.Store.{told, Holds}
 use Rattle.dg_unify.specs.declared.bindings.Ref.{Ref}
 use Rattle.dg_interp.specs.declared.engine.Engine.{Engine}
-use Rattle.dg_interp.specs.Engine.{Point, Leads, store_in, IsReady, SameLimits, TakesAt}
-use Rattle.dg_interp.specs.Giving.{ActsAt}
+use Rattle.dg_interp.specs.inside.Engine.{Point, Leads, store_in, IsReady, SameLimits, TakesAt}
+use Rattle.dg_interp.specs.inside.Giving.{ActsAt}
 use Rattle.dg_meaning.specs.Engines.{game}
 
 -- The words of an engine's program.

@@ -33,7 +33,7 @@ use Rattle.dg_machine.specs.Layout.{Roomy, Holds}
 use Rattle.dg_machine.specs.Seeking.{StatusSeeks}
 use Rattle.dg_machine.specs.Standing.{CodeIs, Stands, Around, HasOutside}
 use Rattle.dg_machine.specs.Measure.{left_of}
-use Rattle.dg_machine.specs.Reading.{IsEnd, LeftBehind, Gave, Failed}
+use Rattle.dg_machine.specs.inside.Reading.{IsEnd, LeftBehind, Gave, Failed}
 
 -- ## Steps
 

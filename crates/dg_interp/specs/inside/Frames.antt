@@ -12,7 +12,7 @@ use Rattle.dg_meaning.specs.Context.{Live, Way as WayOn, tags_of, cut_to, IsNewe
 use Rattle.dg_meaning.specs.Keeps.{open_at}
 use Rattle.dg_built.specs.Built.{AreBuilt, IsBuiltRule}
 use Rattle.dg_unify.specs.Store.{Store, Saved, told, Holds}
-use Rattle.dg_unify.specs.Engines.{Agrees, GoBackTo as GoBack}
+use Rattle.dg_unify.specs.inside.Engines.{Agrees, GoBackTo as GoBack}
 use Rattle.dg_unify.specs.declared.bindings.Ref.{Ref}
 use Rattle.dg_interp.specs.declared.frames.Env.{Env}
 use Rattle.dg_interp.specs.declared.frames.Mark.{Mark}
@@ -24,7 +24,7 @@ use Rattle.dg_interp.specs.declared.frames.Left.{Left}
 use Rattle.dg_interp.specs.declared.frames.Left.TheVariants.{Rules, Lists, Ways, Way, Behind, TakeOut, Things}
 use Rattle.dg_interp.specs.declared.frames.Choice.{Choice}
 use Rattle.dg_outside.specs.Finding.{may_find, counted}
-use Rattle.dg_interp.specs.Trying.{trial_branches}
+use Rattle.dg_interp.specs.inside.Trying.{trial_branches}
 
 -- ## Values
 

@@ -16,8 +16,8 @@ use Rattle.dg_unify.specs.declared.bindings.Ref.{Ref}
 use Rattle.dg_interp.specs.declared.frames.Whole.{Whole}
 use Rattle.dg_interp.specs.declared.frames.Whole.TheVariants.{List as InList, Sum}
 use Rattle.dg_interp.specs.declared.engine.Engine.{Engine}
-use Rattle.dg_interp.specs.Frames.{values_in, whole_of}
-use Rattle.dg_interp.specs.Engine.{There, store_in, open_in, steps_of}
+use Rattle.dg_interp.specs.inside.Frames.{values_in, whole_of}
+use Rattle.dg_interp.specs.inside.Engine.{There, store_in, open_in, steps_of}
 
 -- The run comes from the newest gathering, which is taken out and unified with what stands at a Ref, in front of where the engine is.
 pub record TakesOutAt (whole : Whole) (into : Ref) (e : Engine) (g : Game) (n : ℕ) (w : World) (run : Run) : Type 0 where

@@ -21,7 +21,7 @@ use Rattle.dg_meaning.specs.Keeps.{Stands, Failed, Finished, Tried, WentOn as Le
 use Rattle.dg_meaning.specs.Peaks.{Area, Heap, Trail, Aux, Keep, greatest, limit_of}
 use Rattle.dg_built.specs.Built.{IsBuilt, IsBuiltGoal, AreBuilt}
 use Rattle.dg_unify.specs.Store.{Store, Saved, Holds, told}
-use Rattle.dg_unify.specs.Engines.{Agrees, IsPlace as IsPlaceOf}
+use Rattle.dg_unify.specs.inside.Engines.{Agrees, IsPlace as IsPlaceOf}
 use Rattle.dg_unify.specs.Slots.{store_of, Stand}
 use Rattle.dg_unify.specs.Listed.{fields_of}
 use Rattle.dg_unify.specs.declared.bindings.Ref.{Ref}
@@ -41,7 +41,7 @@ use Rattle.dg_outside.specs.Lacks.{area_of}
 use Rattle.dg_outside.specs.Outside.{picks_in, InWorld, MayPick}
 use Rattle.dg_interp.specs.declared.engine.Settled.{Settled}
 use Rattle.dg_interp.specs.declared.engine.Settled.TheVariants as settled
-use Rattle.dg_interp.specs.Frames.{values_in, steps_at, kind_of, branches_of, AreChoices, IsFrame, AreFrames, StandOn, GoBackTo, lives_of, ways_of, noting, TakesNewest, all_left}
+use Rattle.dg_interp.specs.inside.Frames.{values_in, steps_at, kind_of, branches_of, AreChoices, IsFrame, AreFrames, StandOn, GoBackTo, lives_of, ways_of, noting, TakesNewest, all_left}
 
 -- ## What holds of an engine
 

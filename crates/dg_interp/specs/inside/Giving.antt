@@ -12,7 +12,7 @@ use Rattle.dg_meaning.specs.Keeps.{Went}
 use Rattle.dg_unify.specs.Store.{told}
 use Rattle.dg_unify.specs.declared.bindings.Ref.{Ref}
 use Rattle.dg_interp.specs.declared.engine.Engine.{Engine}
-use Rattle.dg_interp.specs.Engine.{Point, There, steps_of, store_in, IsReady, SameLimits, TakesAt, StandsAt, Then, WentWrong}
+use Rattle.dg_interp.specs.inside.Engine.{Point, There, steps_of, store_in, IsReady, SameLimits, TakesAt, StandsAt, Then, WentWrong}
 
 -- The run comes from an act, of which the terms are written, where the engine is.
 pub record ActsAt (act : Registers → World → Act) (e : Engine) (g : Game) (n : ℕ) (w : World) (run : Run) : Type 0 where

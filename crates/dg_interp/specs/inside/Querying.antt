@@ -10,7 +10,7 @@ use Rattle.dg_unify.specs.declared.bindings.Ref.{Ref}
 use Rattle.dg_interp.specs.declared.frames.Mark.{Mark}
 use Rattle.dg_interp.specs.declared.frames.Mark.TheVariants.{Nothing, CutTo}
 use Rattle.dg_interp.specs.declared.engine.Engine.{Engine}
-use Rattle.dg_interp.specs.Engine.{There, store_in, steps_of}
+use Rattle.dg_interp.specs.inside.Engine.{There, store_in, steps_of}
 
 -- The run comes from a query of the value at a Ref, with the arguments that were made last, in front of where the engine is.
 pub record QueriesAt (value : Ref) (many : Bool) (e : Engine) (g : Game) (n : ℕ) (w : World) (run : Run) : Type 0 where

@@ -19,7 +19,7 @@ use Rattle.dg_meaning.specs.Shows.{IsLeft}
 use Rattle.dg_base.specs.Written.{SinkView, Wrote, BrokeOff}
 use Rattle.dg_spacing.specs.Spacer.{StandsFor}
 use Rattle.dg_meaning.specs.Engines.{left_told}
-use Rattle.dg_interp.specs.Engine.{limit_in, IsReady, StandsAt, SameLimits}
+use Rattle.dg_interp.specs.inside.Engine.{limit_in, IsReady, StandsAt, SameLimits}
 
 -- Since the start the sink took the text of these things, and the spacer stands for them.
 pub record HasText (s : Spacer) (start now : SinkView) (es : List Print) : Type 0 where
