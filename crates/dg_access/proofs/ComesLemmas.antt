@@ -7,7 +7,7 @@ use Rattle.dg_base.specs.Tree.{Said, Item}
 use Rattle.dg_base.specs.Mentions.{Thing, topic_line, query, number, word, object, current_topic, unnamed, variable, word_choice, text, other, branches, select, closure, Mentions, of_said, things_in, mentioned}
 use Rattle.dg_base.specs.declared.mentions.Role.TheVariants as role
 use Rattle.dg_access.specs.Plain.{Setting}
-use Rattle.dg_access.specs.Items.{in_rule, in_declaration, plain_said, topic_behind, plain_items}
+use Rattle.dg_access.specs.Items.{rule_setting, in_declaration, plain_said, topic_behind, plain_items}
 use Rattle.dg_access.specs.Comes as comes
 use Rattle.dg_access.specs.Comes.{ComesFrom}
 use Rattle.dg_access.proofs.KeptLemmas.{from_all, to_all, all_front, all_back, TopicHolds, Carries, rule_kept, declaration_kept}
@@ -38,13 +38,13 @@ said_comes : (ts : List Thing) (t : Option (List ℕ)) (said : Said) → HasTopi
 said_comes ts t (tree.topic n) k h = All-weaker (Contains ts) (ComesFrom ts) comes.same (topic_line n ∷ []) h
 said_comes ts t (tree.rule ps b) k h =
     let said = tree.rule ps b in
-    to_all (ComesFrom ts) (of_said (plain_said t said)) (rule_kept (in_rule t said) (Contains ts) (ComesFrom ts) (carries ts (in_rule t said) k) role.Rule ps b refl (from_all (Contains ts) (of_said said) h))
+    to_all (ComesFrom ts) (of_said (plain_said t said)) (rule_kept (rule_setting t said) (Contains ts) (ComesFrom ts) (carries ts (rule_setting t said) k) role.Rule ps b refl (from_all (Contains ts) (of_said said) h))
 said_comes ts t (tree.deny ps b) k h =
     let said = tree.deny ps b in
-    to_all (ComesFrom ts) (of_said (plain_said t said)) (rule_kept (in_rule t said) (Contains ts) (ComesFrom ts) (carries ts (in_rule t said) k) role.Rule ps b refl (from_all (Contains ts) (of_said said) h))
+    to_all (ComesFrom ts) (of_said (plain_said t said)) (rule_kept (rule_setting t said) (Contains ts) (ComesFrom ts) (carries ts (rule_setting t said) k) role.Rule ps b refl (from_all (Contains ts) (of_said said) h))
 said_comes ts t (tree.access ps b) k h =
     let said = tree.access ps b in
-    to_all (ComesFrom ts) (of_said (plain_said t said)) (rule_kept (in_rule t said) (Contains ts) (ComesFrom ts) (carries ts (in_rule t said) k) role.Access ps b refl (from_all (Contains ts) (of_said said) h))
+    to_all (ComesFrom ts) (of_said (plain_said t said)) (rule_kept (rule_setting t said) (Contains ts) (ComesFrom ts) (carries ts (rule_setting t said) k) role.Access ps b refl (from_all (Contains ts) (of_said said) h))
 said_comes ts t (tree.global_variable ps) k h =
     let said = tree.global_variable ps in
     to_all (ComesFrom ts) (of_said (plain_said t said)) (declaration_kept (in_declaration t said) (Contains ts) (ComesFrom ts) (carries ts (in_declaration t said) k) role.Declared ps refl (from_all (Contains ts) (of_said said) h))

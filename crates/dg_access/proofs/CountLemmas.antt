@@ -4,7 +4,7 @@ use Rattle.dg_base.specs.Tree.{Item}
 use Rattle.dg_base.specs.Mentions.{Thing, things, weight_of}
 use Rattle.dg_base.proofs.MentionLemmas.{weight_append}
 use Rattle.dg_names.specs.Counts.{closures_at, selects_at}
-use Rattle.dg_access.specs.Counts.{rules_at, nodes_at, counted_of, counted_among, are_many}
+use Rattle.dg_access.specs.Counts.{thing_rules, nodes_at, counted_of, counted_among, are_over}
 use Rattle.dg_access.specs.Scopes.{Counted, counted, uncounted, counts_of, has_many}
 
 abbrev make : ℕ → ℕ → ℕ → ℕ → Counted
@@ -22,15 +22,15 @@ weight_on f k a b = omega (arith, weight_append f a b)
 
 pub counted_append : (a b : List Thing) (c : Counted) → counted (a ++ b) c ≡ counted b (counted a c)
 counted_append a b c = same_counts _ _ _ _ _ _ _ _
-    (weight_on rules_at c.rules a b) (weight_on closures_at c.closures a b) (weight_on selects_at c.selects a b) (weight_on nodes_at c.nodes a b)
+    (weight_on thing_rules c.rules a b) (weight_on closures_at c.closures a b) (weight_on selects_at c.selects a b) (weight_on nodes_at c.nodes a b)
 
 none_before : (k : ℕ) → 0 + k ≡ k
 none_before k = omega arith
 
-pub many_same : (is : List Item) → has_many (counts_of is) ≡ are_many is
+pub many_same : (is : List Item) → has_many (counts_of is) ≡ are_over is
 many_same is =
     ap has_many (same_counts _ _ _ _ _ _ _ _
-    (none_before (weight_of rules_at (counted_among is))) (none_before (weight_of closures_at (counted_among is)))
+    (none_before (weight_of thing_rules (counted_among is))) (none_before (weight_of closures_at (counted_among is)))
     (none_before (weight_of selects_at (counted_among is))) (none_before (weight_of nodes_at (counted_among is))))
 
 -- ---- several items more
@@ -49,5 +49,5 @@ counted_behind before is = sym (ap (λ (l : List Thing). counted l uncounted) (a
 pub counts_added : (c d : Counted) (before is : List Item) → d ≡ counted (counted_among is) c → c ≡ counts_of before → d ≡ counts_of (before ++ is)
 counts_added c d before is e f = e ∙ ap (counted (counted_among is)) f ∙ counted_behind before is
 
-pub passes_added : (c d : Counted) (before is : List Item) → d ≡ counted (counted_among is) c → c ≡ counts_of before → has_many d ≡ are_many (before ++ is)
+pub passes_added : (c d : Counted) (before is : List Item) → d ≡ counted (counted_among is) c → c ≡ counts_of before → has_many d ≡ are_over (before ++ is)
 passes_added c d before is e f = ap has_many (counts_added c d before is e f) ∙ many_same (before ++ is)

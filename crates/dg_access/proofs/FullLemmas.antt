@@ -35,7 +35,7 @@ closure_more all s inner ms =
     ap (λ (o : List Entry). add_all o (names_out all ms)) (merged_leaving all s (names_out all inner))
     ∙ sym (add_append s (leaving all (names_out all inner)) (names_out all ms))
 
-closure_full : (all : List (List ℕ)) (inner : Mentions) → spec.is_full all inner ≡ is_full (grown all [] inner)
+closure_full : (all : List (List ℕ)) (inner : Mentions) → spec.is_overfull all inner ≡ is_full (grown all [] inner)
 closure_full all inner = ap (nat_lt 64) (sym (as_many (names_out all inner)))
 
 -- ---- tests in a row
@@ -52,22 +52,22 @@ two_tests false true f false a r o on up = refl
 two_tests false false true g a r o on up = ap (λ (y : Bool). y || (a || r)) (sym (up refl))
 two_tests false false false g a r o on up = on refl
 
-passes_walk : (all : List (List ℕ)) (ms : Mentions) (s : List Entry) (outer : List (List Entry)) (rest : List Met) → is_full s ≡ false → passes (places_in all) (walk ms ++ rest) s outer ≡ (is_full (grown all s ms) || (list_any (spec.is_full all) (closures ms) || passes (places_in all) rest (grown all s ms) outer))
+passes_walk : (all : List (List ℕ)) (ms : Mentions) (s : List Entry) (outer : List (List Entry)) (rest : List Met) → is_full s ≡ false → passes (places_in all) (walk ms ++ rest) s outer ≡ (is_full (grown all s ms) || (list_any (spec.is_overfull all) (closures ms) || passes (places_in all) rest (grown all s ms) outer))
 passes_walk all nothing s outer rest e = ap (λ (b : Bool). b || passes (places_in all) rest s outer) (sym e)
 passes_walk all (thing (variable n) ms) s outer rest e =
-    one_test (is_full (after n s)) (is_full (grown all (after n s) ms)) (list_any (spec.is_full all) (closures ms)) (passes (places_in all) rest (grown all (after n s) ms) outer) (passes (places_in all) (walk ms ++ rest) (after n s) outer)
+    one_test (is_full (after n s)) (is_full (grown all (after n s) ms)) (list_any (spec.is_overfull all) (closures ms)) (passes (places_in all) rest (grown all (after n s) ms) outer) (passes (places_in all) (walk ms ++ rest) (after n s) outer)
     (passes_walk all ms (after n s) outer rest) (full_grown all (after n s) ms)
-    ∙ ap (λ (x : List Entry). is_full x || (list_any (spec.is_full all) (closures ms) || passes (places_in all) rest x outer)) (named_if s n (names_out all ms) (bytes_eq n (codes "_")))
+    ∙ ap (λ (x : List Entry). is_full x || (list_any (spec.is_overfull all) (closures ms) || passes (places_in all) rest x outer)) (named_if s n (names_out all ms) (bytes_eq n (codes "_")))
 passes_walk all (thing t ms) s outer rest e = passes_walk all ms s outer rest e
 passes_walk all (closed inner ms) s outer rest e =
-    let full = list_any (spec.is_full all) in
+    let full = list_any (spec.is_overfull all) in
     let s' : List Entry = merged (places_in all) s (grown all [] inner) in
     ap (λ (l : List Met). passes (places_in all) l [] (s ∷ outer)) (append_assoc (walk inner) (closes ∷ walk ms) rest)
     ∙ passes_walk all inner [] (s ∷ outer) (closes ∷ (walk ms ++ rest)) refl
     ∙ two_tests (is_full (grown all [] inner)) (full (closures inner)) (is_full s') (is_full (grown all s' ms)) (full (closures ms)) (passes (places_in all) rest (grown all s' ms) outer) (passes (places_in all) (walk ms ++ rest) s' outer) (passes_walk all ms s' outer rest) (full_grown all s' ms)
     ∙ ap (λ (b : Bool). is_full (grown all s' ms) || ((b || (full (closures inner) || full (closures ms))) || passes (places_in all) rest (grown all s' ms) outer)) (sym (closure_full all inner))
-    ∙ ap (λ (b : Bool). is_full (grown all s' ms) || ((spec.is_full all inner || b) || passes (places_in all) rest (grown all s' ms) outer)) (sym (list_any-append (spec.is_full all) (closures inner) (closures ms)))
-    ∙ ap (λ (x : List Entry). is_full x || ((spec.is_full all inner || full (closures inner ++ closures ms)) || passes (places_in all) rest x outer)) (closure_more all s inner ms)
+    ∙ ap (λ (b : Bool). is_full (grown all s' ms) || ((spec.is_overfull all inner || b) || passes (places_in all) rest (grown all s' ms) outer)) (sym (list_any-append (spec.is_overfull all) (closures inner) (closures ms)))
+    ∙ ap (λ (x : List Entry). is_full x || ((spec.is_overfull all inner || full (closures inner ++ closures ms)) || passes (places_in all) rest x outer)) (closure_more all s inner ms)
 
 nil_behind : (xs : List Met) → xs ++ [] ≡ xs
 nil_behind [] = refl
@@ -81,8 +81,8 @@ full_walk : (all : List (List ℕ)) (ms : Mentions) → passes (places_in all) (
 full_walk all ms =
     ap (λ (l : List Met). passes (places_in all) l [] []) (sym (nil_behind (walk ms)))
     ∙ passes_walk all ms [] [] [] refl
-    ∙ ap (λ (b : Bool). is_full (grown all [] ms) || b) (or_false (list_any (spec.is_full all) (closures ms)))
-    ∙ ap (λ (b : Bool). b || list_any (spec.is_full all) (closures ms)) (sym (closure_full all ms))
+    ∙ ap (λ (b : Bool). is_full (grown all [] ms) || b) (or_false (list_any (spec.is_overfull all) (closures ms)))
+    ∙ ap (λ (b : Bool). b || list_any (spec.is_overfull all) (closures ms)) (sym (closure_full all ms))
 
 -- ---- the same with the same totals
 

@@ -9,7 +9,7 @@ use Rattle.dg_base.specs.Mentions.{Thing, topic_line, query, number, word, objec
 use Rattle.dg_base.specs.declared.mentions.Role.{Role}
 use Rattle.dg_base.specs.declared.mentions.Role.TheVariants as role
 use Rattle.dg_access.specs.Plain.{Setting}
-use Rattle.dg_access.specs.Items.{in_rule, in_declaration, plain_said, topic_behind, plain_items}
+use Rattle.dg_access.specs.Items.{rule_setting, in_declaration, plain_said, topic_behind, plain_items}
 use Rattle.dg_access.specs.Comes.{is_free}
 use Rattle.dg_access.specs.Left.{is_left, is_nested, is_declaration, IsPlainSaid, ArePlain}
 use Rattle.dg_access.proofs.KeptLemmas.{Hold, to_all, is_same, TopicHolds, Carries, rule_kept, declaration_kept}
@@ -81,16 +81,16 @@ carries c = record {
     words_gone c (w ∷ ws) = All-cons (λ (u : List ℕ). Gone c (word u)) w ws refl (words_gone c ws)
 
 said_plain : (t : Option (List ℕ)) (said : Said) → IsPlainSaid t (plain_said t said)
-said_plain t (tree.topic n) = All-cons (Gone (in_rule t (tree.topic n))) (topic_line n) [] refl (All-nil (Gone (in_rule t (tree.topic n))))
+said_plain t (tree.topic n) = All-cons (Gone (rule_setting t (tree.topic n))) (topic_line n) [] refl (All-nil (Gone (rule_setting t (tree.topic n))))
 said_plain t (tree.rule ps b) =
     let said = tree.rule ps b in
-    to_all (Gone (in_rule t said)) (of_said (plain_said t said)) (rule_kept (in_rule t said) Any (Gone (in_rule t said)) (carries (in_rule t said)) role.Rule ps b refl (anything (of_said said)))
+    to_all (Gone (rule_setting t said)) (of_said (plain_said t said)) (rule_kept (rule_setting t said) Any (Gone (rule_setting t said)) (carries (rule_setting t said)) role.Rule ps b refl (anything (of_said said)))
 said_plain t (tree.deny ps b) =
     let said = tree.deny ps b in
-    to_all (Gone (in_rule t said)) (of_said (plain_said t said)) (rule_kept (in_rule t said) Any (Gone (in_rule t said)) (carries (in_rule t said)) role.Rule ps b refl (anything (of_said said)))
+    to_all (Gone (rule_setting t said)) (of_said (plain_said t said)) (rule_kept (rule_setting t said) Any (Gone (rule_setting t said)) (carries (rule_setting t said)) role.Rule ps b refl (anything (of_said said)))
 said_plain t (tree.access ps b) =
     let said = tree.access ps b in
-    to_all (Gone (in_rule t said)) (of_said (plain_said t said)) (rule_kept (in_rule t said) Any (Gone (in_rule t said)) (carries (in_rule t said)) role.Access ps b refl (anything (of_said said)))
+    to_all (Gone (rule_setting t said)) (of_said (plain_said t said)) (rule_kept (rule_setting t said) Any (Gone (rule_setting t said)) (carries (rule_setting t said)) role.Access ps b refl (anything (of_said said)))
 said_plain t (tree.global_variable ps) =
     let said = tree.global_variable ps in
     to_all (Gone (in_declaration t said)) (of_said (plain_said t said)) (declaration_kept (in_declaration t said) Any (Gone (in_declaration t said)) (carries (in_declaration t said)) role.Declared ps refl (anything (of_said said)))

@@ -33,16 +33,16 @@ names_out all (thing t ms) = counted_in t ++ names_out all ms
 names_out all (closed inner ms) = leaving all (names_out all inner) ++ names_out all ms
 
 -- How many variables a rule or a closure has, of all the names in its item: each name once.
-abbrev pub variables_of : List (List ℕ) → Mentions → ℕ
-variables_of all ms = length (firsts (names_out all ms))
+abbrev pub variables_among : List (List ℕ) → Mentions → ℕ
+variables_among all ms = length (firsts (names_out all ms))
 
 -- A rule or a closure with too many variables.
-abbrev pub is_full : List (List ℕ) → Mentions → Bool
-is_full all ms = nat_lt 64 (variables_of all ms)
+abbrev pub is_overfull : List (List ℕ) → Mentions → Bool
+is_overfull all ms = nat_lt 64 (variables_among all ms)
 
 -- Whether there are too many variables here, or in a closure within, of all the names in the item.
 abbrev pub is_full_at : List (List ℕ) → Mentions → Bool
-is_full_at all ms = is_full all ms || list_any (is_full all) (closures ms)
+is_full_at all ms = is_overfull all ms || list_any (is_overfull all) (closures ms)
 
 -- What is counted of a rewritten item: nothing of an access rule.
 abbrev pub counted_of : Said → Mentions
@@ -54,42 +54,42 @@ abbrev pub has_many_variables : Said → Bool
 has_many_variables said = is_full_at (names_in variable_in (things (counted_of said))) (counted_of said)
 
 -- The nodes of a head, or of a statement or a value that is a query. A declaration counts with the statement that it is.
-abbrev pub nodes_of : Role → ℕ
-nodes_of role.Rule = 1
-nodes_of role.Access = 1
-nodes_of role.Declared = 3
-nodes_of role.Asked = 2
-nodes_of role.AskedAll = 2
-nodes_of role.AskedNot = 2
-nodes_of (role.Changed set) = 1
-nodes_of role.Nested = 2
+abbrev pub role_nodes : Role → ℕ
+role_nodes role.Rule = 1
+role_nodes role.Access = 1
+role_nodes role.Declared = 3
+role_nodes role.Asked = 2
+role_nodes role.AskedAll = 2
+role_nodes role.AskedNot = 2
+role_nodes (role.Changed set) = 1
+role_nodes role.Nested = 2
 
 -- The nodes of one thing: each value, statement and head is one.
 abbrev pub nodes_at : Thing → ℕ
 nodes_at (topic_line n) = 0
-nodes_at (query r ps) = nodes_of r
+nodes_at (query r ps) = role_nodes r
 nodes_at (branches n) = 0
 nodes_at t = 1
 
 -- The queries of one thing.
-abbrev pub queries_of : Role → ℕ
-queries_of role.Asked = 1
-queries_of role.AskedAll = 1
-queries_of role.AskedNot = 1
-queries_of r = 0
+abbrev pub role_queries : Role → ℕ
+role_queries role.Asked = 1
+role_queries role.AskedAll = 1
+role_queries role.AskedNot = 1
+role_queries r = 0
 
 abbrev pub queries_at : Thing → ℕ
-queries_at (query r ps) = queries_of r
+queries_at (query r ps) = role_queries r
 queries_at t = 0
 
 -- A rule of either sign.
-abbrev pub rules_of : Role → ℕ
-rules_of role.Rule = 1
-rules_of r = 0
+abbrev pub role_rules : Role → ℕ
+role_rules role.Rule = 1
+role_rules r = 0
 
-abbrev pub rules_at : Thing → ℕ
-rules_at (query r ps) = rules_of r
-rules_at t = 0
+abbrev pub thing_rules : Thing → ℕ
+thing_rules (query r ps) = role_rules r
+thing_rules t = 0
 
 -- What is counted of these items.
 abbrev pub counted_among : List Item → List Thing
@@ -106,6 +106,6 @@ abbrev pub are_large : List Item → Bool
 are_large is = nat_lt 10000 (weight_of queries_at (counted_among is)) || any_has_many is
 
 -- A count in all passes its number: rules, closures, select sites or nodes.
-abbrev pub are_many : List Item → Bool
-are_many is = let ts = counted_among is in nat_lt 16000 (weight_of rules_at ts)
+abbrev pub are_over : List Item → Bool
+are_over is = let ts = counted_among is in nat_lt 16000 (weight_of thing_rules ts)
     || (nat_lt 16000 (weight_of closures_at ts) || (nat_lt 500 (weight_of selects_at ts) || nat_lt 2000000 (weight_of nodes_at ts)))

@@ -3,11 +3,11 @@ use Rattle.std.specs.Prelude.{◌≡◌, ◌≤◌, ℕ, List, false}
 use Rattle.std.specs.List.{All}
 use Rattle.dg_base.specs.Tree.{Said, Item}
 use Rattle.dg_base.specs.Mentions.{Mentions, things, closures, names_in, variable_in}
-use Rattle.dg_access.specs.Counts.{variables_of, counted_of, are_large}
+use Rattle.dg_access.specs.Counts.{variables_among, counted_of, are_large}
 
 -- At most 64 variables, of all the names in an item.
 abbrev pub AreFew : List (List ℕ) → Mentions → Type 0
-AreFew all ms = variables_of all ms ≤ 64
+AreFew all ms = variables_among all ms ≤ 64
 
 -- A rule and each closure in it has few variables.
 abbrev pub HasFewVariables : Said → Type 0

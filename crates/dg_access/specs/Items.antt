@@ -21,8 +21,8 @@ abbrev pub free_number : Said → ℕ
 free_number said = let names = names_in variable_in (things_in said) in first_free names 0 (length names)
 
 -- How the heads and bodies of an item are rewritten.
-abbrev pub in_rule : Option (List ℕ) → Said → Setting
-in_rule topic said = record { topic = topic; number = free_number said; declares = false }
+abbrev pub rule_setting : Option (List ℕ) → Said → Setting
+rule_setting topic said = record { topic = topic; number = free_number said; declares = false }
 
 -- How a declaration is rewritten.
 abbrev pub in_declaration : Option (List ℕ) → Said → Setting
@@ -31,9 +31,9 @@ in_declaration topic said = record { topic = topic; number = free_number said; d
 -- What an item says, with plain heads.
 abbrev pub plain_said : Option (List ℕ) → Said → Said
 plain_said t (tree.topic n) = tree.topic n
-plain_said t (tree.rule ps b) = tree.rule (plain_parts (in_rule t (tree.rule ps b)) 0 ps) (rule_body (in_rule t (tree.rule ps b)) ps b)
-plain_said t (tree.deny ps b) = tree.deny (plain_parts (in_rule t (tree.deny ps b)) 0 ps) (rule_body (in_rule t (tree.deny ps b)) ps b)
-plain_said t (tree.access ps b) = tree.access (plain_parts (in_rule t (tree.access ps b)) 0 ps) (rule_body (in_rule t (tree.access ps b)) ps b)
+plain_said t (tree.rule ps b) = tree.rule (plain_parts (rule_setting t (tree.rule ps b)) 0 ps) (rule_body (rule_setting t (tree.rule ps b)) ps b)
+plain_said t (tree.deny ps b) = tree.deny (plain_parts (rule_setting t (tree.deny ps b)) 0 ps) (rule_body (rule_setting t (tree.deny ps b)) ps b)
+plain_said t (tree.access ps b) = tree.access (plain_parts (rule_setting t (tree.access ps b)) 0 ps) (rule_body (rule_setting t (tree.access ps b)) ps b)
 plain_said t (tree.global_variable ps) = tree.global_variable (plain_parts (in_declaration t (tree.global_variable ps)) 0 ps)
 
 -- The topic behind an item.

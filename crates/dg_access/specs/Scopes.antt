@@ -5,7 +5,7 @@ use Rattle.dg_base.specs.Tree.{Item}
 use Rattle.dg_base.specs.Mentions.{Thing, variable, weight_of}
 use Rattle.dg_base.specs.Walk.{Met, met, opens, closes}
 use Rattle.dg_names.specs.Counts.{closures_at, selects_at}
-use Rattle.dg_access.specs.Counts.{is_unnamed, nodes_at, rules_at, counted_among}
+use Rattle.dg_access.specs.Counts.{is_unnamed, nodes_at, thing_rules, counted_among}
 
 -- ---- variables
 
@@ -63,7 +63,7 @@ pub record Counted : Type 0 where
 -- What is counted behind these mentions.
 abbrev pub counted : List Thing → Counted → Counted
 counted ts c = record {
-  rules = c.rules + weight_of rules_at ts;
+  rules = c.rules + weight_of thing_rules ts;
   closures = c.closures + weight_of closures_at ts;
   selects = c.selects + weight_of selects_at ts;
   nodes = c.nodes + weight_of nodes_at ts;

@@ -11,7 +11,7 @@ use Rattle.dg_access.specs.Plain as spec
 use Rattle.dg_base.specs.Mentions.{Thing}
 use Rattle.dg_base.specs.Walk.{Met}
 use Rattle.dg_names.specs.Counts.{closures_at, selects_at}
-use Rattle.dg_access.specs.Counts.{nodes_at, queries_at, rules_at}
+use Rattle.dg_access.specs.Counts.{nodes_at, queries_at, thing_rules}
 use Rattle.dg_access.specs.Scopes as scopes
 use Rattle.dg_access.specs.declared.setting.Setting.{Setting}
 use Rattle.dg_access.specs.declared.counts.Sort.{Sort}
@@ -44,7 +44,7 @@ weight_at sort.Node = nodes_at
 weight_at sort.Query = queries_at
 weight_at sort.Select = selects_at
 weight_at sort.Closure = closures_at
-weight_at sort.Rule = rules_at
+weight_at sort.Rule = thing_rules
 
 abbrev pub counts_view : Counts → scopes.Counted
 counts_view c = record { rules = c.rules; closures = c.closures; selects = c.selects; nodes = c.nodes }

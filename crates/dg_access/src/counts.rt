@@ -45,7 +45,7 @@ pub struct Counts {
 }
 
 fn nodes_of(role: Role) -> usize
-    ensures { result ≡ spec.nodes_of role }
+    ensures { result ≡ spec.role_nodes role }
 {
     match role {
         Role::Rule | Role::Access | Role::Changed(_) => 1,
@@ -191,7 +191,7 @@ pub fn uncounted() -> Counts
 /// its number there.
 pub fn add_items(alloc: Global, counts: &mut Counts, items: &[Item]) -> Result<bool, AllocError>
     ensures passes { (before : List tree.Item) → counts_view counts.old ≡ counts_of before → IfOk result (λ over. over
-        ≡ (spec.are_large (map item_view items.now) || spec.are_many (before ++ map item_view items.now))) }
+        ≡ (spec.are_large (map item_view items.now) || spec.are_over (before ++ map item_view items.now))) }
     ensures counted { (before : List tree.Item) → counts_view counts.old ≡ counts_of before → OnOk result (counts_view counts.new
         ≡ counts_of (before ++ map item_view items.now)) }
 {

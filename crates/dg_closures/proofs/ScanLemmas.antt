@@ -12,7 +12,7 @@ use Rattle.dg_access.specs.Counts.{times, is_unnamed, is_at_home, leaving, names
 use Rattle.dg_access.specs.Scopes.{Entry, stays}
 use Rattle.dg_access.proofs.EntryLemmas.{add_all, names, names_added, add_append, places_added, distinct_added, filter_names, kept_added, merged_leaving}
 use Rattle.dg_access.proofs.FullLemmas.{named_if}
-use Rattle.dg_closures.specs.Closures.{parameter, Layout, layout_by, behind, places_from, layouts_from, names_around, layouts_of}
+use Rattle.dg_closures.specs.Closures.{parameter, Layout, layout_by, behind_closure, places_from, layouts_from, names_around, layouts_of}
 use Rattle.dg_closures.specs.inside.Scanning.{Open, Scan, blank, start, with_name, captured_of, own_of, layout_by_entries, step, scanned}
 
 abbrev times_in : List (List ℕ) → List ℕ → ℕ
@@ -83,7 +83,7 @@ closed_named (o ∷ outer) all inner ms = refl
 as_many : (all : List (List ℕ)) (k : ℕ) (ms : Mentions) → length (layouts_from all k ms) ≡ length (closures ms)
 as_many all k nothing = refl
 as_many all k (thing t ms) = as_many all k ms
-as_many all k (closed inner ms) = omega (arith, length-append (layouts_from all (k + 1) inner) (layouts_from all (behind k inner) ms), length-append (closures inner) (closures ms), as_many all (k + 1) inner, as_many all (behind k inner) ms)
+as_many all k (closed inner ms) = omega (arith, length-append (layouts_from all (k + 1) inner) (layouts_from all (behind_closure k inner) ms), length-append (closures inner) (closures ms), as_many all (k + 1) inner, as_many all (behind_closure k inner) ms)
 
 one_longer : (ls : List Layout) (l : Layout) → length (ls ++ l ∷ []) ≡ length ls + 1
 one_longer ls l = length-append ls (l ∷ [])
@@ -126,15 +126,15 @@ walked all (closed inner ms) rest es ps at outer ls =
     let within = layouts_from all (length ls + 1) inner in
     let here : List Layout = ls ++ l ∷ within in
     let around : Open = record { entries = es; places = ps ++ length ls ∷ []; at = at } in
-    let far : length here ≡ behind (length ls) inner = omega (arith, length-append ls (l ∷ within), as_many all (length ls + 1) inner) in
+    let far : length here ≡ behind_closure (length ls) inner = omega (arith, length-append ls (l ∷ within), as_many all (length ls + 1) inner) in
     ap (λ (x : List Met). scanned total x (known [] [] (length ls) (around ∷ outer) (ls ++ blank ∷ []))) (append_assoc (walk inner) (closes ∷ walk ms) rest)
     ∙ walked all inner (closes ∷ (walk ms ++ rest)) [] [] (length ls) (around ∷ outer) (ls ++ blank ∷ [])
     ∙ ap (scanned total (walk ms ++ rest)) (ended_is all inner es ps at outer ls)
     ∙ walked all ms rest (add_all es (leaving all ns)) (ps ++ length ls ∷ []) at outer here
     ∙ ap (λ (x : List Entry). scanned total rest (known x ((ps ++ length ls ∷ []) ++ places_from (length here) ms) at outer (here ++ layouts_from all (length here) ms))) (sym (add_append es (leaving all ns) (names_by outer all ms)) ∙ ap (add_all es) (closed_named outer all inner ms))
     ∙ ap (λ (k : ℕ). scanned total rest (known (add_all es (names_by outer all (closed inner ms))) ((ps ++ length ls ∷ []) ++ places_from k ms) at outer (here ++ layouts_from all k ms))) far
-    ∙ ap (λ (x : List ℕ). scanned total rest (known (add_all es (names_by outer all (closed inner ms))) x at outer (here ++ layouts_from all (behind (length ls) inner) ms))) (append_assoc ps (length ls ∷ []) (places_from (behind (length ls) inner) ms))
-    ∙ ap (λ (x : List Layout). scanned total rest (known (add_all es (names_by outer all (closed inner ms))) (ps ++ places_from (length ls) (closed inner ms)) at outer x)) (append_assoc ls (l ∷ within) (layouts_from all (behind (length ls) inner) ms))
+    ∙ ap (λ (x : List ℕ). scanned total rest (known (add_all es (names_by outer all (closed inner ms))) x at outer (here ++ layouts_from all (behind_closure (length ls) inner) ms))) (append_assoc ps (length ls ∷ []) (places_from (behind_closure (length ls) inner) ms))
+    ∙ ap (λ (x : List Layout). scanned total rest (known (add_all es (names_by outer all (closed inner ms))) (ps ++ places_from (length ls) (closed inner ms)) at outer x)) (append_assoc ls (l ∷ within) (layouts_from all (behind_closure (length ls) inner) ms))
 
 -- behind a whole item
 pub all_walked : (all : List (List ℕ)) (ms : Mentions) → scanned (times_in all) (walk ms) start ≡ known (add_all [] (names_around all ms)) (places_from 0 ms) 0 [] (layouts_from all 0 ms)

@@ -11,7 +11,7 @@ use Rattle.dg_names.specs.Named.{firsts}
 use Rattle.dg_names.proofs.MemberLemmas.{firsts_are, first_there, later_there}
 use Rattle.dg_access.specs.Counts.{is_at_home, leaving, names_out}
 use Rattle.dg_access.specs.Few.{AreFew}
-use Rattle.dg_closures.specs.Closures.{parameter, layout_by, variables_in, behind, places_from, layouts_from, names_around, layouts_of}
+use Rattle.dg_closures.specs.Closures.{parameter, layout_by, variables_in, behind_closure, places_from, layouts_from, names_around, layouts_of}
 use Rattle.dg_closures.specs.Held.{Within, Holds, IsSmall, AllAreSmall, RuleIsSmall}
 
 -- ---- names that a test lets through
@@ -66,11 +66,11 @@ all_small all k (thing t ms) few = all_small all k ms few
 all_small all k (closed inner ms) few =
     let here = All-head (AreFew all) inner _ few in
     let rest = All-tail (AreFew all) inner _ few in
-    All-cons IsSmall (layout_by all (names_out all inner) (places_from (k + 1) inner)) (layouts_from all (k + 1) inner ++ layouts_from all (behind k inner) ms)
+    All-cons IsSmall (layout_by all (names_out all inner) (places_from (k + 1) inner)) (layouts_from all (k + 1) inner ++ layouts_from all (behind_closure k inner) ms)
     (omega (arith, as_many all (names_out all inner) (places_from (k + 1) inner), here))
-    (All-append IsSmall (layouts_from all (k + 1) inner) (layouts_from all (behind k inner) ms)
+    (All-append IsSmall (layouts_from all (k + 1) inner) (layouts_from all (behind_closure k inner) ms)
     (all_small all (k + 1) inner (front (closures inner) (closures ms) rest))
-    (all_small all (behind k inner) ms (back (closures inner) (closures ms) rest)))
+    (all_small all (behind_closure k inner) ms (back (closures inner) (closures ms) rest)))
   where
     front : (xs ys : List Mentions) → All (AreFew all) (xs ++ ys) → All (AreFew all) xs
     front [] ys h = All-nil (AreFew all)

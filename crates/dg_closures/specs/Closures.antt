@@ -10,14 +10,14 @@ abbrev pub parameter : List ℕ
 parameter = codes "_"
 
 -- The place behind a closure at this place: those within it follow it.
-abbrev pub behind : ℕ → Mentions → ℕ
-behind k inner = k + 1 + length (closures inner)
+abbrev pub behind_closure : ℕ → Mentions → ℕ
+behind_closure k inner = k + 1 + length (closures inner)
 
 -- The places of the closures that stand here and in no other closure, the first being at this place.
 abbrev pub places_from : ℕ → Mentions → List ℕ
 places_from k nothing = []
 places_from k (thing t ms) = places_from k ms
-places_from k (closed inner ms) = k ∷ places_from (behind k inner) ms
+places_from k (closed inner ms) = k ∷ places_from (behind_closure k inner) ms
 
 -- What a closure captures, what it has by itself, and the places of the closures that stand directly in it.
 pub record Layout : Type 0 where
@@ -44,7 +44,7 @@ abbrev pub layouts_from : List (List ℕ) → ℕ → Mentions → List Layout
 layouts_from all k nothing = []
 layouts_from all k (thing t ms) = layouts_from all k ms
 layouts_from all k (closed inner ms) =
-    layout_by all (names_out all inner) (places_from (k + 1) inner) ∷ (layouts_from all (k + 1) inner ++ layouts_from all (behind k inner) ms)
+    layout_by all (names_out all inner) (places_from (k + 1) inner) ∷ (layouts_from all (k + 1) inner ++ layouts_from all (behind_closure k inner) ms)
 
 -- The names that stand in a rule: outside its closures, or captured by one.
 abbrev pub names_around : List (List ℕ) → Mentions → List (List ℕ)

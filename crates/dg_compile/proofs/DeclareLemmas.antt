@@ -18,8 +18,8 @@ use Rattle.dg_base.specs.declared.names.Builtin.{Builtin}
 use Rattle.dg_core.specs.Core.{is_unset}
 use Rattle.dg_core.specs.Given.{IsSet, AreSet, MayStart}
 use Rattle.dg_core.specs.Matches.{IsPlain, ArePlain}
-use Rattle.dg_core.specs.Places.{values_in}
-use Rattle.dg_expand.specs.Expanded.{signed, rules_of, stay, put_said, on_line, put_item, put_items}
+use Rattle.dg_core.specs.Places.{head_values}
+use Rattle.dg_expand.specs.Expanded.{signed_rule, head_rules, stay, put_said, on_line, put_item, put_items}
 use Rattle.dg_expand.specs.Put.{Access, Level, in_item, level, put_value, put_values, put_parts}
 use Rattle.dg_reader.specs.Declarations.{is_star, begins_with_topic, IsDeclaration, AreDeclarations}
 use Rattle.dg_reader.specs.Heads.{has_value, is_constant, are_constants, is_start, has_one_start}
@@ -29,8 +29,8 @@ use Rattle.dg_compile.proofs.Never.{never}
 -- what an item declares isn't built in, and has one value, which may be declared
 pub record IsStart (ps : Parts) : Type 0 where
   pub other : builtin_named (name_of ps) ≡ None
-  pub one : length (values_in ps) ≡ 1
-  pub value : MayStart (values_in ps)
+  pub one : length (head_values ps) ≡ 1
+  pub value : MayStart (head_values ps)
 
 abbrev pub IsDeclared : Said → Type 0
 IsDeclared (tree.global_variable ps) = IsStart ps
@@ -84,15 +84,15 @@ start_stays t said l n m tree.current_topic e has = let both = topic_set t l m (
 start_stays t said l n m tree.anonymous e has = (λ u. never (sym u), (tt, tt))
 start_stays t said l n m v e has = let both = constant_stays (in_declaration t said) l n m v e in (λ u. both.0, both.1)
 
-no_values : (c : Setting) (l : Level) (n m : ℕ) (ps : Parts) → not (has_value ps) ≡ true → (values_in (put_parts l in_item m (plain_parts c n ps)).0 ≡ []) × ArePlain (of_parts false (plain_parts c n ps))
+no_values : (c : Setting) (l : Level) (n m : ℕ) (ps : Parts) → not (has_value ps) ≡ true → (head_values (put_parts l in_item m (plain_parts c n ps)).0 ≡ []) × ArePlain (of_parts false (plain_parts c n ps))
 no_values c l n m tree.no_parts e = (refl, tt)
 no_values c l n m (tree.part (tree.part_word w) ps) e = no_values c l (n + 0) m ps e
 no_values c l n m (tree.part (tree.part_value v) ps) e = never e
 
 -- one value stands among parts, which may be declared once access rules are put in, and no query
 record HasStart (l : Level) (m : ℕ) (ps : Parts) : Type 0 where
-  one : length (values_in (put_parts l in_item m ps).0) ≡ 1
-  value : MayStart (values_in (put_parts l in_item m ps).0)
+  one : length (head_values (put_parts l in_item m ps).0) ≡ 1
+  value : MayStart (head_values (put_parts l in_item m ps).0)
   plain : ArePlain (of_parts false ps)
 
 one_start : (t : Option (List ℕ)) (said : Said) (l : Level) (n m : ℕ) (ps : Parts) → has_one_start ps ≡ true → (begins_with_topic ps ≡ true → HasTopic t) → HasStart l m (plain_parts (in_declaration t said) n ps)
@@ -126,14 +126,14 @@ declared_stays keeps t said ps before has h =
       value = start.value;
     }
 
-signed_declares : (set : Bool) (ps : Parts) (b : Body) → IsDeclared (signed set ps b)
+signed_declares : (set : Bool) (ps : Parts) (b : Body) → IsDeclared (signed_rule set ps b)
 signed_declares true ps b = tt
 signed_declares false ps b = tt
 
-rules_declare : (line : ℕ) (heads : Changes) (b : Body) → AreDeclared (on_line line (rules_of heads b))
+rules_declare : (line : ℕ) (heads : Changes) (b : Body) → AreDeclared (on_line line (head_rules heads b))
 rules_declare line tree.no_changes b = All-nil (λ (i : Item). IsDeclared i.said)
 rules_declare line (tree.change ps set heads) b =
-    All-cons (λ (i : Item). IsDeclared i.said) (record { line = line; said = signed set ps b }) (on_line line (rules_of heads b)) (signed_declares set ps b) (rules_declare line heads b)
+    All-cons (λ (i : Item). IsDeclared i.said) (record { line = line; said = signed_rule set ps b }) (on_line line (head_rules heads b)) (signed_declares set ps b) (rules_declare line heads b)
 
 one_declares : (line : ℕ) (said : Said) → IsDeclared said → AreDeclared (on_line line (said ∷ []))
 one_declares line said h = All-cons (λ (i : Item). IsDeclared i.said) (record { line = line; said = said }) [] h (All-nil (λ (i : Item). IsDeclared i.said))

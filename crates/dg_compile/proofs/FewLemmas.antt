@@ -21,9 +21,9 @@ use Rattle.dg_base.specs.declared.names.Builtin.{Builtin}
 use Rattle.dg_base.specs.declared.names.Builtin.TheVariants as built_in
 use Rattle.dg_core.specs.Given.{IsFit, IsFitItem, closures_among}
 use Rattle.dg_core.specs.Matches.{IsPlain, ArePlain}
-use Rattle.dg_core.specs.Places.{parent_name, declaration_in, declarations, changed_in, place_names, values_in}
+use Rattle.dg_core.specs.Places.{parent_name, declaration_in, declarations, changed_in, place_names, head_values}
 use Rattle.dg_expand.specs.Expanded as expanded
-use Rattle.dg_expand.specs.Expanded.{is_fixed, is_closed, is_bad}
+use Rattle.dg_expand.specs.Expanded.{is_kept_builtin, is_closed, is_misplaced}
 use Rattle.dg_expand.specs.Put.{Access, rule_for}
 use Rattle.dg_names.specs.Among.{AreFirsts, HasPred, IsAmong}
 use Rattle.dg_names.specs.Counts.{closures_at}
@@ -40,10 +40,10 @@ FirstsAreNames = (names : List (List ℕ)) → AreFirsts names (firsts names)
 
 -- what is changed isn't built in, but for the place of parents, and has at most two values
 abbrev pub IsChangeable : Thing → Type 0
-IsChangeable (query (role.Changed set) ps) = (is_fixed (builtin_named (name_of ps)) ≡ false) × (length (values_in ps) ≤ 2)
+IsChangeable (query (role.Changed set) ps) = (is_kept_builtin (builtin_named (name_of ps)) ≡ false) × (length (head_values ps) ≤ 2)
 IsChangeable t = Unit {0}
 
-counted : (ps : Parts) → length (values_in ps) ≡ expanded.values_in ps
+counted : (ps : Parts) → length (head_values ps) ≡ expanded.count_values ps
 counted tree.no_parts = refl
 counted (tree.part (tree.part_word w) ps) = counted ps
 counted (tree.part (tree.part_value v) ps) = omega (arith, counted ps)
@@ -51,11 +51,11 @@ counted (tree.part (tree.part_value v) ps) = omega (arith, counted ps)
 at_most_two : (n m : ℕ) → nat_lt 2 m ≡ false → n ≡ m → n ≤ 2
 at_most_two n m e k = let low : m ≤ 2 = grind (arith, nat_tests, e) in omega (arith, low, k)
 
-changeable : (rules : List Access) (t : Thing) → is_bad rules t ≡ false → IsChangeable t
+changeable : (rules : List Access) (t : Thing) → is_misplaced rules t ≡ false → IsChangeable t
 changeable rules (query (role.Changed set) ps) e =
-    let each = or_parts (is_closed rules ps) (nat_lt 2 (expanded.values_in ps)) e in
-    let named = or_parts (is_fixed (builtin_named (name_of ps))) (name_among (name_of ps) prelude_names || is_some (rule_for rules ps)) each.0 in
-    (named.0, at_most_two (length (values_in ps)) (expanded.values_in ps) each.1 (counted ps))
+    let each = or_parts (is_closed rules ps) (nat_lt 2 (expanded.count_values ps)) e in
+    let named = or_parts (is_kept_builtin (builtin_named (name_of ps))) (name_among (name_of ps) prelude_names || is_some (rule_for rules ps)) each.0 in
+    (named.0, at_most_two (length (head_values ps)) (expanded.count_values ps) each.1 (counted ps))
 changeable rules t e = tt
 
 -- what is known of a thing that a program's tree mentions
@@ -65,7 +65,7 @@ pub record IsReady (d : Named) (t : Thing) : Type 0 where
   pub plain : IsPlain t
   pub changeable : IsChangeable t
 
-pub all_ready : (d : Named) (rules : List Access) (ts : List Thing) → All (IsPlainKnown d) ts → All (λ (t : Thing). is_bad rules t ≡ false) ts → All (IsReady d) ts
+pub all_ready : (d : Named) (rules : List Access) (ts : List Thing) → All (IsPlainKnown d) ts → All (λ (t : Thing). is_misplaced rules t ≡ false) ts → All (IsReady d) ts
 all_ready d rules ts h none = λ k e lt.
     let known = h k e lt in
     record { among = known.0; select = known.1; plain = known.2; changeable = changeable rules _ (none k e lt) }
@@ -158,7 +158,7 @@ parent_among n (b ∷ bs) a e =
         let named = subst (λ (x : Builtin). is_parent_named m x ≡ true) is a in
         sym ((bytes_decides m n).0 q) ∙ (bytes_decides m parent_name).0 named
 
-parent_alone : (n : List ℕ) (o : Option Builtin) → builtin_named n ≡ o → is_some o ≡ true → is_fixed o ≡ false → n ≡ parent_name
+parent_alone : (n : List ℕ) (o : Option Builtin) → builtin_named n ≡ o → is_some o ≡ true → is_kept_builtin o ≡ false → n ≡ parent_name
 parent_alone n None e s f = never s
 parent_alone n (Some built_in.HasParent) e s f = parent_among n builtins refl e
 parent_alone n (Some b) e s f = never (sym f)
@@ -167,7 +167,7 @@ parent_alone n (Some b) e s f = never (sym f)
 abbrev IsPlaced : Named → List ℕ → Type 0
 IsPlaced d n = Contains (parent_name ∷ d.preds) n
 
-name_placed : (d : Named) (n : List ℕ) (o : Option Builtin) → builtin_named n ≡ o → HasPred d n o → is_fixed o ≡ false → IsPlaced d n
+name_placed : (d : Named) (n : List ℕ) (o : Option Builtin) → builtin_named n ≡ o → HasPred d n o → is_kept_builtin o ≡ false → IsPlaced d n
 name_placed d n None e h f = Contains-append_right (parent_name ∷ []) d.preds n h
 name_placed d n (Some b) e h f = (0, omega arith, sym (parent_alone n (Some b) e refl f))
 
@@ -194,7 +194,7 @@ all_changed d (t ∷ ts) n r h =
 
 one_declared : (d : Named) (said : Said) (n : List ℕ) → AreReady d (things_in said) → IsDeclared said → Contains (map name_of (declaration_in said)) n → IsPlaced d n
 one_declared d (tree.global_variable ps) n r e h =
-    subst (IsPlaced d) (only (name_of ps) n h) (name_placed d (name_of ps) (builtin_named (name_of ps)) refl (r (query role.Declared ps) (0, omega arith, refl)).among (ap is_fixed e.other))
+    subst (IsPlaced d) (only (name_of ps) n h) (name_placed d (name_of ps) (builtin_named (name_of ps)) refl (r (query role.Declared ps) (0, omega arith, refl)).among (ap is_kept_builtin e.other))
 one_declared d (tree.topic w) n r e h = nowhere n h
 one_declared d (tree.rule ps b) n r e h = nowhere n h
 one_declared d (tree.deny ps b) n r e h = nowhere n h

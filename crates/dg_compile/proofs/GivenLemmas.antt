@@ -14,19 +14,19 @@ use Rattle.dg_access.specs.Comes.{MentionsComeFrom}
 use Rattle.dg_access.specs.Few.{HasFewVariables, SmallAreFew}
 use Rattle.dg_access.specs.Items.{plain_items}
 use Rattle.dg_access.specs.Left.{IsPlain}
-use Rattle.dg_core.specs.Core.{core_of, refusal_of}
+use Rattle.dg_core.specs.Core.{core_of, core_refusal}
 use Rattle.dg_core.specs.Given.{IsGiven}
-use Rattle.dg_core.specs.Places.{placed_of, first_bad}
+use Rattle.dg_core.specs.Places.{placed_of, first_bad_start}
 use Rattle.dg_expand.specs.Answer.{IsRewritten}
 use Rattle.dg_expand.specs.Comes.{MentionsArePut}
-use Rattle.dg_expand.specs.Expanded.{access_rules, is_bad, put_items}
+use Rattle.dg_expand.specs.Expanded.{access_rules, is_misplaced, put_items}
 use Rattle.dg_lex.specs.Bad as lexing
 use Rattle.dg_lex.specs.Spelled.{IsSpelledToken}
 use Rattle.dg_lex.specs.Tokens.{IsLexed, Seen, seen}
 use Rattle.dg_lex.specs.declared.token.Token.{Token}
 use Rattle.dg_names.specs.Among.{HasPred, IsAmong, IsSmall, ArePrintable, AreFew}
 use Rattle.dg_names.specs.Counts.{closures_at, IsNamed}
-use Rattle.dg_names.specs.Named.{Named, firsts, predicate_in, word_in, names_of}
+use Rattle.dg_names.specs.Named.{Named, firsts, predicate_in, thing_words, names_of}
 use Rattle.dg_reader.specs.Declarations.{AreDeclarations}
 use Rattle.dg_reader.specs.Read.{IsRead}
 use Rattle.dg_compile.specs.Source.{refused, given, all_names, with_prelude, Compiles}
@@ -39,7 +39,7 @@ use Rattle.dg_compile.proofs.PreludeLemmas.{four_names, prelude_items, prelude_r
 
 -- what the layers say of the tokens, the items and the names of a source, and of its program
 pub record Laws : Type 0 where
-  pub spelled : (source : List ℕ) (ts : List Token) → lexing.refusal_of source ≡ None → IsLexed source ts → All IsSpelledToken (map seen ts)
+  pub spelled : (source : List ℕ) (ts : List Token) → lexing.lex_refusal source ≡ None → IsLexed source ts → All IsSpelledToken (map seen ts)
   pub readable : (ts : List Seen) (is : List Item) → All IsSpelledToken ts → IsRead ts (Ok is) → All IsReadable (mentioned is)
   pub printable : (is : List Item) → All IsReadable (mentioned is) → ArePrintable (names_of is)
   pub among : (is : List Item) → All IsReadable (mentioned is) → All (IsAmong (names_of is)) (mentioned is)
@@ -52,10 +52,10 @@ pub record Laws : Type 0 where
   pub put : (is : List Item) → MentionsArePut is
   pub keeps : KeepsNames
   pub declared : (ts : List Seen) (is : List Item) → IsRead ts (Ok is) → AreDeclarations false is
-  pub changes : (is new : List Item) → IsRewritten is (Ok new) → All (λ t. is_bad (access_rules (plain_items None is)) t ≡ false) (mentioned new)
+  pub changes : (is new : List Item) → IsRewritten is (Ok new) → All (λ t. is_misplaced (access_rules (plain_items None is)) t ≡ false) (mentioned new)
   pub variables : (is new : List Item) → IsRewritten is (Ok new) → All (λ (i : Item). HasFewVariables i.said) new
   pub closures : (is new : List Item) → IsRewritten is (Ok new) → weight_of closures_at (mentioned new) ≤ 16000
-  pub sound : (names : Named) (is : List Item) → IsGiven names is → refusal_of is (first_bad (placed_of is) [] is) ≡ None → IsSound (core_of names is)
+  pub sound : (names : Named) (is : List Item) → IsGiven names is → core_refusal is (first_bad_start (placed_of is) [] is) ≡ None → IsSound (core_of names is)
   pub prelude : All IsName prelude_names
 
 -- names that a source has are among those of the program too
@@ -140,14 +140,14 @@ taken_given laws is taken =
       preds = preds_given laws is names.preds;
       objects = names.objects;
       words = names.words;
-      words_differ = (laws.firsts (names_in word_in (mentioned is))).differ;
+      words_differ = (laws.firsts (names_in thing_words (mentioned is))).differ;
       few_preds = omega (arith, few_preds);
       few_objects = omega (arith, few.objects);
       few_words = omega (arith, few.words);
     }
 
 -- a tree and its names are given that come from a source which is accepted
-source_given : Laws → (source : List ℕ) (tokens : List Token) (is : List Item) (named : Named) (new : List Item) → lexing.refusal_of source ≡ None → IsLexed source tokens → IsRead (map seen tokens) (Ok is) → IsNamed is (Ok named) → IsRewritten is (Ok new) → IsGiven (all_names is) (with_prelude new)
+source_given : Laws → (source : List ℕ) (tokens : List Token) (is : List Item) (named : Named) (new : List Item) → lexing.lex_refusal source ≡ None → IsLexed source tokens → IsRead (map seen tokens) (Ok is) → IsNamed is (Ok named) → IsRewritten is (Ok new) → IsGiven (all_names is) (with_prelude new)
 source_given laws source tokens is named new accepted lexed read n w =
     subst (λ (l : List Item). IsGiven (all_names is) (with_prelude l)) (sym w.1.1)
     (taken_given laws is (record {

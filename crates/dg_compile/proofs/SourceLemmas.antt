@@ -9,7 +9,7 @@ use Rattle.dg_base.specs.declared.refusal.ReadFault.{ReadFault}
 use Rattle.dg_base.specs.declared.refusal.ReadFault.TheVariants as fault
 use Rattle.dg_base.specs.declared.refusal.Refusal.{Refusal}
 use Rattle.dg_base.specs.declared.refusal.Kind.TheVariants.{SourceTooLong}
-use Rattle.dg_lex.specs.Bad.{refusal_of}
+use Rattle.dg_lex.specs.Bad.{lex_refusal}
 use Rattle.dg_lex.specs.Tokens.{IsLexed, Seen, seen}
 use Rattle.dg_lex.specs.declared.token.Token.{Token}
 use Rattle.dg_reader.specs.Read.{IsRead}
@@ -62,7 +62,7 @@ compiles_one source lexed read named rewritten =
 
 -- ## From the calls to the answer
 
-pub lexed_of : (source : List ℕ) (f : ReadFault) → (f ≡ fault.OutOfMemory) ⊎ ((r : Refusal) × (refusal_of source ≡ Some r) × (f ≡ fault.Refused r)) → IsFault (λ r. Lexes source (Err r)) f
+pub lexed_of : (source : List ℕ) (f : ReadFault) → (f ≡ fault.OutOfMemory) ⊎ ((r : Refusal) × (lex_refusal source ≡ Some r) × (f ≡ fault.Refused r)) → IsFault (λ r. Lexes source (Err r)) f
 lexed_of source f (inl e) = rw e tt
 lexed_of source f (inr h) = rw h.2 h.1
 

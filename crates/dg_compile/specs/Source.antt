@@ -8,7 +8,7 @@ use Rattle.dg_base.specs.declared.refusal.Refusal.{Refusal}
 use Rattle.dg_base.specs.declared.refusal.ReadFault.{ReadFault}
 use Rattle.dg_base.specs.declared.refusal.ReadFault.TheVariants as fault
 use Rattle.dg_base.specs.declared.refusal.Kind.{Kind}
-use Rattle.dg_lex.specs.Bad.{refusal_of}
+use Rattle.dg_lex.specs.Bad.{lex_refusal}
 use Rattle.dg_lex.specs.Tokens.{IsLexed, Seen, seen}
 use Rattle.dg_lex.specs.declared.token.Token.{Token}
 use Rattle.dg_reader.specs.Read.{IsRead}
@@ -29,8 +29,8 @@ refusal_at kind line = record { kind = kind; line = line }
 
 -- a source is refused as too long or for a bad character, or these are its tokens
 abbrev pub Lexes : List ℕ → Result (List Seen) Refusal → Type 0
-Lexes source (Ok ts) = (refusal_of source ≡ None) × (tokens : List Token) × IsLexed source tokens × (ts ≡ map seen tokens)
-Lexes source (Err r) = refusal_of source ≡ Some r
+Lexes source (Ok ts) = (lex_refusal source ≡ None) × (tokens : List Token) × IsLexed source tokens × (ts ≡ map seen tokens)
+Lexes source (Err r) = lex_refusal source ≡ Some r
 
 -- The names of a source, with those of the prelude that don't stand in it behind its predicates.
 abbrev pub all_names : List Item → Named

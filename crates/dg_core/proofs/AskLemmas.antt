@@ -18,9 +18,9 @@ use Rattle.dg_base.specs.declared.program.Pred.{Pred}
 use Rattle.dg_base.specs.declared.program.Rule.{Rule}
 use Rattle.dg_base.specs.declared.program.Term.{Term}
 use Rattle.dg_names.specs.Named.{Named}
-use Rattle.dg_core.specs.Core.{Before, outside, scope_of, rule_of, failing, rules_in, behind_item, none_before, rules_from, pred_of, place_of, without_facts, with_rules, entry_name, core_of}
+use Rattle.dg_core.specs.Core.{Before, outer_scope, scope_of, rule_of, failing, rules_of_item, behind_item, none_before, rules_from, pred_of, core_place, without_facts, with_rules, entry_name, core_of}
 use Rattle.dg_core.specs.Given.{IsGiven}
-use Rattle.dg_core.specs.Goals.{Scope, or_zero, in_16_bits, number_in, terms_of}
+use Rattle.dg_core.specs.Goals.{Scope, place_or_zero, in_16_bits, number_in, terms_of}
 use Rattle.dg_core.specs.Places.{is_among, values_named, declarations, place_names, placed_of}
 use Rattle.dg_core.proofs.FitLemmas.{kind_wants}
 use Rattle.dg_core.proofs.HeadLemmas.{terms_counted}
@@ -45,7 +45,7 @@ pub numbered : (n : List ℕ) (ms : List (List ℕ)) → Contains ms n → lengt
 numbered n ms there few =
     let place = place_if n ms (position (bytes_eq n) ms) refl there in
     let found = position-Some (bytes_eq n) ms place.0 n place.1 in
-    let number : number_in ms n ≡ place.0 = ap (λ (o : Option ℕ). in_16_bits (or_zero o)) place.1 ∙ small place.0 (omega (arith, found.0, few)) in
+    let number : number_in ms n ≡ place.0 = ap (λ (o : Option ℕ). in_16_bits (place_or_zero o)) place.1 ∙ small place.0 (omega (arith, found.0, few)) in
     ap (slice_get ms) number
     ∙ slice_get-get_or ms place.0 n found.0
     ∙ ap (λ (m : List ℕ). Some m) (sym ((bytes_decides n (get_or ms place.0 n)).0 found.1))
@@ -61,7 +61,7 @@ one_rule around n name ps b behind true e =
     All-cons (HasValues name) (rule_of around n ps b behind) [] (terms_counted (scope_of around n.closures ps b) ps ∙ ap values_named ((bytes_decides (name_of ps) name).0 e)) (All-nil (HasValues name))
 one_rule around n name ps b behind false e = All-nil (HasValues name)
 
-item_rules : (around : Scope) (n : Before) (name : List ℕ) (said : Said) → All (HasValues name) (rules_in around n name said)
+item_rules : (around : Scope) (n : Before) (name : List ℕ) (said : Said) → All (HasValues name) (rules_of_item around n name said)
 item_rules around n name (rule ps b) = one_rule around n name ps b [] (bytes_eq (name_of ps) name) refl
 item_rules around n name (deny ps b) = one_rule around n name ps b failing (bytes_eq (name_of ps) name) refl
 item_rules around n name (topic w) = All-nil (HasValues name)
@@ -71,7 +71,7 @@ item_rules around n name (global_variable ps) = All-nil (HasValues name)
 all_rules : (around : Scope) (n : Before) (name : List ℕ) (is : List Item) → All (HasValues name) (rules_from around n name is)
 all_rules around n name [] = All-nil (HasValues name)
 all_rules around n name (i ∷ is) =
-    All-append (HasValues name) (rules_in around n name i.said) (rules_from around (behind_item n i.said) name is) (item_rules around n name i.said) (all_rules around (behind_item n i.said) name is)
+    All-append (HasValues name) (rules_of_item around n name i.said) (rules_from around (behind_item n i.said) name is) (item_rules around n name i.said) (all_rules around (behind_item n i.said) name is)
 
 kept : (name : List ℕ) (b : Bool) (rs : List Rule) → All (HasValues name) rs → All (HasValues name) (if b then [] else rs)
 kept name true rs h = All-nil (HasValues name)
@@ -79,15 +79,15 @@ kept name false rs h = h
 
 -- the predicate of a name in the program
 abbrev pred_in : Named → List Item → List ℕ → Pred
-pred_in names items n = without_facts (place_names items) (pred_of (outside names items) items n)
+pred_in names items n = without_facts (place_names items) (pred_of (outer_scope names items) items n)
 
 pred_rules : (names : Named) (items : List Item) (n : List ℕ) → All (HasValues n) (pred_in names items n).rules
-pred_rules names items n = kept n (is_among n (place_names items)) (rules_from (outside names items) none_before n items) (all_rules (outside names items) none_before n items)
+pred_rules names items n = kept n (is_among n (place_names items)) (rules_from (outer_scope names items) none_before n items) (all_rules (outer_scope names items) none_before n items)
 
 pred_at : (names : Named) (items : List Item) (n : List ℕ) → Contains names.preds n → length names.preds ≤ 65535 → slice_get (core_of names items).preds (number_in names.preds n) ≡ Some (pred_in names items n)
 pred_at names items n there few =
-    slice_get-map (without_facts (place_names items)) (map (pred_of (outside names items) items) names.preds) (number_in names.preds n)
-    ∙ ap (option_map (without_facts (place_names items))) (slice_get-map (pred_of (outside names items) items) names.preds (number_in names.preds n) ∙ ap (option_map (pred_of (outside names items) items)) (numbered n names.preds there few))
+    slice_get-map (without_facts (place_names items)) (map (pred_of (outer_scope names items) items) names.preds) (number_in names.preds n)
+    ∙ ap (option_map (without_facts (place_names items))) (slice_get-map (pred_of (outer_scope names items) items) names.preds (number_in names.preds n) ∙ ap (option_map (pred_of (outer_scope names items) items)) (numbered n names.preds there few))
 
 -- ---- queries and the entry
 
@@ -110,7 +110,7 @@ entry_fits names items there few =
 
 -- the place of a name in the program
 abbrev pub place_in : Named → List Item → List ℕ → Place
-place_in names items n = place_of (outside names items) (placed_of items) (declarations items) (with_rules names items).preds n
+place_in names items n = core_place (outer_scope names items) (placed_of items) (declarations items) (with_rules names items).preds n
 
 place_at : (names : Named) (items : List Item) (n : List ℕ) → Contains (place_names items) n → length (place_names items) ≤ 65535 → slice_get (core_of names items).places (number_in (place_names items) n) ≡ Some (place_in names items n)
 place_at names items n there few =

@@ -6,7 +6,7 @@ use Rattle.dg_base.specs.Tree.{Parts, changes_of}
 use Rattle.dg_base.specs.TreeView.{change_view}
 use Rattle.dg_base.specs.declared.program.Goal.{Goal}
 use Rattle.dg_base.specs.declared.tree.NowChange.{NowChange}
-use Rattle.dg_core.specs.Bodies.{Closed, no_closure, join, direct, in_parts, in_changes}
+use Rattle.dg_core.specs.Bodies.{Closed, no_closure, joined_closures, direct, in_parts, in_changes}
 use Rattle.dg_core.specs.Goals.{Scope, at, past, change_goals}
 use Rattle.dg_core.proofs.BodyLemmas.{found_past, found_join, join_none}
 

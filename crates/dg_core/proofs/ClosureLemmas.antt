@@ -19,17 +19,17 @@ use Rattle.dg_base.specs.declared.program.Term.TheOpen as top
 use Rattle.dg_base.specs.declared.program.Term.TheVariants as term
 use Rattle.dg_names.specs.Among.{IsAmong}
 use Rattle.dg_names.specs.Named.{Named}
-use Rattle.dg_closures.specs.Closures.{Layout, variables_in, places_from, behind, layouts_from}
+use Rattle.dg_closures.specs.Closures.{Layout, variables_in, places_from, behind_closure, layouts_from}
 use Rattle.dg_closures.specs.Held.{Holds, IsSmall}
 use Rattle.dg_closures.proofs.VariableLemmas.{all_held, all_small, rule_small}
 use Rattle.dg_core.specs.Bodies.{Closed, no_closure, a_closure}
-use Rattle.dg_core.specs.Core.{Before, outside, closures_of, numbered, rows_in, behind_rows, rows_from, all_selects, inner_selects, behind_rules, core_of}
+use Rattle.dg_core.specs.Core.{Before, outer_scope, closures_of, numbered, rows_in, behind_rows, rows_from, all_selects, inner_selects, behind_rules, core_of}
 use Rattle.dg_core.specs.Given.{IsFit, IsFitRule, IsFitItem, closures_among, IsGiven}
-use Rattle.dg_core.specs.Goals.{Scope, in_16_bits, number_in, selects}
+use Rattle.dg_core.specs.Goals.{Scope, in_16_bits, number_in, count_selects}
 use Rattle.dg_core.specs.Matches.{Matches}
 use Rattle.dg_core.specs.Places.{place_names}
-use Rattle.dg_core.specs.Rows.{selects_within, Home, row_with, scope_in, captured_in, in_rule, names_of, rows_of, AreCaught}
-use Rattle.dg_core.specs.Variables.{layouts_in, variables_of}
+use Rattle.dg_core.specs.Rows.{selects_within, Home, row_with, scope_in, captured_in, closures_in_rule, names_of, closure_rows, AreCaught}
+use Rattle.dg_core.specs.Variables.{layouts_in, rule_variables}
 use Rattle.dg_core.proofs.AskLemmas.{small, query_fits, place_fits, parents_fit}
 use Rattle.dg_core.proofs.GoalLemmas.{body_made}
 use Rattle.dg_core.proofs.HoldLemmas.{Hold, all_front, all_behind}
@@ -80,7 +80,7 @@ numbered_closures (tree.deny ps b) = omega (arith, layouts_counted (names_of ps 
 numbered_closures (tree.access ps b) = omega arith
 numbered_closures (tree.global_variable ps) = omega arith
 
-rule_numbered : (around : Scope) (first n : ℕ) (ps : Parts) (b : Body) → IsFitRule ps b → length (rows_of around first n ps b) ≡ length (layouts_in ps b).closures
+rule_numbered : (around : Scope) (first n : ℕ) (ps : Parts) (b : Body) → IsFitRule ps b → length (closure_rows around first n ps b) ≡ length (layouts_in ps b).closures
 rule_numbered around first n ps b fit = rule_counted around first n ps b fit.plain ∙ sym (layouts_counted (names_of ps b) 0 (of_rule role.Rule ps b))
 
 item_numbered : (around : Scope) (n : Before) (said : Said) → IsFitItem said → length (rows_in around n said) ≡ numbered said
@@ -102,7 +102,7 @@ rows_among around n (i ∷ is) fit =
     )
 
 pub few_closures : (names : Named) (items : List Item) → IsGiven names items → length (core_of names items).closures ≤ 65535
-few_closures names items g = let few : length (rows_from (outside names items) (behind_rules items) items) ≤ 65535 = omega (arith, rows_among (outside names items) (behind_rules items) items g.items, g.few_closures) in few
+few_closures names items g = let few : length (rows_from (outer_scope names items) (behind_rules items) items) ≤ 65535 = omega (arith, rows_among (outer_scope names items) (behind_rules items) items g.items, g.few_closures) in few
 
 -- ---- each item's closures have their rows
 
@@ -110,7 +110,7 @@ few_closures names items g = let few : length (rows_from (outside names items) (
 pub record IsRuleKnown (names : Named) (items : List Item) (first : ℕ) (ps : Parts) (b : Body) : Type 0 where
   pub asked : Asked names (place_names items) (things (of_rule role.Rule ps b))
   pub fit : IsFitRule ps b
-  pub caught : AreCaught (core_of names items).closures (names_of ps b) (variables_of ps b) first (of_rule role.Rule ps b)
+  pub caught : AreCaught (core_of names items).closures (names_of ps b) (rule_variables ps b) first (of_rule role.Rule ps b)
 
 abbrev pub IsItemKnown : Named → List Item → ℕ → Said → Type 0
 IsItemKnown names items first (tree.rule ps b) = IsRuleKnown names items first ps b
@@ -124,26 +124,26 @@ AreItemsKnown names items first (i ∷ is) = IsItemKnown names items first i.sai
 laws : Laws
 laws = record { held = all_held; closures = all_small; rules = rule_small }
 
-rule_known : (names : Named) (items : List Item) (n : Before) (ps : Parts) (b : Body) (pre post : List ClosureBody) → Asked names (place_names items) (things (of_rule role.Rule ps b)) → IsFitRule ps b → length pre ≡ n.closures → (core_of names items).closures ≡ pre ++ (rows_of (outside names items) n.closures n.selects ps b ++ post) → IsRuleKnown names items n.closures ps b
+rule_known : (names : Named) (items : List Item) (n : Before) (ps : Parts) (b : Body) (pre post : List ClosureBody) → Asked names (place_names items) (things (of_rule role.Rule ps b)) → IsFitRule ps b → length pre ≡ n.closures → (core_of names items).closures ≡ pre ++ (closure_rows (outer_scope names items) n.closures n.selects ps b ++ post) → IsRuleKnown names items n.closures ps b
 rule_known names items n ps b pre post a fit counted e = record {
   asked = a;
   fit = fit;
-  caught = subst (λ (rs : List ClosureBody). AreCaught rs (names_of ps b) (variables_of ps b) n.closures (of_rule role.Rule ps b)) (sym e)
-      (subst (λ (k : ℕ). AreCaught (pre ++ (rows_of (outside names items) n.closures n.selects ps b ++ post)) (names_of ps b) (variables_of ps b) k (of_rule role.Rule ps b)) counted
-      (rule_caught_among laws (outside names items) n.closures n.selects ps b pre post fit.plain fit.few));
+  caught = subst (λ (rs : List ClosureBody). AreCaught rs (names_of ps b) (rule_variables ps b) n.closures (of_rule role.Rule ps b)) (sym e)
+      (subst (λ (k : ℕ). AreCaught (pre ++ (closure_rows (outer_scope names items) n.closures n.selects ps b ++ post)) (names_of ps b) (rule_variables ps b) k (of_rule role.Rule ps b)) counted
+      (rule_caught_among laws (outer_scope names items) n.closures n.selects ps b pre post fit.plain fit.few));
 }
 
-item_known : (names : Named) (items : List Item) (n : Before) (said : Said) (pre post : List ClosureBody) → Asked names (place_names items) (things_in said) → IsFitItem said → length pre ≡ n.closures → (core_of names items).closures ≡ pre ++ (rows_in (outside names items) n said ++ post) → IsItemKnown names items n.closures said
+item_known : (names : Named) (items : List Item) (n : Before) (said : Said) (pre post : List ClosureBody) → Asked names (place_names items) (things_in said) → IsFitItem said → length pre ≡ n.closures → (core_of names items).closures ≡ pre ++ (rows_in (outer_scope names items) n said ++ post) → IsItemKnown names items n.closures said
 item_known names items n (tree.topic w) pre post a fit counted e = tt
 item_known names items n (tree.rule ps b) pre post a fit counted e = rule_known names items n ps b pre post a fit counted e
 item_known names items n (tree.deny ps b) pre post a fit counted e = rule_known names items n ps b pre post a fit counted e
 item_known names items n (tree.access ps b) pre post a fit counted e = tt
 item_known names items n (tree.global_variable ps) pre post a fit counted e = tt
 
-known_from : (names : Named) (items : List Item) (n : Before) (is : List Item) (pre : List ClosureBody) → Asked names (place_names items) (mentioned is) → All (λ (i : Item). IsFitItem i.said) is → length pre ≡ n.closures → (core_of names items).closures ≡ pre ++ rows_from (outside names items) n is → AreItemsKnown names items n.closures is
+known_from : (names : Named) (items : List Item) (n : Before) (is : List Item) (pre : List ClosureBody) → Asked names (place_names items) (mentioned is) → All (λ (i : Item). IsFitItem i.said) is → length pre ≡ n.closures → (core_of names items).closures ≡ pre ++ rows_from (outer_scope names items) n is → AreItemsKnown names items n.closures is
 known_from names items n [] pre a fit counted e = tt
 known_from names items n (i ∷ is) pre a fit counted e =
-    let around = outside names items in
+    let around = outer_scope names items in
     let here = rows_in around n i.said in
     let rest = rows_from around (behind_rows n i.said) is in
     let fits = All-head (λ (j : Item). IsFitItem j.said) i is fit in (
@@ -171,11 +171,11 @@ caught_at : (rs : List ClosureBody) (all vars : List (List ℕ)) (first k : ℕ)
 caught_at rs all vars first k nothing h i c e = absurd (let no : None ≡ Some c = e in cc)
 caught_at rs all vars first k (thing t ms) h i c e = caught_at rs all vars first k ms h i c e
 caught_at rs all vars first k (closed within ms) h zero c e = subst (λ (j : ℕ). Captures (length vars) (slice_get rs j)) (let same : Some (first + k) ≡ Some c = e in let number : first + k ≡ c = cc in number) h.0
-caught_at rs all vars first k (closed within ms) h (suc i) c e = caught_at rs all vars first (behind k within) ms (subst (λ (j : ℕ). AreCaught rs all vars j ms) (omega arith) h.2) i c e
+caught_at rs all vars first k (closed within ms) h (suc i) c e = caught_at rs all vars first (behind_closure k within) ms (subst (λ (j : ℕ). AreCaught rs all vars j ms) (omega arith) h.2) i c e
 
 -- what closures of a program are made in
 abbrev pub home_at : Named → List Item → List Layout → ℕ → Home
-home_at names items ls first = record { around = outside names items; layouts = ls; first = first }
+home_at names items ls first = record { around = outer_scope names items; layouts = ls; first = first }
 
 pub ground : (names : Named) (items : List Item) (ls : List Layout) (all vars : List (List ℕ)) (first k : ℕ) (ms : Mentions) → IsGiven names items → length vars ≤ 65535 → AreCaught (core_of names items).closures all vars (first + k) ms → IsGround (core_of names items) (length vars) (scope_in (home_at names items ls first) vars (places_from k ms))
 ground names items ls all vars first k ms g few h = record {
@@ -230,7 +230,7 @@ those_within : (names : Named) (items : List Item) (all vars : List (List ℕ)) 
 those_within names items all vars first k within ms b inner cs h =
     let l = layout_of all k within in
     let inside = layouts_from all (k + 1) within in
-    let rest = layouts_from all (behind k within) ms in
+    let rest = layouts_from all (behind_closure k within) ms in
     record {
       asked = asked_front names (place_names items) (things within) (things ms) (asked_later names (place_names items) closure (things within ++ things ms) h.asked);
       matches = h.matches.2;
@@ -239,11 +239,11 @@ those_within names items all vars first k within ms b inner cs h =
       caught = subst (λ (j : ℕ). AreCaught (core_of names items).closures all (variables_in l) j within) (omega arith) h.caught.1;
     }
 
-those_behind : (names : Named) (items : List Item) (all vars : List (List ℕ)) (first k : ℕ) (within ms : Mentions) (b : Body) (inner cs : Closed) → AreKnown names items all vars first k (closed within ms) (a_closure b inner cs) → AreKnown names items all vars first (behind k within) ms cs
+those_behind : (names : Named) (items : List Item) (all vars : List (List ℕ)) (first k : ℕ) (within ms : Mentions) (b : Body) (inner cs : Closed) → AreKnown names items all vars first k (closed within ms) (a_closure b inner cs) → AreKnown names items all vars first (behind_closure k within) ms cs
 those_behind names items all vars first k within ms b inner cs h =
     let l = layout_of all k within in
     let inside = layouts_from all (k + 1) within in
-    let rest = layouts_from all (behind k within) ms in
+    let rest = layouts_from all (behind_closure k within) ms in
     record {
       asked = asked_behind names (place_names items) (things within) (things ms) (asked_later names (place_names items) closure (things within ++ things ms) h.asked);
       matches = h.matches.3;
@@ -253,15 +253,15 @@ those_behind names items all vars first k within ms b inner cs h =
     }
 
 -- the row of one closure
-one_made : (names : Named) (items : List Item) (ls : List Layout) (all vars : List (List ℕ)) (first n k : ℕ) (within ms : Mentions) (b : Body) (inner cs : Closed) → IsGiven names items → AreKnown names items all vars first k (closed within ms) (a_closure b inner cs) → n + selects (of_body false b) ≤ (core_of names items).sites → let l = layout_of all k within in AreRowsMade (core_of names items) n (n + selects (of_body false b)) (row_with (home_at names items ls first) (captured_in vars l) n l b ∷ [])
+one_made : (names : Named) (items : List Item) (ls : List Layout) (all vars : List (List ℕ)) (first n k : ℕ) (within ms : Mentions) (b : Body) (inner cs : Closed) → IsGiven names items → AreKnown names items all vars first k (closed within ms) (a_closure b inner cs) → n + count_selects (of_body false b) ≤ (core_of names items).sites → let l = layout_of all k within in AreRowsMade (core_of names items) n (n + count_selects (of_body false b)) (row_with (home_at names items ls first) (captured_in vars l) n l b ∷ [])
 one_made names items ls all vars first n k within ms b inner cs g h e =
     let p = core_of names items in
     let l = layout_of all k within in
     let own = variables_in l in
     let s = scope_in (home_at names items ls first) own (places_from (k + 1) within) in
     let r = row_with (home_at names items ls first) (captured_in vars l) n l b in
-    let m = n + selects (of_body false b) in
-    let small = All-head IsSmall l (layouts_from all (k + 1) within ++ layouts_from all (behind k within) ms) h.small in
+    let m = n + count_selects (of_body false b) in
+    let small = All-head IsSmall l (layouts_from all (k + 1) within ++ layouts_from all (behind_closure k within) ms) h.small in
     let row = small_row (home_at names items ls first) vars n l b small (omega arith) in
     let there = those_within names items all vars first k within ms b inner cs h in
     let known : Hold (IsKnown s) (of_body false b) = subst (Hold (IsKnown s)) h.matches.0 (known_out s all within there.held there.asked) in
@@ -281,44 +281,44 @@ laid_made names items ls all vars first n k (closed within ms) (a_closure b inne
     let p = core_of names items in
     let home = home_at names items ls first in
     let l = layout_of all k within in
-    let m = n + selects (of_body false b) in
+    let m = n + count_selects (of_body false b) in
     let i = m + selects_within inner in
     let inside = laid home all (variables_in l) m (k + 1) within inner in
-    let rest = laid home all vars i (behind k within) ms cs in
+    let rest = laid home all vars i (behind_closure k within) ms cs in
     rows_to p n (i + selects_within cs) _ (row_with home (captured_in vars l) n l b ∷ (inside ++ rest)) (omega arith)
     (rows_join p n m (i + selects_within cs) (row_with home (captured_in vars l) n l b ∷ []) (inside ++ rest) (one_made names items ls all vars first n k within ms b inner cs g h (omega (arith, e)))
     (rows_join p m i (i + selects_within cs) inside rest
     (laid_made names items ls all (variables_in l) first m (k + 1) within inner g (those_within names items all vars first k within ms b inner cs h) (omega (arith, e)))
-    (laid_made names items ls all vars first i (behind k within) ms cs g (those_behind names items all vars first k within ms b inner cs h) (omega (arith, e)))))
+    (laid_made names items ls all vars first i (behind_closure k within) ms cs g (those_behind names items all vars first k within ms b inner cs h) (omega (arith, e)))))
 
 -- ---- the rows of all items
 
-rule_rows : (names : Named) (items : List Item) (n : Before) (ps : Parts) (b : Body) → IsGiven names items → IsRuleKnown names items n.closures ps b → n.selects + selects_within (in_rule ps b) ≤ (core_of names items).sites → AreRowsMade (core_of names items) n.selects (n.selects + selects_within (in_rule ps b)) (rows_of (outside names items) n.closures n.selects ps b)
+rule_rows : (names : Named) (items : List Item) (n : Before) (ps : Parts) (b : Body) → IsGiven names items → IsRuleKnown names items n.closures ps b → n.selects + selects_within (closures_in_rule ps b) ≤ (core_of names items).sites → AreRowsMade (core_of names items) n.selects (n.selects + selects_within (closures_in_rule ps b)) (closure_rows (outer_scope names items) n.closures n.selects ps b)
 rule_rows names items n ps b g h e =
     let ms = of_rule role.Rule ps b in
     let all = names_of ps b in
-    let known : AreKnown names items all (variables_of ps b) n.closures 0 ms (in_rule ps b) = record {
+    let known : AreKnown names items all (rule_variables ps b) n.closures 0 ms (closures_in_rule ps b) = record {
       asked = h.asked;
       matches = rule_matches ps b h.fit.plain;
       held = all_held all ms;
       small = all_small all 0 ms h.fit.few.1;
-      caught = subst (λ (k : ℕ). AreCaught (core_of names items).closures all (variables_of ps b) k ms) (omega arith) h.caught;
+      caught = subst (λ (k : ℕ). AreCaught (core_of names items).closures all (rule_variables ps b) k ms) (omega arith) h.caught;
     } in
-    subst (AreRowsMade (core_of names items) n.selects (n.selects + selects_within (in_rule ps b))) (sym (rule_laid (outside names items) n.closures n.selects ps b h.fit.plain))
-    (laid_made names items (layouts_in ps b).closures all (variables_of ps b) n.closures n.selects 0 ms (in_rule ps b) g known e)
+    subst (AreRowsMade (core_of names items) n.selects (n.selects + selects_within (closures_in_rule ps b))) (sym (rule_laid (outer_scope names items) n.closures n.selects ps b h.fit.plain))
+    (laid_made names items (layouts_in ps b).closures all (rule_variables ps b) n.closures n.selects 0 ms (closures_in_rule ps b) g known e)
 
-item_rows : (names : Named) (items : List Item) (n : Before) (said : Said) → IsGiven names items → IsItemKnown names items n.closures said → n.selects + selects_within (closures_of said) ≤ (core_of names items).sites → AreRowsMade (core_of names items) n.selects (n.selects + selects_within (closures_of said)) (rows_in (outside names items) n said)
+item_rows : (names : Named) (items : List Item) (n : Before) (said : Said) → IsGiven names items → IsItemKnown names items n.closures said → n.selects + selects_within (closures_of said) ≤ (core_of names items).sites → AreRowsMade (core_of names items) n.selects (n.selects + selects_within (closures_of said)) (rows_in (outer_scope names items) n said)
 item_rows names items n (tree.topic w) g h e = rows_none (core_of names items) n.selects _ (omega arith)
 item_rows names items n (tree.rule ps b) g h e = rule_rows names items n ps b g h e
 item_rows names items n (tree.deny ps b) g h e = rule_rows names items n ps b g h e
 item_rows names items n (tree.access ps b) g h e = rows_none (core_of names items) n.selects _ (omega arith)
 item_rows names items n (tree.global_variable ps) g h e = rows_none (core_of names items) n.selects _ (omega arith)
 
-items_rows : (names : Named) (items : List Item) (n : Before) (is : List Item) → IsGiven names items → AreItemsKnown names items n.closures is → n.selects + inner_selects is ≤ (core_of names items).sites → AreRowsMade (core_of names items) n.selects (n.selects + inner_selects is) (rows_from (outside names items) n is)
+items_rows : (names : Named) (items : List Item) (n : Before) (is : List Item) → IsGiven names items → AreItemsKnown names items n.closures is → n.selects + inner_selects is ≤ (core_of names items).sites → AreRowsMade (core_of names items) n.selects (n.selects + inner_selects is) (rows_from (outer_scope names items) n is)
 items_rows names items n [] g h e = rows_none (core_of names items) n.selects _ (omega arith)
 items_rows names items n (i ∷ is) g h e =
     let p = core_of names items in
-    let around = outside names items in
+    let around = outer_scope names items in
     let next = behind_rows n i.said in
     let all = rows_in around n i.said ++ rows_from around next is in
     rows_to p n.selects (next.selects + inner_selects is) _ all (omega arith)

@@ -23,9 +23,9 @@ use Rattle.dg_base.specs.declared.program.Term.{Term}
 use Rattle.dg_base.proofs.NodeLemmas.{inside, within_out}
 use Rattle.dg_names.specs.Among.{HasPred}
 use Rattle.dg_core.specs.Bodies.{in_value, in_parts, in_stmt, in_stmts, in_branches, in_arms}
-use Rattle.dg_core.specs.Goals.{Scope, past, or_zero, in_16_bits, number_in, term_of, terms_of, built_in_goal, place_goal, query_goal, asked, change_goals, unit, selects, stmt_goals, lists, arm_goals}
+use Rattle.dg_core.specs.Goals.{Scope, past, place_or_zero, in_16_bits, number_in, term_of, terms_of, built_in_goal, place_goal, query_goal, asked, change_goals, unit, count_selects, stmt_goals, lists, arm_goals}
 use Rattle.dg_core.specs.Goals as lowered
-use Rattle.dg_core.specs.Places.{values_in}
+use Rattle.dg_core.specs.Places.{head_values}
 use Rattle.dg_core.proofs.HoldLemmas.{Hold, front, back}
 use Rattle.dg_core.proofs.PlaceLemmas.{there_at}
 use Rattle.dg_core.proofs.SelectLemmas.{selects_join, value_counted, parts_counted, changes_counted, gathering_counted}
@@ -119,7 +119,7 @@ built_in_made p vars n s a b c many built_in.HasParent g h j k = leaf p vars n _
 place_made : (p : Core) (vars n : ℕ) (s : Scope) (ps : Parts) (many : Bool) (o : Option ℕ) → position (bytes_eq (name_of ps)) s.places ≡ o → IsGround p vars s → Contains s.names.preds (name_of ps) → All (IsTermOf p vars) (terms_of s ps) → AreMade p vars n n (place_goal s ps many o ∷ [])
 place_made p vars n s ps many None e g m k = leaf p vars n _ (form.Ask (number_in s.names.preds (name_of ps)) (terms_of s ps) many) (goal.outs-Ask _ _ _) (g.preds s ps m) k tt refl
 place_made p vars n s ps many (Some place) e g m k =
-    let number : number_in s.places (name_of ps) ≡ in_16_bits place = ap (λ (o : Option ℕ). in_16_bits (or_zero o)) e in
+    let number : number_in s.places (name_of ps) ≡ in_16_bits place = ap (λ (o : Option ℕ). in_16_bits (place_or_zero o)) e in
     leaf p vars n _ (form.Holds (in_16_bits place) (terms_of s ps) many) (goal.outs-Holds _ _ _)
     (subst (λ (i : ℕ). FitsProgram p (form.Holds i (terms_of s ps) many)) number (g.places s ps (there_at (name_of ps) s.places place e))) k tt refl
 
@@ -172,7 +172,7 @@ select_made p vars n m mode ls below some few h =
 
 lists_counted : (s : Scope) (n : ℕ) (b : Body) → length (lists s n b) ≡ branches_in b
 lists_counted s n tree.no_branches = refl
-lists_counted s n (tree.branch ss b) = omega (arith, lists_counted (past s (in_stmts ss)) (n + selects (of_stmts false ss)) b)
+lists_counted s n (tree.branch ss b) = omega (arith, lists_counted (past s (in_stmts ss)) (n + count_selects (of_stmts false ss)) b)
 
 to_end : (p : Core) (vars n k : ℕ) (gs : List Goal) → AreMade p vars n n gs → k ≡ 0 → AreMade p vars n (n + k) gs
 to_end p vars n k gs h e = made_to p vars n n (n + k) gs (omega (arith, e)) h
@@ -180,7 +180,7 @@ to_end p vars n k gs h e = made_to p vars n n (n + k) gs (omega (arith, e)) h
 -- ---- statements
 
 mutual
-  stmt_made : (p : Core) (vars : ℕ) (s : Scope) (n : ℕ) (x : Stmt) → IsGround p vars s → Hold (IsKnown s) (of_stmt false x) → n + selects (of_stmt false x) ≤ p.sites → AreMade p vars n (n + selects (of_stmt false x)) (stmt_goals s n x)
+  stmt_made : (p : Core) (vars : ℕ) (s : Scope) (n : ℕ) (x : Stmt) → IsGround p vars s → Hold (IsKnown s) (of_stmt false x) → n + count_selects (of_stmt false x) ≤ p.sites → AreMade p vars n (n + count_selects (of_stmt false x)) (stmt_goals s n x)
   stmt_made p vars s n (tree.text w) g h e = to_end p vars n 0 _ (leaf p vars n _ (form.Text w) (goal.outs-Text w) h.0.0 (no_terms p vars) tt refl) refl
   stmt_made p vars s n (tree.print v) g h e =
       to_end p vars n _ _ (leaf p vars n _ (form.Print (term_of s v)) (goal.outs-Print _) tt (one p vars (term_of s v) (term_sound p vars s false v g h.1)) tt refl) (value_counted false v)
@@ -194,11 +194,11 @@ mutual
   stmt_made p vars s n (tree.choice arms) g h e = arms_made p vars s n _ arms [] g h.1 e (made_none p vars _ _ (omega arith))
   stmt_made p vars s n (tree.choice_else arms b) g h e =
       let all = selects_join (of_arms false arms) (of_body false b) in
-      let k = n + selects (of_arms false arms) in
+      let k = n + count_selects (of_arms false arms) in
       let behind = past s (in_arms arms) in
       let other = unit_made p vars k _ (lists behind k b) (lists_made p vars behind k b (ground_past p vars s (in_arms arms) g) (back (IsKnown s) (of_arms false arms) (of_body false b) h.1).1 (omega (arith, all, e))) in
       made_to p vars n _ _ _ (omega (arith, all))
-      (arms_made p vars s n (k + selects (of_body false b)) arms (unit (lists behind k b)) g (front (IsKnown s) (of_arms false arms) (of_body false b) h.1) (omega (arith, all, e)) other)
+      (arms_made p vars s n (k + count_selects (of_body false b)) arms (unit (lists behind k b)) g (front (IsKnown s) (of_arms false arms) (of_body false b) h.1) (omega (arith, all, e)) other)
   stmt_made p vars s n (tree.exhaust x) g h e = wrap_made p vars n _ _ (form.Exhaust (stmt_goals s n x)) (stmt_goals s n x) (goal.outs-Exhaust _) tt (no_terms p vars) tt refl (stmt_made p vars s n x g h.1 e)
   stmt_made p vars s n (tree.stoppable x) g h e = wrap_made p vars n _ _ (form.Stoppable (stmt_goals s n x)) (stmt_goals s n x) (goal.outs-Stoppable _) tt (no_terms p vars) tt refl (stmt_made p vars s n x g h.1 e)
   stmt_made p vars s n (tree.collect v b into) g h e =
@@ -222,47 +222,47 @@ mutual
   stmt_made p vars s n (tree.select mode b) g h e =
       let count = lists_counted s (n + 1) b in
       made_to p vars n _ _ _ (omega arith)
-      (select_made p vars n (n + 1 + selects (of_branches false b)) mode (lists s (n + 1) b) (omega (arith, e)) (omega (arith, count, h.0.1.0)) (omega (arith, count, h.0.1.1)) (lists_made p vars s (n + 1) b g h.1 (omega (arith, e))))
+      (select_made p vars n (n + 1 + count_selects (of_branches false b)) mode (lists s (n + 1) b) (omega (arith, e)) (omega (arith, count, h.0.1.0)) (omega (arith, count, h.0.1.1)) (lists_made p vars s (n + 1) b g h.1 (omega (arith, e))))
   stmt_made p vars s n (tree.first_answer b) g h e = wrap_made p vars n _ _ (form.Once (unit (lists s n b))) (unit (lists s n b)) (goal.outs-Once _) tt (no_terms p vars) tt refl (unit_made p vars n _ (lists s n b) (lists_made p vars s n b g h.1.1 e))
 
-  stmts_made : (p : Core) (vars : ℕ) (s : Scope) (n : ℕ) (xs : Stmts) → IsGround p vars s → Hold (IsKnown s) (of_stmts false xs) → n + selects (of_stmts false xs) ≤ p.sites → AreMade p vars n (n + selects (of_stmts false xs)) (lowered.goals_of s n xs)
+  stmts_made : (p : Core) (vars : ℕ) (s : Scope) (n : ℕ) (xs : Stmts) → IsGround p vars s → Hold (IsKnown s) (of_stmts false xs) → n + count_selects (of_stmts false xs) ≤ p.sites → AreMade p vars n (n + count_selects (of_stmts false xs)) (lowered.goals_of s n xs)
   stmts_made p vars s n tree.no_stmts g h e = made_none p vars n _ (omega arith)
   stmts_made p vars s n (tree.stmt x xs) g h e =
       let all = selects_join (of_stmt false x) (of_stmts false xs) in
-      let k = n + selects (of_stmt false x) in
+      let k = n + count_selects (of_stmt false x) in
       made_to p vars n _ _ _ (omega (arith, all))
-      (made_join p vars n k (k + selects (of_stmts false xs)) _ _ (stmt_made p vars s n x g (front (IsKnown s) (of_stmt false x) (of_stmts false xs) h) (omega (arith, all, e)))
+      (made_join p vars n k (k + count_selects (of_stmts false xs)) _ _ (stmt_made p vars s n x g (front (IsKnown s) (of_stmt false x) (of_stmts false xs) h) (omega (arith, all, e)))
       (stmts_made p vars (past s (in_stmt x)) k xs (ground_past p vars s (in_stmt x) g) (back (IsKnown s) (of_stmt false x) (of_stmts false xs) h) (omega (arith, all, e))))
 
-  lists_made : (p : Core) (vars : ℕ) (s : Scope) (n : ℕ) (b : Body) → IsGround p vars s → Hold (IsKnown s) (of_branches false b) → n + selects (of_branches false b) ≤ p.sites → AreListed p vars n (n + selects (of_branches false b)) (lists s n b)
+  lists_made : (p : Core) (vars : ℕ) (s : Scope) (n : ℕ) (b : Body) → IsGround p vars s → Hold (IsKnown s) (of_branches false b) → n + count_selects (of_branches false b) ≤ p.sites → AreListed p vars n (n + count_selects (of_branches false b)) (lists s n b)
   lists_made p vars s n tree.no_branches g h e = record { sound = none p vars; sited = sited_none n _ (omega arith) }
   lists_made p vars s n (tree.branch xs b) g h e =
       let all = selects_join (of_stmts false xs) (of_branches false b) in
-      let k = n + selects (of_stmts false xs) in
+      let k = n + count_selects (of_stmts false xs) in
       let first = stmts_made p vars s n xs g (front (IsKnown s) (of_stmts false xs) (of_branches false b) h) (omega (arith, all, e)) in
       let behind = past s (in_stmts xs) in
       let others = lists_made p vars behind k b (ground_past p vars s (in_stmts xs) g) (back (IsKnown s) (of_stmts false xs) (of_branches false b) h) (omega (arith, all, e)) in
       record {
         sound = All-append (IsGoalOf p vars) (goals_of (lowered.goals_of s n xs)) (flat_map goals_of (lists behind k b)) first.sound others.sound;
-        sited = sited_wider n (k + selects (of_branches false b)) n _ _ (omega arith) (omega (arith, all)) (sited_join n k (k + selects (of_branches false b)) (goals_of (lowered.goals_of s n xs)) (flat_map goals_of (lists behind k b)) first.sited others.sited);
+        sited = sited_wider n (k + count_selects (of_branches false b)) n _ _ (omega arith) (omega (arith, all)) (sited_join n k (k + count_selects (of_branches false b)) (goals_of (lowered.goals_of s n xs)) (flat_map goals_of (lists behind k b)) first.sited others.sited);
       }
 
-  arms_made : (p : Core) (vars : ℕ) (s : Scope) (n m : ℕ) (arms : Arms) (other : List Goal) → IsGround p vars s → Hold (IsKnown s) (of_arms false arms) → n + selects (of_arms false arms) ≤ p.sites → AreMade p vars (n + selects (of_arms false arms)) m other → AreMade p vars n m (arm_goals s n arms other)
+  arms_made : (p : Core) (vars : ℕ) (s : Scope) (n m : ℕ) (arms : Arms) (other : List Goal) → IsGround p vars s → Hold (IsKnown s) (of_arms false arms) → n + count_selects (of_arms false arms) ≤ p.sites → AreMade p vars (n + count_selects (of_arms false arms)) m other → AreMade p vars n m (arm_goals s n arms other)
   arms_made p vars s n m tree.no_arms other g h e k = subst (λ (i : ℕ). AreMade p vars i m other) (omega arith) k
   arms_made p vars s n m (tree.arm c b arms) other g h e k =
       let tail = back (IsKnown s) (of_body false c) (join (of_body false b) (of_arms false arms)) h in
       let all = selects_join (of_body false c) (join (of_body false b) (of_arms false arms)) in
       let rest = selects_join (of_body false b) (of_arms false arms) in
-      let i = n + selects (of_body false c) in
-      let j = i + selects (of_body false b) in
+      let i = n + count_selects (of_body false c) in
+      let j = i + count_selects (of_body false b) in
       let first = unit_made p vars n _ (lists s n c) (lists_made p vars s n c g (front (IsKnown s) (of_body false c) (join (of_body false b) (of_arms false arms)) h).1 (omega (arith, all, rest, e))) in
       let between = past s (in_branches c) in
       let behind = past between (in_branches b) in
       let g2 = ground_past p vars s (in_branches c) g in
       let second = unit_made p vars i _ (lists between i b) (lists_made p vars between i b g2 (front (IsKnown s) (of_body false b) (of_arms false arms) tail).1 (omega (arith, all, rest, e))) in
-      let same : n + selects (of_arms false (tree.arm c b arms)) ≡ j + selects (of_arms false arms) = omega (arith, all, rest) in
+      let same : n + count_selects (of_arms false (tree.arm c b arms)) ≡ j + count_selects (of_arms false arms) = omega (arith, all, rest) in
       if_made p vars n i j m (unit (lists s n c)) (unit (lists between i b)) (arm_goals behind j arms other) first second
       (arms_made p vars behind j m arms other (ground_past p vars between (in_branches b) g2) (back (IsKnown s) (of_body false b) (of_arms false arms) tail) (omega (arith, all, rest, e)) (subst (λ (x : ℕ). AreMade p vars x m other) same k))
 
-pub body_made : (p : Core) (vars : ℕ) (s : Scope) (n : ℕ) (b : Body) → IsGround p vars s → Hold (IsKnown s) (of_body false b) → n + selects (of_body false b) ≤ p.sites → AreMade p vars n (n + selects (of_body false b)) (unit (lists s n b))
+pub body_made : (p : Core) (vars : ℕ) (s : Scope) (n : ℕ) (b : Body) → IsGround p vars s → Hold (IsKnown s) (of_body false b) → n + count_selects (of_body false b) ≤ p.sites → AreMade p vars n (n + count_selects (of_body false b)) (unit (lists s n b))
 body_made p vars s n b g h e = unit_made p vars n _ (lists s n b) (lists_made p vars s n b g h.1 e)

@@ -6,7 +6,7 @@ use Rattle.dg_base.specs.Heads.{is_special, escaped, parts_behind, name_of}
 use Rattle.dg_base.specs.Tree.{Parts, Value, no_parts, part, part_word, part_value}
 use Rattle.dg_core.specs.Bodies.{in_value}
 use Rattle.dg_core.specs.Goals.{Scope, past, terms_of, terms_of_values}
-use Rattle.dg_core.specs.Places.{values_in, values_named, values_behind}
+use Rattle.dg_core.specs.Places.{head_values, values_named, values_behind}
 
 left_false : (a b : Bool) → (a || b) ≡ false → a ≡ false
 left_false true b e = e
@@ -38,20 +38,20 @@ word_places : (w rest : List ℕ) → values_named (escaped w ++ rest) ≡ value
 word_places [] rest = refl
 word_places (c ∷ w) rest = one_character c (escaped w) rest (is_special c) refl ∙ word_places w rest
 
-behind_places : (ps : Parts) → values_named (parts_behind ps ++ 41 ∷ []) ≡ length (values_in ps)
+behind_places : (ps : Parts) → values_named (parts_behind ps ++ 41 ∷ []) ≡ length (head_values ps)
 behind_places no_parts = refl
 behind_places (part (part_word w) ps) =
     ap values_named (append_assoc (escaped w) (parts_behind ps) (41 ∷ [])) ∙ word_places w (parts_behind ps ++ 41 ∷ []) ∙ behind_places ps
 behind_places (part (part_value v) ps) = ap (λ (n : ℕ). suc n) (behind_places ps)
 
-pub name_places : (ps : Parts) → values_named (name_of ps) ≡ length (values_in ps)
+pub name_places : (ps : Parts) → values_named (name_of ps) ≡ length (head_values ps)
 name_places no_parts = refl
 name_places (part (part_word w) ps) = word_places w (parts_behind ps ++ 41 ∷ []) ∙ behind_places ps
 name_places (part (part_value v) ps) = ap (λ (n : ℕ). suc n) (behind_places ps)
 
 -- a head or a query has as many terms as its name has places
 pub terms_counted : (scope : Scope) (ps : Parts) → length (terms_of scope ps) ≡ values_named (name_of ps)
-terms_counted scope ps = as_many scope (values_in ps) ∙ sym (name_places ps)
+terms_counted scope ps = as_many scope (head_values ps) ∙ sym (name_places ps)
   where
     as_many : (s : Scope) (vs : List Value) → length (terms_of_values s vs) ≡ length vs
     as_many s [] = refl

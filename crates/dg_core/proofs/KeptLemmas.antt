@@ -8,7 +8,7 @@ use Rattle.dg_closures.specs.Closures.{Layout, Layouts}
 use Rattle.dg_core.specs.Bodies.{direct}
 use Rattle.dg_core.specs.Core.{Before, rows_in, rows_from, rule_of, numbered}
 use Rattle.dg_core.specs.Goals.{Scope}
-use Rattle.dg_core.specs.Rows.{Home, rows, selects_within, in_rule}
+use Rattle.dg_core.specs.Rows.{Home, rows, selects_within, closures_in_rule}
 use Rattle.dg_core.specs.Variables.{layouts_in}
 use Rattle.dg_core.specs.inside.View.{rule_in}
 use Rattle.dg_core.specs.inside.Waiting.{waiting_from, pending, selects_left, stack_of, home_of, rows_kept, selects_kept, Waits, Keeps}
@@ -25,26 +25,26 @@ rule_is around scope n ps b behind ls laid inside =
     ∙ ap (λ (x : Layouts). rule_in (record around { variables = x.variables; closures = map (λ p. n.closures + p) x.places; before = 0 }) n.selects ps b behind) laid
 
 -- what waits of a rule in its layouts gives its rows
-all_pending : (home : Home) (vars : List (List ℕ)) (places : List ℕ) (n : ℕ) (ps : Parts) (b : Body) → pending home n (waiting_from home.layouts vars places 0 (direct (in_rule ps b))) ≡ rows home vars places 0 n (in_rule ps b)
+all_pending : (home : Home) (vars : List (List ℕ)) (places : List ℕ) (n : ℕ) (ps : Parts) (b : Body) → pending home n (waiting_from home.layouts vars places 0 (direct (closures_in_rule ps b))) ≡ rows home vars places 0 n (closures_in_rule ps b)
 all_pending home vars places n ps b =
-    ap (pending home n) (sym (append-nil (waiting_from home.layouts vars places 0 (direct (in_rule ps b)))))
-    ∙ pending_found home vars places 0 n (in_rule ps b) [] (rule_has ps b)
-    ∙ append-nil (rows home vars places 0 n (in_rule ps b))
+    ap (pending home n) (sym (append-nil (waiting_from home.layouts vars places 0 (direct (closures_in_rule ps b)))))
+    ∙ pending_found home vars places 0 n (closures_in_rule ps b) [] (rule_has ps b)
+    ∙ append-nil (rows home vars places 0 n (closures_in_rule ps b))
 
-all_selects_pending : (layouts : List Layout) (vars : List (List ℕ)) (places : List ℕ) (ps : Parts) (b : Body) → selects_left (waiting_from layouts vars places 0 (direct (in_rule ps b))) ≡ selects_within (in_rule ps b)
+all_selects_pending : (layouts : List Layout) (vars : List (List ℕ)) (places : List ℕ) (ps : Parts) (b : Body) → selects_left (waiting_from layouts vars places 0 (direct (closures_in_rule ps b))) ≡ selects_within (closures_in_rule ps b)
 all_selects_pending layouts vars places ps b =
-    let front = ap selects_left (append-nil (waiting_from layouts vars places 0 (direct (in_rule ps b)))) in
-    omega (arith, front, selects_found layouts vars places 0 (in_rule ps b) [] (rule_has ps b))
+    let front = ap selects_left (append-nil (waiting_from layouts vars places 0 (direct (closures_in_rule ps b)))) in
+    omega (arith, front, selects_found layouts vars places 0 (closures_in_rule ps b) [] (rule_has ps b))
 
-pub rule_waits : (around : Scope) (first : ℕ) (ps : Parts) (b : Body) (kept : Kept) (ls : Layouts) (found : List Body) → ls ≡ layouts_in ps b → home_of around kept ≡ record { around = around; layouts = ls.closures; first = first } → found ≡ direct (in_rule ps b) → stack_of kept.left ≡ waiting_from ls.closures ls.variables ls.places 0 found → Waits around first ps b kept
+pub rule_waits : (around : Scope) (first : ℕ) (ps : Parts) (b : Body) (kept : Kept) (ls : Layouts) (found : List Body) → ls ≡ layouts_in ps b → home_of around kept ≡ record { around = around; layouts = ls.closures; first = first } → found ≡ direct (closures_in_rule ps b) → stack_of kept.left ≡ waiting_from ls.closures ls.variables ls.places 0 found → Waits around first ps b kept
 rule_waits around first ps b kept ls found laid at bodies waits =
-    let stack : stack_of kept.left ≡ waiting_from ls.closures ls.variables ls.places 0 (direct (in_rule ps b)) = waits ∙ ap (λ (bs : List Body). waiting_from ls.closures ls.variables ls.places 0 bs) bodies in
+    let stack : stack_of kept.left ≡ waiting_from ls.closures ls.variables ls.places 0 (direct (closures_in_rule ps b)) = waits ∙ ap (λ (bs : List Body). waiting_from ls.closures ls.variables ls.places 0 bs) bodies in
     let home : Home = record { around = around; layouts = ls.closures; first = first } in
     record {
       rows = λ n. ap (λ (h : Home). pending h n (stack_of kept.left)) at
           ∙ ap (pending home n) stack
           ∙ all_pending home ls.variables ls.places n ps b
-          ∙ ap (λ (x : Layouts). rows (record { around = around; layouts = x.closures; first = first }) x.variables x.places 0 n (in_rule ps b)) laid;
+          ∙ ap (λ (x : Layouts). rows (record { around = around; layouts = x.closures; first = first }) x.variables x.places 0 n (closures_in_rule ps b)) laid;
       selects = ap selects_left stack ∙ all_selects_pending ls.closures ls.variables ls.places ps b;
     }
 

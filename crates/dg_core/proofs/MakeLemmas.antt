@@ -20,8 +20,8 @@ use Rattle.dg_base.specs.declared.tree.Stmt.{Stmt}
 use Rattle.dg_base.specs.declared.tree.Value.{Value}
 use Rattle.dg_base.proofs.Views.{body_seen, choice_seen, choice_else_seen}
 use Rattle.dg_base.specs.declared.program.Term.{Term}
-use Rattle.dg_core.specs.Bodies.{Closed, no_closure, join, direct, in_value, in_stmt, in_stmts, in_branches, in_arms}
-use Rattle.dg_core.specs.Goals.{Scope, at, past, selects, unit, term_of, stmt_goals, goals_of, lists, arm_goals}
+use Rattle.dg_core.specs.Bodies.{Closed, no_closure, joined_closures, direct, in_value, in_stmt, in_stmts, in_branches, in_arms}
+use Rattle.dg_core.specs.Goals.{Scope, at, past, count_selects, unit, term_of, stmt_goals, goals_of, lists, arm_goals}
 use Rattle.dg_core.proofs.BodyLemmas.{past_none, past_past, found_past, found_join, found_none, join_none, join_join}
 use Rattle.dg_core.specs.inside.Making.{Made, here, added, held, in_other, with_more, with_goals, otherwise, selects_otherwise, other_weight, goal_behind, goals_behind, goal_weight, goals_weight, Takes, ComesTo}
 use Rattle.dg_core.specs.declared.goals.Close.{Close}
@@ -80,7 +80,7 @@ here_past s m cs = found_past s m.found cs
 -- ---- statements in a row
 
 abbrev rowed : Scope → Made → tree.Stmts → Made
-rowed s m all = with_goals (goals_of (here s m) m.sites all) (selects (of_stmts false all)) (in_stmts all) m
+rowed s m all = with_goals (goals_of (here s m) m.sites all) (count_selects (of_stmts false all)) (in_stmts all) m
 
 pub stmts_none : (s : Scope) (m : Made) (ss : Bor (List Stmt)) → ss.now ≡ [] → m ≡ goal_behind s (GoalWork.Stmts ss) m
 stmts_none s m ss e = no_goals 0 m refl ∙ ap (λ (l : List Stmt). rowed s m (stmts_of (map stmt_view l))) (sym e)
@@ -89,7 +89,7 @@ pub stmts_make : (s : Scope) (m : Made) (ss : Bor (List Stmt)) (x : Bor Stmt) (o
 stmts_make s m ss x others e =
     let rest = stmts_of (map stmt_view others.now) in
     let y = stmt_view x.now in
-    let k = selects (of_stmt false y) in
+    let k = count_selects (of_stmt false y) in
     same_made _ _ _ _ _ _ _ _ _
     (more_more (stmt_goals (here s m) m.sites y) (goals_of (at s (length (m.found ++ direct (in_stmt y)))) (m.sites + k) rest) m.goals
     ∙ ap (λ (t : Scope). with_more (stmt_goals (here s m) m.sites y ++ goals_of t (m.sites + k) rest) m.goals) (here_past s m (in_stmt y)))
@@ -105,7 +105,7 @@ stmts_weigh_none ss e = let is = ap (λ (l : List Stmt). stmts_size (stmts_of (m
 -- ---- branches
 
 abbrev branched : Scope → Made → tree.Body → Made
-branched s m all = make m.goals (with_more (lists (here s m) m.sites all) m.lists) m.values (m.sites + selects (of_branches false all)) (m.found ++ direct (in_branches all))
+branched s m all = make m.goals (with_more (lists (here s m) m.sites all) m.lists) m.values (m.sites + count_selects (of_branches false all)) (m.found ++ direct (in_branches all))
 
 pub branches_none : (s : Scope) (m : Made) (bs : Bor (List (List Stmt))) → bs.now ≡ [] → m ≡ goal_behind s (GoalWork.Branches bs) m
 branches_none s m bs e =
@@ -119,7 +119,7 @@ pub branches_make : (s : Scope) (m : Made) (bs : Bor (List (List Stmt))) (first 
 branches_make s m bs first b others e same =
     let row = stmts_of (map stmt_view b.now) in
     let rest = branches_view (map (map stmt_view) others.now) in
-    let k = selects (of_stmts false row) in
+    let k = count_selects (of_stmts false row) in
     let first_list = goals_of (here s m) m.sites row in
     same_made _ _ _ _ _ _ _ _ _ refl
     (more_more (first_list ∷ []) (lists (at s (length (m.found ++ direct (in_stmts row)))) (m.sites + k) rest) m.lists
@@ -135,7 +135,7 @@ branches_weigh bs first b others e same =
 -- ---- a body
 
 abbrev bodied : Scope → Made → tree.Body → Made
-bodied s m b = with_goals (unit (lists (here s m) m.sites b)) (selects (of_body false b)) (in_branches b) m
+bodied s m b = with_goals (unit (lists (here s m) m.sites b)) (count_selects (of_body false b)) (in_branches b) m
 
 body_is : (b : Bor Body) (bs : List (List Stmt)) → b.now.branches ≡ bs → body_view b.now ≡ branches_view (map (map stmt_view) bs)
 body_is b bs e = body_seen b.now ∙ ap (λ (l : List (List Stmt)). branches_view (map (map stmt_view) l)) e
@@ -173,8 +173,8 @@ body_weighs_many b bs e = let is = ap branches_size (body_is b bs.now e) in omeg
 
 abbrev armed : Scope → Made → Option Body → tree.Arms → Made
 armed s m other all =
-    let behind = m.sites + selects (of_arms false all) in
-    make (with_more (arm_goals (here s m) m.sites all (otherwise (past (here s m) (in_arms all)) behind other)) m.goals) m.lists m.values (behind + selects_otherwise other) (m.found ++ direct (join (in_arms all) (in_other other)))
+    let behind = m.sites + count_selects (of_arms false all) in
+    make (with_more (arm_goals (here s m) m.sites all (otherwise (past (here s m) (in_arms all)) behind other)) m.goals) m.lists m.values (behind + selects_otherwise other) (m.found ++ direct (joined_closures (in_arms all) (in_other other)))
 
 pub arms_none : (s : Scope) (m : Made) (arms : Bor (List Arm)) (other : Bor (Option Body)) → arms.now ≡ [] → other.now ≡ None → m ≡ goal_behind s (GoalWork.Arms arms other) m
 arms_none s m arms other e f =
@@ -212,27 +212,27 @@ arms_make s m arms other a c b others e seen =
     let rest = arms_of (map arm_view others.now) in
     let test = body_view c.now in
     let next = body_view b.now in
-    let i = m.sites + selects (of_body false test) in
-    let j = i + selects (of_body false next) in
+    let i = m.sites + count_selects (of_body false test) in
+    let j = i + count_selects (of_body false next) in
     let all = tree.arm test next rest in
     let one = selects_join (of_body false test) (mentions.join (of_body false next) (of_arms false rest)) in
     let two = selects_join (of_body false next) (of_arms false rest) in
-    let ends : j + selects (of_arms false rest) ≡ m.sites + selects (of_arms false all) = omega (arith, one, two) in
+    let ends : j + count_selects (of_arms false rest) ≡ m.sites + count_selects (of_arms false all) = omega (arith, one, two) in
     let found = m.found ++ direct (in_branches test) in
     let p = past (here s m) (in_branches test) in
     let q = past p (in_branches next) in
     let made : Scope → Scope → Scope → ℕ → List (List Goal) = λ x y z k. with_more (goal.If (unit (lists (here s m) m.sites test)) (unit (lists x i next)) (arm_goals y j rest (otherwise z k other.now)) ∷ []) m.goals in
-    let behind = j + selects (of_arms false rest) in
+    let behind = j + count_selects (of_arms false rest) in
     let far = at s (length (found ++ direct (in_branches next))) in
     same_made _ _ _ _ _ _ _ _ _
     (ap (λ (x : Scope). made x far (past far (in_arms rest)) behind) (here_past s m (in_branches test))
     ∙ ap (λ (y : Scope). made p y (past y (in_arms rest)) behind) (found_past s found (in_branches next) ∙ ap (λ (x : Scope). past x (in_branches next)) (here_past s m (in_branches test)))
-    ∙ ap (λ (z : Scope). made p q z behind) (past_past p (in_branches next) (in_arms rest) ∙ past_past (here s m) (in_branches test) (join (in_branches next) (in_arms rest)))
+    ∙ ap (λ (z : Scope). made p q z behind) (past_past p (in_branches next) (in_arms rest) ∙ past_past (here s m) (in_branches test) (joined_closures (in_branches next) (in_arms rest)))
     ∙ ap (λ (k : ℕ). made p q (past (here s m) (in_arms all)) k) ends)
     refl (ap (λ (k : ℕ). k + selects_otherwise other.now) ends)
-    (ap (λ (l : List tree.Body). l ++ direct (join (in_arms rest) (in_other other.now))) (found_join m.found (in_branches test) (in_branches next))
-    ∙ found_join m.found (join (in_branches test) (in_branches next)) (join (in_arms rest) (in_other other.now))
-    ∙ ap (λ (x : Closed). m.found ++ direct x) (sym (join_join (join (in_branches test) (in_branches next)) (in_arms rest) (in_other other.now)) ∙ ap (λ (x : Closed). join x (in_other other.now)) (join_join (in_branches test) (in_branches next) (in_arms rest))))
+    (ap (λ (l : List tree.Body). l ++ direct (joined_closures (in_arms rest) (in_other other.now))) (found_join m.found (in_branches test) (in_branches next))
+    ∙ found_join m.found (joined_closures (in_branches test) (in_branches next)) (joined_closures (in_arms rest) (in_other other.now))
+    ∙ ap (λ (x : Closed). m.found ++ direct x) (sym (join_join (joined_closures (in_branches test) (in_branches next)) (in_arms rest) (in_other other.now)) ∙ ap (λ (x : Closed). joined_closures x (in_other other.now)) (join_join (in_branches test) (in_branches next) (in_arms rest))))
     ∙ ap (armed s m other.now) (sym (arms_are arms a c b others e seen))
 
 pub arms_weigh : (arms : Bor (List Arm)) (other : Bor (Option Body)) (a : Arm) (c b : Bor Body) (others : Bor (List Arm)) → arms.now ≡ a ∷ others.now → arm_view a ≡ (body_view c.now, body_view b.now) → goals_weight (put_of others other c b) < goal_weight (GoalWork.Arms arms other)
@@ -242,7 +242,7 @@ arms_weigh arms other a c b others e seen = let is = ap arms_size (arms_are arms
 
 -- what is made behind a statement
 abbrev pub stated : Scope → tree.Stmt → Made → Made
-stated s y m = with_goals (stmt_goals (here s m) m.sites y) (selects (of_stmt false y)) (in_stmt y) m
+stated s y m = with_goals (stmt_goals (here s m) m.sites y) (count_selects (of_stmt false y)) (in_stmt y) m
 
 -- a statement by what it is
 pub stmt_is : (s : Scope) (x : Bor Stmt) (y : tree.Stmt) (old new ws : List GoalWork) (before after : Made) → stmt_view x.now ≡ y → new ≡ old ++ ws → goals_behind s ws after ≡ stated s y before → goals_weight ws < 3 * stmt_size y → Takes s (GoalWork.Stmt x) old new before after
@@ -252,7 +252,7 @@ stmt_is s x y old new ws before after is e h k =
     (let size = ap stmt_size is in omega (arith, k, size))
 
 -- a statement that makes goals at once
-pub stmt_adds : (s : Scope) (x : Bor Stmt) (y : tree.Stmt) (old : List GoalWork) (before after : Made) (gs : List Goal) → stmt_view x.now ≡ y → after ≡ added gs (in_stmt y) before → gs ≡ stmt_goals (here s before) before.sites y → selects (of_stmt false y) ≡ 0 → 0 < stmt_size y → Takes s (GoalWork.Stmt x) old old before after
+pub stmt_adds : (s : Scope) (x : Bor Stmt) (y : tree.Stmt) (old : List GoalWork) (before after : Made) (gs : List Goal) → stmt_view x.now ≡ y → after ≡ added gs (in_stmt y) before → gs ≡ stmt_goals (here s before) before.sites y → count_selects (of_stmt false y) ≡ 0 → 0 < stmt_size y → Takes s (GoalWork.Stmt x) old old before after
 stmt_adds s x y old before after gs is e same none some =
     stmt_is s x y old old [] before after is (nothing_put old)
     (e ∙ same_made _ _ _ _ _ _ _ _ _ (ap (λ (l : List Goal). with_more l before.goals) same) refl (omega (arith, none)) refl)
@@ -264,12 +264,12 @@ kept_added m after gs e = e ∙ ap (λ (l : List tree.Body). record m { goals = 
 
 -- a statement with goals of which something is made
 abbrev gathering : tree.Value → Body → tree.Value → Closed
-gathering v b into = join (in_value v) (join (in_branches (body_view b)) (in_value into))
+gathering v b into = joined_closures (in_value v) (joined_closures (in_branches (body_view b)) (in_value into))
 
 gathered_found : (m : Made) (v : tree.Value) (b : Body) (into : tree.Value) → ((m.found ++ direct (in_value v)) ++ direct (in_branches (body_view b))) ++ direct (in_value into) ≡ m.found ++ direct (gathering v b into)
 gathered_found m v b into =
     ap (λ (l : List tree.Body). l ++ direct (in_value into)) (found_join m.found (in_value v) (in_branches (body_view b)))
-    ∙ found_join m.found (join (in_value v) (in_branches (body_view b))) (in_value into)
+    ∙ found_join m.found (joined_closures (in_value v) (in_branches (body_view b))) (in_value into)
     ∙ ap (λ (c : Closed). m.found ++ direct c) (join_join (in_value v) (in_branches (body_view b)) (in_value into))
 
 -- the scopes of the goals and of the last value

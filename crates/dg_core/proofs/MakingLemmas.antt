@@ -13,7 +13,7 @@ use Rattle.dg_base.specs.declared.tree.Value.{Value}
 use Rattle.dg_base.specs.Tree as tree
 use Rattle.dg_base.specs.declared.program.Term.TheVariants as term
 use Rattle.dg_base.specs.declared.tree.Body.{Body}
-use Rattle.dg_core.specs.Bodies.{Closed, join, direct, in_value, in_values}
+use Rattle.dg_core.specs.Bodies.{Closed, joined_closures, direct, in_value, in_values}
 use Rattle.dg_core.specs.Goals.{Scope, at, past, closure_of, term_of, listed}
 use Rattle.dg_core.specs.inside.View.{terms_made}
 use Rattle.dg_core.proofs.BodyLemmas.{past_none, past_past, found_past, found_join, found_none, join_none, join_join}
@@ -53,21 +53,21 @@ terms_less old new ws k e h = let is = ap terms_weight e ∙ terms_weigh old ws 
 -- elements in front of a tail
 first_made : (scope : Scope) (m : Terms) (v : tree.Value) (vs : tree.Values) (tail : Option Value) →
     (let k = at scope (length m.found) in let j = at scope (length (m.found ++ direct (in_value v))) in
-    record { terms = term.Pair (term_of k v) (listed_tail j vs tail) ∷ m.terms; found = (m.found ++ direct (in_value v)) ++ direct (join (in_values vs) (in_tail tail)) })
-    ≡ with_term (join (in_values (tree.value v vs)) (in_tail tail)) (listed_tail (at scope (length m.found)) (tree.value v vs) tail) m
+    record { terms = term.Pair (term_of k v) (listed_tail j vs tail) ∷ m.terms; found = (m.found ++ direct (in_value v)) ++ direct (joined_closures (in_values vs) (in_tail tail)) })
+    ≡ with_term (joined_closures (in_values (tree.value v vs)) (in_tail tail)) (listed_tail (at scope (length m.found)) (tree.value v vs) tail) m
 first_made scope m v vs tail =
     let k = at scope (length m.found) in
     let rest : Scope → Scope → Term = λ i j. term.Pair (term_of k v) (listed i vs (tail_of j tail)) in
-    let found = (m.found ++ direct (in_value v)) ++ direct (join (in_values vs) (in_tail tail)) in
+    let found = (m.found ++ direct (in_value v)) ++ direct (joined_closures (in_values vs) (in_tail tail)) in
     ap (λ (i : Scope). record { terms = rest i (past i (in_values vs)) ∷ m.terms; found = found }) (found_past scope m.found (in_value v))
     ∙ ap (λ (j : Scope). record { terms = rest (past k (in_value v)) j ∷ m.terms; found = found }) (past_past k (in_value v) (in_values vs))
-    ∙ ap (λ (l : List tree.Body). record { terms = rest (past k (in_value v)) (past k (join (in_value v) (in_values vs))) ∷ m.terms; found = l })
-    (found_join m.found (in_value v) (join (in_values vs) (in_tail tail)) ∙ ap (λ (c : Closed). m.found ++ direct c) (sym (join_join (in_value v) (in_values vs) (in_tail tail))))
+    ∙ ap (λ (l : List tree.Body). record { terms = rest (past k (in_value v)) (past k (joined_closures (in_value v) (in_values vs))) ∷ m.terms; found = l })
+    (found_join m.found (in_value v) (joined_closures (in_values vs) (in_tail tail)) ∙ ap (λ (c : Closed). m.found ++ direct c) (sym (join_join (in_value v) (in_values vs) (in_tail tail))))
 
 values_make : (scope : Scope) (m : Terms) (vs : Bor (List Value)) (tail : Bor (Option Value)) (x : Bor Value) (others : Bor (List Value)) → vs.now ≡ x.now ∷ others.now → terms_behind scope (TermWork.Pair ∷ TermWork.Values others tail ∷ TermWork.Value x ∷ []) m ≡ term_behind scope (TermWork.Values vs tail) m
 values_make scope m vs tail x others e =
     first_made scope m (value_view x.now) (values_of (map value_view others.now)) tail.now
-    ∙ ap (λ (l : List Value). let all = values_of (map value_view l) in with_term (join (in_values all) (in_tail tail.now)) (listed_tail (at scope (length m.found)) all tail.now) m) (sym e)
+    ∙ ap (λ (l : List Value). let all = values_of (map value_view l) in with_term (joined_closures (in_values all) (in_tail tail.now)) (listed_tail (at scope (length m.found)) all tail.now) m) (sym e)
 
 values_weigh : (vs : Bor (List Value)) (tail : Bor (Option Value)) (x : Bor Value) (others : Bor (List Value)) → vs.now ≡ x.now ∷ others.now → terms_weight (TermWork.Pair ∷ TermWork.Values others tail ∷ TermWork.Value x ∷ []) < term_weight (TermWork.Values vs tail)
 values_weigh vs tail x others e =
@@ -79,7 +79,7 @@ tail_makes : (scope : Scope) (m : Terms) (vs : Bor (List Value)) (tail : Bor (Op
 tail_makes scope m vs tail x e is =
     ap (λ (s : Scope). with_term (in_value (value_view x.now)) (term_of s (value_view x.now)) m) (past_none scope (length m.found))
     ∙ ap (λ (o : Option Value). with_term (in_tail o) (listed_tail (at scope (length m.found)) tree.no_values o) m) (sym is)
-    ∙ ap (λ (l : List Value). let all = values_of (map value_view l) in with_term (join (in_values all) (in_tail tail.now)) (listed_tail (at scope (length m.found)) all tail.now) m) (sym e)
+    ∙ ap (λ (l : List Value). let all = values_of (map value_view l) in with_term (joined_closures (in_values all) (in_tail tail.now)) (listed_tail (at scope (length m.found)) all tail.now) m) (sym e)
 
 tail_weighs : (vs : Bor (List Value)) (tail : Bor (Option Value)) (x : Bor Value) → vs.now ≡ [] → tail.now ≡ Some x.now → terms_weight (TermWork.Value x ∷ []) < term_weight (TermWork.Values vs tail)
 tail_weighs vs tail x e is =
@@ -94,7 +94,7 @@ nothing_listed scope old m k vs tail e is made =
     (made
     ∙ ap (λ (l : List tree.Body). record { terms = term.Nil ∷ m.terms; found = l }) (found_none m.found)
     ∙ ap (λ (o : Option Value). with_term (in_tail o) (listed_tail (at scope (length m.found)) tree.no_values o) m) (sym is)
-    ∙ ap (λ (l : List Value). let all = values_of (map value_view l) in with_term (join (in_values all) (in_tail tail.now)) (listed_tail (at scope (length m.found)) all tail.now) m) (sym e))
+    ∙ ap (λ (l : List Value). let all = values_of (map value_view l) in with_term (joined_closures (in_values all) (in_tail tail.now)) (listed_tail (at scope (length m.found)) all tail.now) m) (sym e))
 
 -- a closure, whose body was found
 pub closure_makes : (scope : Scope) (left : List TermWork) (terms more : List Term) (found bodies : List (Bor Body)) (v : Bor Value) (b : Bor Body) → v.now ≡ Value.Closure b.now → more ≡ terms ++ closure_of (slice_get scope.closures (length found)) ∷ [] → bodies ≡ found ++ b ∷ [] → terms_behind scope left (terms_made more bodies) ≡ terms_behind scope left (term_behind scope (TermWork.Value v) (terms_made terms found))
@@ -167,7 +167,7 @@ tail_less old new vs tail x e none is = terms_less old new (TermWork.Value x ∷
 pub first_comes : (scope : Scope) (old new : List TermWork) (m : Terms) (vs : Bor (List Value)) (tail rest : Bor (Option Value)) (x : Bor Value) (others : Bor (List Value)) → new ≡ old ++ TermWork.Pair ∷ TermWork.Values others rest ∷ TermWork.Value x ∷ [] → rest.now ≡ tail.now → vs.now ≡ x.now ∷ others.now → terms_behind scope new m ≡ terms_behind scope old (term_behind scope (TermWork.Values vs tail) m)
 first_comes scope old new m vs tail rest x others e same is =
     terms_comes scope old new (TermWork.Pair ∷ TermWork.Values others rest ∷ TermWork.Value x ∷ []) (TermWork.Values vs rest) m m e (values_make scope m vs rest x others is)
-    ∙ ap (λ (o : Option Value). let all = values_of (map value_view vs.now) in terms_behind scope old (with_term (join (in_values all) (in_tail o)) (listed_tail (at scope (length m.found)) all o) m)) same
+    ∙ ap (λ (o : Option Value). let all = values_of (map value_view vs.now) in terms_behind scope old (with_term (joined_closures (in_values all) (in_tail o)) (listed_tail (at scope (length m.found)) all o) m)) same
 
 pub first_less : (old new : List TermWork) (vs : Bor (List Value)) (tail rest : Bor (Option Value)) (x : Bor Value) (others : Bor (List Value)) → new ≡ old ++ TermWork.Pair ∷ TermWork.Values others rest ∷ TermWork.Value x ∷ [] → rest.now ≡ tail.now → vs.now ≡ x.now ∷ others.now → terms_weight new < term_weight (TermWork.Values vs tail) + terms_weight old
 first_less old new vs tail rest x others e same is =
@@ -185,7 +185,7 @@ list_term : (scope : Scope) (vs : List Value) (tail : Option Value) → listed_t
 list_term scope vs None = refl
 list_term scope vs (Some x) = refl
 
-list_closed : (vs : List Value) (tail : Option Value) → join (in_values (values_of (map value_view vs))) (in_tail tail) ≡ in_value (list_view (map value_view vs) (option_map value_view tail))
+list_closed : (vs : List Value) (tail : Option Value) → joined_closures (in_values (values_of (map value_view vs))) (in_tail tail) ≡ in_value (list_view (map value_view vs) (option_map value_view tail))
 list_closed vs None = join_none (in_values (values_of (map value_view vs)))
 list_closed vs (Some x) = refl
 
@@ -196,7 +196,7 @@ list_size vs (Some x) = omega arith
 pub list_makes : (scope : Scope) (old new : List TermWork) (m : Terms) (v : Bor Value) (vs : List Value) (tail : Option Value) (elements : Bor (List Value)) (rest : Bor (Option Value)) → new ≡ old ++ TermWork.Values elements rest ∷ [] → v.now ≡ Value.List vs tail → elements.now ≡ vs → rest.now ≡ tail → terms_behind scope new m ≡ terms_behind scope old (term_behind scope (TermWork.Value v) m)
 list_makes scope old new m v vs tail elements rest e is same other =
     let s = at scope (length m.found) in
-    let made : List Value → Option Value → Terms = λ l o. let all = values_of (map value_view l) in with_term (join (in_values all) (in_tail o)) (listed_tail s all o) m in
+    let made : List Value → Option Value → Terms = λ l o. let all = values_of (map value_view l) in with_term (joined_closures (in_values all) (in_tail o)) (listed_tail s all o) m in
     terms_comes scope old new (TermWork.Values elements rest ∷ []) (TermWork.Value v) m m e
     (ap (λ (l : List Value). made l rest.now) same
     ∙ ap (made vs) other

@@ -5,7 +5,7 @@ use Rattle.dg_base.specs.Mentions.{Mentions, nothing, thing, closed, of_parts, o
 use Rattle.dg_base.specs.Tree as tree
 use Rattle.dg_base.specs.Tree.{Parts, Value, Values, Stmt, Stmts, Body, Arms, Changes}
 use Rattle.dg_base.specs.declared.mentions.Role.TheVariants as role
-use Rattle.dg_core.specs.Bodies.{Closed, no_closure, a_closure, join, in_value, in_values, in_parts, in_stmt, in_stmts, in_branches, in_arms, in_changes}
+use Rattle.dg_core.specs.Bodies.{Closed, no_closure, a_closure, joined_closures, in_value, in_values, in_parts, in_stmt, in_stmts, in_branches, in_arms, in_changes}
 use Rattle.dg_core.specs.Matches.{ArePlain, Matches}
 
 plain_front : (a b : Mentions) → ArePlain (mentions.join a b) → ArePlain a
@@ -19,7 +19,7 @@ plain_back (thing t ms) b h = plain_back ms b h.1
 plain_back (closed inner ms) b h = plain_back ms b h.1
 
 -- some closures and then others
-joined : (a b : Mentions) (cs ds : Closed) → Matches a cs → Matches b ds → Matches (mentions.join a b) (join cs ds)
+joined : (a b : Mentions) (cs ds : Closed) → Matches a cs → Matches b ds → Matches (mentions.join a b) (joined_closures cs ds)
 joined nothing b no_closure ds h k = k
 joined nothing b (a_closure x inner cs) ds h k = absurd h
 joined (thing t ms) b cs ds h k = joined ms b cs ds h k
@@ -66,11 +66,11 @@ mutual
   stmt_matches (tree.stoppable s) h = stmt_matches s h.1
   stmt_matches (tree.collect v b into) h =
       let rest = plain_back (of_value false v) (mentions.join (of_body false b) (of_value false into)) h.1 in
-      joined (of_value false v) (mentions.join (of_body false b) (of_value false into)) (in_value v) (join (in_branches b) (in_value into)) (value_matches v (plain_front (of_value false v) (mentions.join (of_body false b) (of_value false into)) h.1))
+      joined (of_value false v) (mentions.join (of_body false b) (of_value false into)) (in_value v) (joined_closures (in_branches b) (in_value into)) (value_matches v (plain_front (of_value false v) (mentions.join (of_body false b) (of_value false into)) h.1))
       (joined (of_body false b) (of_value false into) (in_branches b) (in_value into) (branches_match b (plain_front (of_body false b) (of_value false into) rest).1) (value_matches into (plain_back (of_body false b) (of_value false into) rest)))
   stmt_matches (tree.accumulate v b into) h =
       let rest = plain_back (of_value false v) (mentions.join (of_body false b) (of_value false into)) h.1 in
-      joined (of_value false v) (mentions.join (of_body false b) (of_value false into)) (in_value v) (join (in_branches b) (in_value into)) (value_matches v (plain_front (of_value false v) (mentions.join (of_body false b) (of_value false into)) h.1))
+      joined (of_value false v) (mentions.join (of_body false b) (of_value false into)) (in_value v) (joined_closures (in_branches b) (in_value into)) (value_matches v (plain_front (of_value false v) (mentions.join (of_body false b) (of_value false into)) h.1))
       (joined (of_body false b) (of_value false into) (in_branches b) (in_value into) (branches_match b (plain_front (of_body false b) (of_value false into) rest).1) (value_matches into (plain_back (of_body false b) (of_value false into) rest)))
   stmt_matches (tree.select mode b) h = branches_match b h.1
   stmt_matches (tree.first_answer b) h = branches_match b h.1.1
@@ -87,12 +87,12 @@ mutual
   arms_match tree.no_arms h = tt
   arms_match (tree.arm c b arms) h =
       let rest = plain_back (of_body false c) (mentions.join (of_body false b) (of_arms false arms)) h in
-      joined (of_body false c) (mentions.join (of_body false b) (of_arms false arms)) (in_branches c) (join (in_branches b) (in_arms arms)) (branches_match c (plain_front (of_body false c) (mentions.join (of_body false b) (of_arms false arms)) h).1)
+      joined (of_body false c) (mentions.join (of_body false b) (of_arms false arms)) (in_branches c) (joined_closures (in_branches b) (in_arms arms)) (branches_match c (plain_front (of_body false c) (mentions.join (of_body false b) (of_arms false arms)) h).1)
       (joined (of_body false b) (of_arms false arms) (in_branches b) (in_arms arms) (branches_match b (plain_front (of_body false b) (of_arms false arms) rest).1) (arms_match arms (plain_back (of_body false b) (of_arms false arms) rest)))
 
   changes_match : (cs : Changes) → ArePlain (of_changes false cs) → Matches (of_changes false cs) (in_changes cs)
   changes_match tree.no_changes h = tt
   changes_match (tree.change ps set cs) h = joined (of_parts false ps) (of_changes false cs) (in_parts ps) (in_changes cs) (parts_match ps (plain_front (of_parts false ps) (of_changes false cs) h.1)) (changes_match cs (plain_back (of_parts false ps) (of_changes false cs) h.1))
 
-pub rule_matches : (ps : Parts) (b : Body) → ArePlain (of_rule role.Rule ps b) → Matches (of_rule role.Rule ps b) (join (in_parts ps) (in_branches b))
+pub rule_matches : (ps : Parts) (b : Body) → ArePlain (of_rule role.Rule ps b) → Matches (of_rule role.Rule ps b) (joined_closures (in_parts ps) (in_branches b))
 rule_matches ps b h = joined (of_parts false ps) (of_body false b) (in_parts ps) (in_branches b) (parts_match ps (plain_front (of_parts false ps) (of_body false b) h.1)) (branches_match b (plain_back (of_parts false ps) (of_body false b) h.1).1)

@@ -21,7 +21,7 @@ use Rattle.dg_base.specs.declared.program.Goal.{Goal}
 use Rattle.dg_base.specs.declared.program.Pred.{Pred}
 use Rattle.dg_base.specs.declared.program.Rule.{Rule}
 use Rattle.dg_core.specs.Bodies.{no_closure}
-use Rattle.dg_core.specs.Core.{Before, none_before, behind_item, rule_of, failing, rules_in, rules_from, rows_in, selects_of, closures_of, numbered, pred_of}
+use Rattle.dg_core.specs.Core.{Before, none_before, behind_item, rule_of, failing, rules_of_item, rules_from, rows_in, selects_of, closures_of, numbered, pred_of}
 use Rattle.dg_core.specs.Goals.{Scope}
 use Rattle.dg_core.specs.inside.View.{with_rule, with_rules_in, with_all, pred_names}
 
@@ -122,7 +122,7 @@ listed_distinct (k ∷ ks) distinct = (listed_apart k ks distinct.0, listed_dist
 
 -- ---- the rules of items
 
-nothing_added : (around : Scope) (k : Before) (said : Said) (ps : List Pred) → ((name : List ℕ) → rules_in around k name said ≡ []) → map (with_rules_in around k said) ps ≡ ps
+nothing_added : (around : Scope) (k : Before) (said : Said) (ps : List Pred) → ((name : List ℕ) → rules_of_item around k name said ≡ []) → map (with_rules_in around k said) ps ≡ ps
 nothing_added around k said [] none = refl
 nothing_added around k said (p ∷ ps) none =
     ap (λ (q : Pred). q ∷ map (with_rules_in around k said) ps) (ap (λ (rs : List Rule). record p { rules = p.rules ++ rs }) (none p.name) ∙ as_it_was p)
@@ -143,7 +143,7 @@ names_kept around k said (p ∷ ps) = ap (λ (l : List (List ℕ)). p.name ∷ l
 pub all_more : (around : Scope) (k : Before) (i : Item) (is : List Item) (ps : List Pred) → map (with_all around (behind_item k i.said) is) (map (with_rules_in around k i.said) ps) ≡ map (with_all around k (i ∷ is)) ps
 all_more around k i is [] = refl
 all_more around k i is (p ∷ ps) =
-    ap (λ (rs : List Rule). record p { rules = rs } ∷ map (with_all around (behind_item k i.said) is) (map (with_rules_in around k i.said) ps)) (append_assoc p.rules (rules_in around k p.name i.said) (rules_from around (behind_item k i.said) p.name is))
+    ap (λ (rs : List Rule). record p { rules = rs } ∷ map (with_all around (behind_item k i.said) is) (map (with_rules_in around k i.said) ps)) (append_assoc p.rules (rules_of_item around k p.name i.said) (rules_from around (behind_item k i.said) p.name is))
     ∙ ap (λ (l : List Pred). with_all around k (i ∷ is) p ∷ l) (all_more around k i is ps)
 
 pub all_done : (around : Scope) (k : Before) (ps : List Pred) → map (with_all around k []) ps ≡ ps
@@ -161,7 +161,7 @@ next_item is k i h e =
 -- ---- items without a rule
 
 pub record HasNoRule (said : Said) : Type 0 where
-  pub rules : (around : Scope) (n : Before) (name : List ℕ) → rules_in around n name said ≡ []
+  pub rules : (around : Scope) (n : Before) (name : List ℕ) → rules_of_item around n name said ≡ []
   pub rows : (around : Scope) (n : Before) → rows_in around n said ≡ []
   pub selects : selects_of said ≡ 0
   pub closures : closures_of said ≡ no_closure

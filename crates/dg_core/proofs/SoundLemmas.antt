@@ -35,13 +35,13 @@ use Rattle.dg_base.specs.declared.refusal.ReadFault.{ReadFault}
 use Rattle.dg_names.specs.Among.{IsAmong, HasPred}
 use Rattle.dg_names.specs.Named.{Named, firsts}
 use Rattle.dg_closures.proofs.VariableLemmas.{all_held, rule_small}
-use Rattle.dg_core.specs.Core.{Before, outside, scope_of, rule_of, failing, rules_in, behind_item, none_before, rules_from, selects_of, all_selects, inner_selects, pred_of, without_facts, entry_name, core_of, is_rule_for, has_entry, with_rules, rules_of, rules_at, rules_named, starts_from, declared_start, refusal_of, IsLowered}
+use Rattle.dg_core.specs.Core.{Before, outer_scope, scope_of, rule_of, failing, rules_of_item, behind_item, none_before, rules_from, selects_of, all_selects, inner_selects, pred_of, without_facts, entry_name, core_of, is_rule_for, has_entry, with_rules, pred_rules, numbered_rules, rules_named, fact_starts, declared_start, core_refusal, IsLowered}
 use Rattle.dg_core.specs.Given.{IsGiven}
 use Rattle.dg_core.specs.Bodies.{in_parts}
-use Rattle.dg_core.specs.Goals.{Scope, past, unit, lists, selects}
-use Rattle.dg_core.specs.Places.{Placed, is_among, parent_name, place_names, placed_of, declaration_in, declarations, declared_names, changed_in, kind_by, kind_of, values_named, values_in, are_fact, is_empty, is_no_fact, is_bad, declared_behind, first_bad}
+use Rattle.dg_core.specs.Goals.{Scope, past, unit, lists, count_selects}
+use Rattle.dg_core.specs.Places.{Placed, is_among, parent_name, place_names, placed_of, declaration_in, declarations, declared_names, changed_in, kind_by, kind_of, values_named, head_values, are_fact, is_empty_body, is_no_fact, is_bad_start, declared_behind, first_bad_start}
 use Rattle.dg_core.specs.Rows.{names_of, AreCaught}
-use Rattle.dg_core.specs.Variables.{layouts_in, variables_of}
+use Rattle.dg_core.specs.Variables.{layouts_in, rule_variables}
 use Rattle.dg_core.proofs.AskLemmas.{query_fits, place_in, place_fits, parents_fit, entry_fits}
 use Rattle.dg_core.proofs.ClosureLemmas.{known_out, few_closures, IsRuleKnown, IsItemKnown, AreItemsKnown, items_known, ground, row_goals, closures_made}
 use Rattle.dg_core.proofs.GoalLemmas.{AreMade, made_none, made_join, body_made, goal_made}
@@ -57,40 +57,40 @@ few_vars : (n : ℕ) → n ≤ 65 → min n 65535 ≤ 65
 few_vars n h = omega arith
 
 abbrev vars_of : Parts → Body → ℕ
-vars_of ps b = min (length (variables_of ps b)) 65535
+vars_of ps b = min (length (rule_variables ps b)) 65535
 
-rule_few : (names : Named) (items : List Item) (first : ℕ) (ps : Parts) (b : Body) → IsRuleKnown names items first ps b → length (variables_of ps b) ≤ 65
+rule_few : (names : Named) (items : List Item) (first : ℕ) (ps : Parts) (b : Body) → IsRuleKnown names items first ps b → length (rule_variables ps b) ≤ 65
 rule_few names items first ps b h = rule_small (names_of ps b) (of_rule role.Rule ps b) h.fit.few.0
 
-rule_ground : (names : Named) (items : List Item) (first : ℕ) (ps : Parts) (b : Body) → IsGiven names items → IsRuleKnown names items first ps b → IsGround (core_of names items) (vars_of ps b) (scope_of (outside names items) first ps b)
+rule_ground : (names : Named) (items : List Item) (first : ℕ) (ps : Parts) (b : Body) → IsGiven names items → IsRuleKnown names items first ps b → IsGround (core_of names items) (vars_of ps b) (scope_of (outer_scope names items) first ps b)
 rule_ground names items first ps b g h =
     let few = rule_few names items first ps b h in
-    let vars = variables_of ps b in
+    let vars = rule_variables ps b in
     let ms = of_rule role.Rule ps b in
-    subst (λ (v : ℕ). IsGround (core_of names items) v (scope_of (outside names items) first ps b)) (sym (at_most (length vars) few))
+    subst (λ (v : ℕ). IsGround (core_of names items) v (scope_of (outer_scope names items) first ps b)) (sym (at_most (length vars) few))
     (ground names items (layouts_in ps b).closures (names_of ps b) vars first 0 ms g (omega (arith, few)) (subst (λ (k : ℕ). AreCaught (core_of names items).closures (names_of ps b) vars k ms) (omega arith) h.caught))
 
-known_rule : (names : Named) (items : List Item) (first : ℕ) (ps : Parts) (b : Body) → IsRuleKnown names items first ps b → Hold (IsKnown (scope_of (outside names items) first ps b)) (of_rule role.Rule ps b)
-known_rule names items first ps b h = known_out (scope_of (outside names items) first ps b) (names_of ps b) (of_rule role.Rule ps b) (all_held (names_of ps b) (of_rule role.Rule ps b)) h.asked
+known_rule : (names : Named) (items : List Item) (first : ℕ) (ps : Parts) (b : Body) → IsRuleKnown names items first ps b → Hold (IsKnown (scope_of (outer_scope names items) first ps b)) (of_rule role.Rule ps b)
+known_rule names items first ps b h = known_out (scope_of (outer_scope names items) first ps b) (names_of ps b) (of_rule role.Rule ps b) (all_held (names_of ps b) (of_rule role.Rule ps b)) h.asked
 
 -- the sites of rules are below those of closures
 below_all : (names : Named) (items : List Item) (n : ℕ) → n ≤ all_selects items → n ≤ (core_of names items).sites
 below_all names items n e = omega (arith, e)
 
-rule_made : (names : Named) (items : List Item) (n : Before) (ps : Parts) (b : Body) (behind : List Goal) → IsGiven names items → IsRuleKnown names items n.closures ps b → n.selects + selects (of_body false b) ≤ all_selects items → AreMade (core_of names items) (vars_of ps b) (n.selects + selects (of_body false b)) (n.selects + selects (of_body false b)) behind → AreMade (core_of names items) (vars_of ps b) n.selects (n.selects + selects (of_body false b)) (rule_of (outside names items) n ps b behind).body
+rule_made : (names : Named) (items : List Item) (n : Before) (ps : Parts) (b : Body) (behind : List Goal) → IsGiven names items → IsRuleKnown names items n.closures ps b → n.selects + count_selects (of_body false b) ≤ all_selects items → AreMade (core_of names items) (vars_of ps b) (n.selects + count_selects (of_body false b)) (n.selects + count_selects (of_body false b)) behind → AreMade (core_of names items) (vars_of ps b) n.selects (n.selects + count_selects (of_body false b)) (rule_of (outer_scope names items) n ps b behind).body
 rule_made names items n ps b behind g h e k =
     let p = core_of names items in
-    let s = scope_of (outside names items) n.closures ps b in
+    let s = scope_of (outer_scope names items) n.closures ps b in
     let t = past s (in_parts ps) in
-    let m = n.selects + selects (of_body false b) in
+    let m = n.selects + count_selects (of_body false b) in
     made_join p (vars_of ps b) n.selects m m (unit (lists t n.selects b)) behind
     (body_made p (vars_of ps b) t n.selects b (ground_past p (vars_of ps b) s (in_parts ps) (rule_ground names items n.closures ps b g h)) (back (IsKnown s) (of_parts false ps) (of_body false b) (known_rule names items n.closures ps b h).1) (below_all names items m e)) k
 
-rule_sound : (names : Named) (items : List Item) (n : Before) (ps : Parts) (b : Body) (behind : List Goal) → IsGiven names items → IsRuleKnown names items n.closures ps b → n.selects + selects (of_body false b) ≤ all_selects items → AreMade (core_of names items) (vars_of ps b) (n.selects + selects (of_body false b)) (n.selects + selects (of_body false b)) behind → IsRuleOf (core_of names items) (rule_of (outside names items) n ps b behind)
+rule_sound : (names : Named) (items : List Item) (n : Before) (ps : Parts) (b : Body) (behind : List Goal) → IsGiven names items → IsRuleKnown names items n.closures ps b → n.selects + count_selects (of_body false b) ≤ all_selects items → AreMade (core_of names items) (vars_of ps b) (n.selects + count_selects (of_body false b)) (n.selects + count_selects (of_body false b)) behind → IsRuleOf (core_of names items) (rule_of (outer_scope names items) n ps b behind)
 rule_sound names items n ps b behind g h e k =
-    let s = scope_of (outside names items) n.closures ps b in
+    let s = scope_of (outer_scope names items) n.closures ps b in
     record {
-      few = few_vars (length (variables_of ps b)) (rule_few names items n.closures ps b h);
+      few = few_vars (length (rule_variables ps b)) (rule_few names items n.closures ps b h);
       head = parts_sound (core_of names items) (vars_of ps b) s false ps (rule_ground names items n.closures ps b g h) (front (IsKnown s) (of_parts false ps) (of_body false b) (known_rule names items n.closures ps b h).1);
       body = (rule_made names items n ps b behind g h e k).sound;
     }
@@ -105,19 +105,19 @@ given : (p : Core) (same : Bool) (r : Rule) → IsRuleOf p r → All (IsRuleOf p
 given p true r h = All-cons (IsRuleOf p) r [] h (All-nil (IsRuleOf p))
 given p false r h = All-nil (IsRuleOf p)
 
-item_sound : (names : Named) (items : List Item) (n : Before) (name : List ℕ) (said : Said) → IsGiven names items → IsItemKnown names items n.closures said → n.selects + selects_of said ≤ all_selects items → All (IsRuleOf (core_of names items)) (rules_in (outside names items) n name said)
+item_sound : (names : Named) (items : List Item) (n : Before) (name : List ℕ) (said : Said) → IsGiven names items → IsItemKnown names items n.closures said → n.selects + selects_of said ≤ all_selects items → All (IsRuleOf (core_of names items)) (rules_of_item (outer_scope names items) n name said)
 item_sound names items n name (tree.topic w) g h e = All-nil (IsRuleOf (core_of names items))
 item_sound names items n name (tree.rule ps b) g h e =
-    given (core_of names items) (bytes_eq (name_of ps) name) (rule_of (outside names items) n ps b []) (rule_sound names items n ps b [] g h e (made_none (core_of names items) (vars_of ps b) _ _ (omega arith)))
+    given (core_of names items) (bytes_eq (name_of ps) name) (rule_of (outer_scope names items) n ps b []) (rule_sound names items n ps b [] g h e (made_none (core_of names items) (vars_of ps b) _ _ (omega arith)))
 item_sound names items n name (tree.deny ps b) g h e =
-    given (core_of names items) (bytes_eq (name_of ps) name) (rule_of (outside names items) n ps b failing) (rule_sound names items n ps b failing g h e (failing_made (core_of names items) (vars_of ps b) _))
+    given (core_of names items) (bytes_eq (name_of ps) name) (rule_of (outer_scope names items) n ps b failing) (rule_sound names items n ps b failing g h e (failing_made (core_of names items) (vars_of ps b) _))
 item_sound names items n name (tree.access ps b) g h e = All-nil (IsRuleOf (core_of names items))
 item_sound names items n name (tree.global_variable ps) g h e = All-nil (IsRuleOf (core_of names items))
 
-items_sound : (names : Named) (items : List Item) (n : Before) (name : List ℕ) (is : List Item) → IsGiven names items → AreItemsKnown names items n.closures is → n.selects + all_selects is ≤ all_selects items → All (IsRuleOf (core_of names items)) (rules_from (outside names items) n name is)
+items_sound : (names : Named) (items : List Item) (n : Before) (name : List ℕ) (is : List Item) → IsGiven names items → AreItemsKnown names items n.closures is → n.selects + all_selects is ≤ all_selects items → All (IsRuleOf (core_of names items)) (rules_from (outer_scope names items) n name is)
 items_sound names items n name [] g h e = All-nil (IsRuleOf (core_of names items))
 items_sound names items n name (i ∷ is) g h e =
-    All-append (IsRuleOf (core_of names items)) (rules_in (outside names items) n name i.said) (rules_from (outside names items) (behind_item n i.said) name is)
+    All-append (IsRuleOf (core_of names items)) (rules_of_item (outer_scope names items) n name i.said) (rules_from (outer_scope names items) (behind_item n i.said) name is)
     (item_sound names items n name i.said g h.0 (omega (arith, e)))
     (items_sound names items (behind_item n i.said) name is g h.1 (omega (arith, e)))
 
@@ -125,15 +125,15 @@ kept : (p : Core) (b : Bool) (rs : List Rule) → All (IsRuleOf p) rs → All (I
 kept p true rs h = All-nil (IsRuleOf p)
 kept p false rs h = h
 
-preds_sound : (names : Named) (items : List Item) (ns : List (List ℕ)) → IsGiven names items → All IsName ns → All (IsPredOf (core_of names items)) (map (without_facts (place_names items)) (map (pred_of (outside names items) items) ns))
+preds_sound : (names : Named) (items : List Item) (ns : List (List ℕ)) → IsGiven names items → All IsName ns → All (IsPredOf (core_of names items)) (map (without_facts (place_names items)) (map (pred_of (outer_scope names items) items) ns))
 preds_sound names items [] g m = All-nil (IsPredOf (core_of names items))
 preds_sound names items (n ∷ ns) g m =
-    let q = pred_of (outside names items) items n in
+    let q = pred_of (outer_scope names items) items n in
     let here : IsPredOf (core_of names items) (without_facts (place_names items) q) = record {
       name = All-head IsName n ns m;
       rules = kept (core_of names items) _ q.rules (items_sound names items none_before n items g (items_known names items g) (omega arith));
     } in
-    All-cons (IsPredOf (core_of names items)) (without_facts (place_names items) q) (map (without_facts (place_names items)) (map (pred_of (outside names items) items) ns)) here (preds_sound names items ns g (All-tail IsName n ns m))
+    All-cons (IsPredOf (core_of names items)) (without_facts (place_names items) q) (map (without_facts (place_names items)) (map (pred_of (outer_scope names items) items) ns)) here (preds_sound names items ns g (All-tail IsName n ns m))
 
 -- ---- sites
 
@@ -147,19 +147,19 @@ abbrev goals_from : Scope → Before → List Item → List Goal
 goals_from around n [] = []
 goals_from around n (i ∷ is) = goals_of (body_in around n i.said) ++ goals_from around (behind_item n i.said) is
 
-item_sited : (names : Named) (items : List Item) (n : Before) (said : Said) → IsGiven names items → IsItemKnown names items n.closures said → n.selects + selects_of said ≤ all_selects items → AreSited n.selects (n.selects + selects_of said) (goals_of (body_in (outside names items) n said))
+item_sited : (names : Named) (items : List Item) (n : Before) (said : Said) → IsGiven names items → IsItemKnown names items n.closures said → n.selects + selects_of said ≤ all_selects items → AreSited n.selects (n.selects + selects_of said) (goals_of (body_in (outer_scope names items) n said))
 item_sited names items n (tree.topic w) g h e = sited_none n.selects _ (omega arith)
 item_sited names items n (tree.rule ps b) g h e = (rule_made names items n ps b [] g h e (made_none (core_of names items) (vars_of ps b) _ _ (omega arith))).sited
 item_sited names items n (tree.deny ps b) g h e = (rule_made names items n ps b failing g h e (failing_made (core_of names items) (vars_of ps b) _)).sited
 item_sited names items n (tree.access ps b) g h e = sited_none n.selects _ (omega arith)
 item_sited names items n (tree.global_variable ps) g h e = sited_none n.selects _ (omega arith)
 
-items_sited : (names : Named) (items : List Item) (n : Before) (is : List Item) → IsGiven names items → AreItemsKnown names items n.closures is → n.selects + all_selects is ≤ all_selects items → AreSited n.selects (n.selects + all_selects is) (goals_from (outside names items) n is)
+items_sited : (names : Named) (items : List Item) (n : Before) (is : List Item) → IsGiven names items → AreItemsKnown names items n.closures is → n.selects + all_selects is ≤ all_selects items → AreSited n.selects (n.selects + all_selects is) (goals_from (outer_scope names items) n is)
 items_sited names items n [] g h e = sited_none n.selects _ (omega arith)
 items_sited names items n (i ∷ is) g h e =
     let next = behind_item n i.said in
     sited_wider n.selects (next.selects + all_selects is) n.selects _ _ (omega arith) (omega arith)
-    (sited_join n.selects next.selects (next.selects + all_selects is) (goals_of (body_in (outside names items) n i.said)) (goals_from (outside names items) next is)
+    (sited_join n.selects next.selects (next.selects + all_selects is) (goals_of (body_in (outer_scope names items) n i.said)) (goals_from (outer_scope names items) next is)
     (item_sited names items n i.said g h.0 (omega (arith, e)))
     (items_sited names items next is g h.1 (omega (arith, e))))
 
@@ -182,7 +182,7 @@ one_rule_had : (b : Bool) (r : Rule) (hs : List Goal) → All (Has (goals_of r.b
 one_rule_had true r hs = All-append (Has (goals_of r.body ++ hs)) (goals_of r.body) [] (all_had (goals_of r.body) hs) (All-nil (Has (goals_of r.body ++ hs)))
 one_rule_had false r hs = All-nil (Has (goals_of r.body ++ hs))
 
-item_had : (around : Scope) (n : Before) (name : List ℕ) (said : Said) (hs : List Goal) → All (Has (goals_of (body_in around n said) ++ hs)) (rule_goals (rules_in around n name said))
+item_had : (around : Scope) (n : Before) (name : List ℕ) (said : Said) (hs : List Goal) → All (Has (goals_of (body_in around n said) ++ hs)) (rule_goals (rules_of_item around n name said))
 item_had around n name (tree.topic w) hs = All-nil (Has hs)
 item_had around n name (tree.rule ps b) hs = one_rule_had (bytes_eq (name_of ps) name) (rule_of around n ps b []) hs
 item_had around n name (tree.deny ps b) hs = one_rule_had (bytes_eq (name_of ps) name) (rule_of around n ps b failing) hs
@@ -194,21 +194,21 @@ rules_had around n name [] = All-nil (Has [])
 rules_had around n name (i ∷ is) =
     let k = behind_item n i.said in
     let all = goals_from around n (i ∷ is) in
-    subst (All (Has all)) (sym (flat_map-append (λ (r : Rule). goals_of r.body) (rules_in around n name i.said) (rules_from around k name is)))
-    (All-append (Has all) (rule_goals (rules_in around n name i.said)) (rule_goals (rules_from around k name is)) (item_had around n name i.said (goals_from around k is))
+    subst (All (Has all)) (sym (flat_map-append (λ (r : Rule). goals_of r.body) (rules_of_item around n name i.said) (rules_from around k name is)))
+    (All-append (Has all) (rule_goals (rules_of_item around n name i.said)) (rule_goals (rules_from around k name is)) (item_had around n name i.said (goals_from around k is))
     (had_behind (goals_of (body_in around n i.said)) (goals_from around k is) (rule_goals (rules_from around k name is)) (rules_had around k name is)))
 
 kept_had : (gs : List Goal) (b : Bool) (rs : List Rule) → All (Has gs) (rule_goals rs) → All (Has gs) (rule_goals (if b then [] else rs))
 kept_had gs true rs h = All-nil (Has gs)
 kept_had gs false rs h = h
 
-preds_had : (names : Named) (items : List Item) (ns : List (List ℕ)) → All (Has (goals_from (outside names items) none_before items)) (flat_map (λ (q : Pred). rule_goals q.rules) (map (without_facts (place_names items)) (map (pred_of (outside names items) items) ns)))
-preds_had names items [] = All-nil (Has (goals_from (outside names items) none_before items))
+preds_had : (names : Named) (items : List Item) (ns : List (List ℕ)) → All (Has (goals_from (outer_scope names items) none_before items)) (flat_map (λ (q : Pred). rule_goals q.rules) (map (without_facts (place_names items)) (map (pred_of (outer_scope names items) items) ns)))
+preds_had names items [] = All-nil (Has (goals_from (outer_scope names items) none_before items))
 preds_had names items (n ∷ ns) =
-    let all = goals_from (outside names items) none_before items in
-    let rules = rules_from (outside names items) none_before n items in
-    All-append (Has all) (rule_goals (without_facts (place_names items) (pred_of (outside names items) items n)).rules) (flat_map (λ (q : Pred). rule_goals q.rules) (map (without_facts (place_names items)) (map (pred_of (outside names items) items) ns)))
-    (kept_had all _ rules (rules_had (outside names items) none_before n items)) (preds_had names items ns)
+    let all = goals_from (outer_scope names items) none_before items in
+    let rules = rules_from (outer_scope names items) none_before n items in
+    All-append (Has all) (rule_goals (without_facts (place_names items) (pred_of (outer_scope names items) items n)).rules) (flat_map (λ (q : Pred). rule_goals q.rules) (map (without_facts (place_names items)) (map (pred_of (outer_scope names items) items) ns)))
+    (kept_had all _ rules (rules_had (outer_scope names items) none_before n items)) (preds_had names items ns)
 
 -- each of some goals is there with others before it
 all_there : (gs hs : List Goal) → All (Has (gs ++ hs)) hs
@@ -220,7 +220,7 @@ had_in_front gs hs xs h = All-weaker (Has gs) (Has (gs ++ hs)) (λ a k. Contains
 program_sites : (names : Named) (items : List Item) → IsGiven names items → (a b : Goal) → Contains (all_goals (core_of names items)) a → Contains (all_goals (core_of names items)) b → SameSite (out-Goal a) (out-Goal b)
 program_sites names items g a b there other =
     let p = core_of names items in
-    let of_rules = goals_from (outside names items) none_before items in
+    let of_rules = goals_from (outer_scope names items) none_before items in
     let of_closures = row_goals p.closures in
     let all = of_rules ++ of_closures in
     let first = sited_wider 0 (0 + all_selects items) 0 (all_selects items) of_rules (omega arith) (omega arith) (items_sited names items none_before items g (items_known names items g) (omega arith)) in
@@ -253,18 +253,18 @@ IsFact p (tree.rule ps b) = is_no_fact p ps b ≡ false
 IsFact p (tree.deny ps b) = is_no_fact p ps b ≡ false
 IsFact p said = Unit {0}
 
-fact_at : (p : Placed) (before : List (List ℕ)) (said : Said) → is_bad p before said ≡ false → IsFact p said
+fact_at : (p : Placed) (before : List (List ℕ)) (said : Said) → is_bad_start p before said ≡ false → IsFact p said
 fact_at p before (tree.rule ps b) e = e
 fact_at p before (tree.deny ps b) e = e
 fact_at p before (tree.topic n) e = tt
 fact_at p before (tree.access ps b) e = tt
 fact_at p before (tree.global_variable ps) e = tt
 
-facts_of : (p : Placed) (before : List (List ℕ)) (is : List Item) → first_bad p before is ≡ None → All (λ (i : Item). IsFact p i.said) is
+facts_of : (p : Placed) (before : List (List ℕ)) (is : List Item) → first_bad_start p before is ≡ None → All (λ (i : Item). IsFact p i.said) is
 facts_of p before [] e = All-nil (λ (i : Item). IsFact p i.said)
-facts_of p before (i ∷ is) e = here (is_bad p before i.said) refl e (λ k. facts_of p (declared_behind before i.said) is k)
+facts_of p before (i ∷ is) e = here (is_bad_start p before i.said) refl e (λ k. facts_of p (declared_behind before i.said) is k)
   where
-    here : (b : Bool) → is_bad p before i.said ≡ b → (if b then Some i.line else first_bad p (declared_behind before i.said) is) ≡ None → (first_bad p (declared_behind before i.said) is ≡ None → All (λ (j : Item). IsFact p j.said) is) → All (λ (j : Item). IsFact p j.said) (i ∷ is)
+    here : (b : Bool) → is_bad_start p before i.said ≡ b → (if b then Some i.line else first_bad_start p (declared_behind before i.said) is) ≡ None → (first_bad_start p (declared_behind before i.said) is ≡ None → All (λ (j : Item). IsFact p j.said) is) → All (λ (j : Item). IsFact p j.said) (i ∷ is)
     here true q k rest = cc
     here false q k rest = All-cons (λ (j : Item). IsFact p j.said) i is (fact_at p before i.said q) (rest k)
 
@@ -282,29 +282,29 @@ among_there n (m ∷ ns) h = here (bytes_eq n m) refl (there_cases m ns n h) (λ
     here false q (inl k) rest = absurd (let no : true ≡ false = sym ((bytes_decides n m).1 (sym k)) ∙ q in cc)
     here false q (inr k) rest = rest k
 
-rule_begins : (names : Named) (items : List Item) (n : Before) (name : List ℕ) (ps : Parts) (b : Body) (behind : List Goal) (t : Bool) → bytes_eq (name_of ps) name ≡ t → IsGiven names items → Contains (place_names items) name → IsRuleKnown names items n.closures ps b → is_no_fact (placed_of items) ps b ≡ false → All (MayBegin (core_of names items) (kind_of (declared_names items) name)) (if t then rule_of (outside names items) n ps b behind ∷ [] else [])
+rule_begins : (names : Named) (items : List Item) (n : Before) (name : List ℕ) (ps : Parts) (b : Body) (behind : List Goal) (t : Bool) → bytes_eq (name_of ps) name ≡ t → IsGiven names items → Contains (place_names items) name → IsRuleKnown names items n.closures ps b → is_no_fact (placed_of items) ps b ≡ false → All (MayBegin (core_of names items) (kind_of (declared_names items) name)) (if t then rule_of (outer_scope names items) n ps b behind ∷ [] else [])
 rule_begins names items n name ps b behind false q g there k e = All-nil (MayBegin (core_of names items) (kind_of (declared_names items) name))
 rule_begins names items n name ps b behind true q g there k e =
-    let s = scope_of (outside names items) n.closures ps b in
+    let s = scope_of (outer_scope names items) n.closures ps b in
     let same = (bytes_decides (name_of ps) name).0 q in
     let placed : is_among (name_of ps) (place_names items) ≡ true = among_there (name_of ps) (place_names items) (subst (Contains (place_names items)) (sym same) there) in
-    let fact = (and_parts (is_empty b) (are_fact (kind_of (declared_names items) (name_of ps)) (values_in ps)) (second (is_among (name_of ps) (place_names items)) _ placed e)).1 in
+    let fact = (and_parts (is_empty_body b) (are_fact (kind_of (declared_names items) (name_of ps)) (head_values ps)) (second (is_among (name_of ps) (place_names items)) _ placed e)).1 in
     let h = known_rule names items n.closures ps b k in
-    let begin = fact_start (core_of names items) (vars_of ps b) s (kind_of (declared_names items) (name_of ps)) (values_in ps) fact (rule_ground names items n.closures ps b g k) (parts_hold s ps (front (IsKnown s) (of_parts false ps) (of_body false b) h.1)) in
-    let r = rule_of (outside names items) n ps b behind in
+    let begin = fact_start (core_of names items) (vars_of ps b) s (kind_of (declared_names items) (name_of ps)) (head_values ps) fact (rule_ground names items n.closures ps b g k) (parts_hold s ps (front (IsKnown s) (of_parts false ps) (of_body false b) h.1)) in
+    let r = rule_of (outer_scope names items) n ps b behind in
     All-cons (MayBegin (core_of names items) (kind_of (declared_names items) name)) r [] (subst (λ (m : List ℕ). MayBegin (core_of names items) (kind_of (declared_names items) m) r) same begin) (All-nil (MayBegin (core_of names items) (kind_of (declared_names items) name)))
 
-item_begins : (names : Named) (items : List Item) (n : Before) (name : List ℕ) (said : Said) → IsGiven names items → Contains (place_names items) name → IsItemKnown names items n.closures said → IsFact (placed_of items) said → All (MayBegin (core_of names items) (kind_of (declared_names items) name)) (rules_in (outside names items) n name said)
+item_begins : (names : Named) (items : List Item) (n : Before) (name : List ℕ) (said : Said) → IsGiven names items → Contains (place_names items) name → IsItemKnown names items n.closures said → IsFact (placed_of items) said → All (MayBegin (core_of names items) (kind_of (declared_names items) name)) (rules_of_item (outer_scope names items) n name said)
 item_begins names items n name (tree.topic w) g there h e = All-nil (MayBegin (core_of names items) (kind_of (declared_names items) name))
 item_begins names items n name (tree.rule ps b) g there h e = rule_begins names items n name ps b [] (bytes_eq (name_of ps) name) refl g there h e
 item_begins names items n name (tree.deny ps b) g there h e = rule_begins names items n name ps b failing (bytes_eq (name_of ps) name) refl g there h e
 item_begins names items n name (tree.access ps b) g there h e = All-nil (MayBegin (core_of names items) (kind_of (declared_names items) name))
 item_begins names items n name (tree.global_variable ps) g there h e = All-nil (MayBegin (core_of names items) (kind_of (declared_names items) name))
 
-items_begin : (names : Named) (items : List Item) (n : Before) (name : List ℕ) (is : List Item) → IsGiven names items → Contains (place_names items) name → AreItemsKnown names items n.closures is → All (λ (i : Item). IsFact (placed_of items) i.said) is → All (MayBegin (core_of names items) (kind_of (declared_names items) name)) (rules_from (outside names items) n name is)
+items_begin : (names : Named) (items : List Item) (n : Before) (name : List ℕ) (is : List Item) → IsGiven names items → Contains (place_names items) name → AreItemsKnown names items n.closures is → All (λ (i : Item). IsFact (placed_of items) i.said) is → All (MayBegin (core_of names items) (kind_of (declared_names items) name)) (rules_from (outer_scope names items) n name is)
 items_begin names items n name [] g there h e = All-nil (MayBegin (core_of names items) (kind_of (declared_names items) name))
 items_begin names items n name (i ∷ is) g there h e =
-    All-append (MayBegin (core_of names items) (kind_of (declared_names items) name)) (rules_in (outside names items) n name i.said) (rules_from (outside names items) (behind_item n i.said) name is)
+    All-append (MayBegin (core_of names items) (kind_of (declared_names items) name)) (rules_of_item (outer_scope names items) n name i.said) (rules_from (outer_scope names items) (behind_item n i.said) name is)
     (item_begins names items n name i.said g there h.0 (All-head (λ (j : Item). IsFact (placed_of items) j.said) i is e))
     (items_begin names items (behind_item n i.said) name is g there h.1 (All-tail (λ (j : Item). IsFact (placed_of items) j.said) i is e))
 
@@ -323,25 +323,25 @@ all_own : (around : Scope) (items : List Item) (ns : List (List ℕ)) → All (I
 all_own around items [] = All-nil (IsOwn around items)
 all_own around items (n ∷ ns) = All-cons (IsOwn around items) (pred_of around items n) (map (pred_of around items) ns) refl (all_own around items ns)
 
-rules_found : (P : Rule → Type 0) (around : Scope) (items : List Item) (name : List ℕ) (qs : List Pred) (k : ℕ) → All (IsOwn around items) qs → All P (rules_from around none_before name items) → (k < length (map (λ (q : Pred). q.name) qs)) × (bytes_eq name (get_or (map (λ (q : Pred). q.name) qs) k name) ≡ true) → All P (rules_of (slice_get qs k))
+rules_found : (P : Rule → Type 0) (around : Scope) (items : List Item) (name : List ℕ) (qs : List Pred) (k : ℕ) → All (IsOwn around items) qs → All P (rules_from around none_before name items) → (k < length (map (λ (q : Pred). q.name) qs)) × (bytes_eq name (get_or (map (λ (q : Pred). q.name) qs) k name) ≡ true) → All P (pred_rules (slice_get qs k))
 rules_found P around items name qs k own h found =
     let below : k < length qs = subst (λ (i : ℕ). k < i) (length-map qs (λ (q : Pred). q.name)) found.0 in
     let d = pred_of around items name in
     let q = get_or qs k d in
     let same : name ≡ q.name = (bytes_decides name (get_or (map (λ (q : Pred). q.name) qs) k name)).0 found.1 ∙ get_or-map (λ (q : Pred). q.name) qs k d name below in
     let rules : q.rules ≡ rules_from around none_before name items = All-contains (IsOwn around items) qs q own (k, below, get_or_same qs k d q below) ∙ ap (λ (m : List ℕ). rules_from around none_before m items) (sym same) in
-    subst (λ (o : Option Pred). All P (rules_of o)) (sym (slice_get-get_or qs k d below)) (subst (All P) (sym rules) h)
+    subst (λ (o : Option Pred). All P (pred_rules o)) (sym (slice_get-get_or qs k d below)) (subst (All P) (sym rules) h)
 
 named_rules : (P : Rule → Type 0) (around : Scope) (items : List Item) (name : List ℕ) (qs : List Pred) → All (IsOwn around items) qs → All P (rules_from around none_before name items) → All P (rules_named name qs)
 named_rules P around items name qs own h = here (position (bytes_eq name) (map (λ (q : Pred). q.name) qs)) refl
   where
-    here : (o : Option ℕ) → position (bytes_eq name) (map (λ (q : Pred). q.name) qs) ≡ o → All P (rules_at qs o)
+    here : (o : Option ℕ) → position (bytes_eq name) (map (λ (q : Pred). q.name) qs) ≡ o → All P (numbered_rules qs o)
     here None e = All-nil P
     here (Some k) e = let found = position-Some (bytes_eq name) (map (λ (q : Pred). q.name) qs) k name e in rules_found P around items name qs k own h (found.0, found.1)
 
 -- ---- places
 
-outside_ground : (names : Named) (items : List Item) → IsGiven names items → IsGround (core_of names items) 0 (outside names items)
+outside_ground : (names : Named) (items : List Item) → IsGiven names items → IsGround (core_of names items) 0 (outer_scope names items)
 outside_ground names items g = record {
   words = λ w there. number_below w names.words there g.few_words;
   objects = λ n there. number_below n names.objects there g.few_objects;
@@ -364,21 +364,21 @@ heads_hold names (i ∷ is) h =
     one (tree.deny ps b) k = All-nil (λ (qs : Parts). Hold (IsAmong names) (of_parts false qs))
     one (tree.access ps b) k = All-nil (λ (qs : Parts). Hold (IsAmong names) (of_parts false qs))
 
-place_sound : (names : Named) (items : List Item) (n : List ℕ) → IsGiven names items → first_bad (placed_of items) [] items ≡ None → Contains (place_names items) n → IsPlaceOf (core_of names items) (place_in names items n)
+place_sound : (names : Named) (items : List Item) (n : List ℕ) → IsGiven names items → first_bad_start (placed_of items) [] items ≡ None → Contains (place_names items) n → IsPlaceOf (core_of names items) (place_in names items n)
 place_sound names items n g e there = here (is_among n (declared_names items)) refl
   where
-    here : (b : Bool) → is_among n (declared_names items) ≡ b → IsPlaceOf (core_of names items) (record { kind = kind_of (declared_names items) n; start = if b then declared_start (outside names items) n (declarations items) else starts_from [] (rules_named n (with_rules names items).preds) })
+    here : (b : Bool) → is_among n (declared_names items) ≡ b → IsPlaceOf (core_of names items) (record { kind = kind_of (declared_names items) n; start = if b then declared_start (outer_scope names items) n (declarations items) else fact_starts [] (rules_named n (with_rules names items).preds) })
     here true q =
-        let one = declared_one_start (core_of names items) (outside names items) n (declarations items) (all_declarable items g.items) (heads_hold names items g.things) (outside_ground names items g) in
+        let one = declared_one_start (core_of names items) (outer_scope names items) n (declarations items) (all_declarable items g.items) (heads_hold names items g.things) (outside_ground names items g) in
         let kind : kind_of (declared_names items) n ≡ Global = ap (λ (b : Bool). if b then Parent else (if is_among n (declared_names items) then Global else kind_by (values_named n))) (declared_other items names n g q) ∙ ap (λ (b : Bool). if b then Global else kind_by (values_named n)) q in
-        record { starts = subst (λ (k : PlaceKind). All (IsStartOf (core_of names items) k) (declared_start (outside names items) n (declarations items))) (sym kind) one.starts; once = one.once }
+        record { starts = subst (λ (k : PlaceKind). All (IsStartOf (core_of names items) k) (declared_start (outer_scope names items) n (declarations items))) (sym kind) one.starts; once = one.once }
     here false q =
         let kind = kind_of (declared_names items) n in
-        let begin = named_rules (MayBegin (core_of names items) kind) (outside names items) items n (with_rules names items).preds (all_own (outside names items) items names.preds)
+        let begin = named_rules (MayBegin (core_of names items) kind) (outer_scope names items) items n (with_rules names items).preds (all_own (outer_scope names items) items names.preds)
         (items_begin names items none_before n items g there (items_known names items g) (facts_of (placed_of items) [] items e)) in
         record { starts = starts_sound (core_of names items) kind [] (rules_named n (with_rules names items).preds) begin; once = starts_distinct [] (rules_named n (with_rules names items).preds) }
 
-places_sound : (names : Named) (items : List Item) (ns : List (List ℕ)) → ((n : List ℕ) → Contains ns n → Contains (place_names items) n) → IsGiven names items → first_bad (placed_of items) [] items ≡ None → All (IsPlaceOf (core_of names items)) (map (place_in names items) ns)
+places_sound : (names : Named) (items : List Item) (ns : List (List ℕ)) → ((n : List ℕ) → Contains ns n → Contains (place_names items) n) → IsGiven names items → first_bad_start (placed_of items) [] items ≡ None → All (IsPlaceOf (core_of names items)) (map (place_in names items) ns)
 places_sound names items [] h g e = All-nil (IsPlaceOf (core_of names items))
 places_sound names items (n ∷ ns) h g e =
     All-cons (IsPlaceOf (core_of names items)) (place_in names items n) (map (place_in names items) ns) (place_sound names items n g e (h n (first_there n ns)))
@@ -410,7 +410,7 @@ others_kept names items (n ∷ ns) = here (not (bytes_eq n parent_name)) refl (o
 abbrev o_none : Option ℕ
 o_none = None
 
-not_refused : (items : List Item) (o : Option ℕ) → refusal_of items o ≡ None → (o ≡ None) × (has_entry items ≡ true)
+not_refused : (items : List Item) (o : Option ℕ) → core_refusal items o ≡ None → (o ≡ None) × (has_entry items ≡ true)
 not_refused items (Some line) e = cc
 not_refused items None e = here (has_entry items) refl e
   where
@@ -418,9 +418,9 @@ not_refused items None e = here (has_entry items) refl e
     here true q k = (refl, q)
     here false q k = cc
 
-pub core_sound : (names : Named) (items : List Item) → IsGiven names items → refusal_of items (first_bad (placed_of items) [] items) ≡ None → IsSound (core_of names items)
+pub core_sound : (names : Named) (items : List Item) → IsGiven names items → core_refusal items (first_bad_start (placed_of items) [] items) ≡ None → IsSound (core_of names items)
 core_sound names items g r =
-    let each = not_refused items (first_bad (placed_of items) [] items) r in
+    let each = not_refused items (first_bad_start (placed_of items) [] items) r in
     record {
       preds = preds_sound names items names.preds g g.preds;
       closures = (closures_made names items g).sound;
@@ -431,7 +431,7 @@ core_sound names items g r =
       words_differ = g.words_differ;
       sites = program_sites names items g;
       entry = entry_fits names items (entry_there names items g.things each.1) g.few_preds;
-      few_preds = let few : length (map (without_facts (place_names items)) (map (pred_of (outside names items) items) names.preds)) ≤ 65535 = rw length-map (rw length-map g.few_preds) in few;
+      few_preds = let few : length (map (without_facts (place_names items)) (map (pred_of (outer_scope names items) items) names.preds)) ≤ 65535 = rw length-map (rw length-map g.few_preds) in few;
       few_closures = few_closures names items g;
       few_places = let few : length (map (place_in names items) (place_names items)) ≤ 65535 = rw length-map g.few_places in few;
       few_objects = g.few_objects;

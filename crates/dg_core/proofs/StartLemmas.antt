@@ -21,11 +21,11 @@ use Rattle.dg_base.specs.declared.program.Term.{Term, out-Term}
 use Rattle.dg_base.specs.declared.program.Term.TheVariants as term
 use Rattle.dg_base.specs.declared.program.Term.TheOpen as top
 use Rattle.dg_names.specs.Among.{IsAmong}
-use Rattle.dg_core.specs.Core.{object_number, object_of, simple, value_of, start_of, starts_from, is_unset, value_start, or_else, head_start, declared_start}
+use Rattle.dg_core.specs.Core.{object_number, object_of, simple, fact_value, start_of_fact, fact_starts, is_unset, value_start, or_else, head_start, declared_start}
 use Rattle.dg_core.specs.Given.{IsSet, AreSet, MayStart, IsDeclarable}
 use Rattle.dg_core.specs.Bodies.{in_value, in_values}
 use Rattle.dg_core.specs.Goals.{Scope, past, number_in, term_of, listed, terms_of_values}
-use Rattle.dg_core.specs.Places.{are_fact, is_object, is_simple, values_in}
+use Rattle.dg_core.specs.Places.{are_fact, is_object_value, is_simple_value, head_values}
 use Rattle.dg_core.proofs.HoldLemmas.{Hold, front, back}
 use Rattle.dg_core.proofs.TermLemmas.{IsGround, ground_past, IsKnown, leaf_sound, nil_sound, nodes_are}
 
@@ -41,7 +41,7 @@ begins p x y layer is e value kind =
     let same : simple (out-Term x) ≡ y = ap simple is ∙ e in
     record { value = subst (IsTermOf p 0) (sym same) value; kind = subst (λ (z : Term). IsSimple (out-Term z)) (sym same) kind }
 
-simple_begins : (p : Core) (vars : ℕ) (s : Scope) (v : Value) → is_simple v ≡ true → IsGround p vars s → Hold (IsKnown s) (of_value false v) → Begins p (term_of s v)
+simple_begins : (p : Core) (vars : ℕ) (s : Scope) (v : Value) → is_simple_value v ≡ true → IsGround p vars s → Hold (IsKnown s) (of_value false v) → Begins p (term_of s v)
 simple_begins p vars s (tree.num n) e g h =
     begins p (term.Num n) (term.Num n) (top.Num n) (term.outs-Num n) refl (leaf_sound p 0 (term.Num n) (top.Num n) refl (term.outs-Num n) h.0.0) (subst IsSimple (sym (term.outs-Num n)) tt)
 simple_begins p vars s (tree.dict_word w) e g h =
@@ -62,7 +62,7 @@ simple_begins p vars s (tree.nested ps) e g h = cc
 simple_begins p vars s (tree.word_choice ws) e g h = cc
 
 -- an object has a number of the program
-object_below : (p : Core) (vars : ℕ) (s : Scope) (v : Value) → is_object v ≡ true → IsGround p vars s → Hold (IsKnown s) (of_value false v) → object_number (out-Term (term_of s v)) < length p.objects
+object_below : (p : Core) (vars : ℕ) (s : Scope) (v : Value) → is_object_value v ≡ true → IsGround p vars s → Hold (IsKnown s) (of_value false v) → object_number (out-Term (term_of s v)) < length p.objects
 object_below p vars s (tree.object_name w) e g h =
     let k = number_in s.names.objects w in
     subst (λ (i : ℕ). i < length p.objects) (sym (ap object_number (term.outs-Object k))) (g.objects w h.0.0)
@@ -78,7 +78,7 @@ object_below p vars s (tree.nested ps) e g h = cc
 object_below p vars s (tree.word_choice ws) e g h = cc
 
 -- an object as a value is one
-object_kept : (s : Scope) (v : Value) → is_object v ≡ true → IsObject (out-Term (simple (out-Term (term_of s v))))
+object_kept : (s : Scope) (v : Value) → is_object_value v ≡ true → IsObject (out-Term (simple (out-Term (term_of s v))))
 object_kept s (tree.object_name w) e =
     let k = number_in s.names.objects w in
     subst (λ (x : Term). IsObject (out-Term x)) (sym (ap simple (term.outs-Object k))) (subst IsObject (sym (term.outs-Object k)) tt)
@@ -93,7 +93,7 @@ object_kept s (tree.closure b) e = cc
 object_kept s (tree.nested ps) e = cc
 object_kept s (tree.word_choice ws) e = cc
 
-object_simple : (v : Value) → is_object v ≡ true → is_simple v ≡ true
+object_simple : (v : Value) → is_object_value v ≡ true → is_simple_value v ≡ true
 object_simple (tree.object_name w) e = refl
 object_simple (tree.num n) e = refl
 object_simple (tree.dict_word w) e = refl
@@ -112,7 +112,7 @@ AllHold s [] = Unit {0}
 AllHold s (v ∷ vs) = Hold (IsKnown s) (of_value false v) × AllHold s vs
 
 -- what a fact gives its place is sound
-pub fact_start : (p : Core) (vars : ℕ) (s : Scope) (kind : PlaceKind) (vs : List Value) → are_fact kind vs ≡ true → IsGround p vars s → AllHold s vs → IsStartOf p kind (object_of (terms_of_values s vs), value_of (terms_of_values s vs))
+pub fact_start : (p : Core) (vars : ℕ) (s : Scope) (kind : PlaceKind) (vs : List Value) → are_fact kind vs ≡ true → IsGround p vars s → AllHold s vs → IsStartOf p kind (object_of (terms_of_values s vs), fact_value (terms_of_values s vs))
 fact_start p vars s Flag [] e g h = record { fits = (refl, subst IsNothing (sym term.outs-Nil) tt); value = nil_sound p 0 }
 fact_start p vars s Flag (v ∷ vs) e g h = cc
 fact_start p vars s ObjectFlag [] e g h = cc
@@ -121,14 +121,14 @@ fact_start p vars s ObjectFlag (v ∷ w ∷ vs) e g h = cc
 fact_start p vars s ObjectVar [] e g h = cc
 fact_start p vars s ObjectVar (v ∷ []) e g h = cc
 fact_start p vars s ObjectVar (v ∷ w ∷ []) e g h =
-    let each = and_parts (is_object v) (is_simple w) e in
+    let each = and_parts (is_object_value v) (is_simple_value w) e in
     let begin = simple_begins p vars (past s (in_value v)) w each.1 (ground_past p vars s (in_value v) g) h.1.0 in
     record { fits = (object_below p vars s v each.0 g h.0, begin.kind); value = begin.value }
 fact_start p vars s ObjectVar (v ∷ w ∷ x ∷ vs) e g h = cc
 fact_start p vars s Parent [] e g h = cc
 fact_start p vars s Parent (v ∷ []) e g h = cc
 fact_start p vars s Parent (v ∷ w ∷ []) e g h =
-    let each = and_parts (is_object v) (is_object w) e in
+    let each = and_parts (is_object_value v) (is_object_value w) e in
     let begin = simple_begins p vars (past s (in_value v)) w (object_simple w each.1) (ground_past p vars s (in_value v) g) h.1.0 in
     record { fits = (object_below p vars s v each.0 g h.0, object_kept (past s (in_value v)) w each.1); value = begin.value }
 fact_start p vars s Parent (v ∷ w ∷ x ∷ vs) e g h = cc
@@ -138,23 +138,23 @@ fact_start p vars s Global (v ∷ vs) e g h = cc
 -- ---- all facts of a place
 
 abbrev pub MayBegin : Core → PlaceKind → Rule → Type 0
-MayBegin p kind r = IsStartOf p kind (object_of r.head, value_of r.head)
+MayBegin p kind r = IsStartOf p kind (object_of r.head, fact_value r.head)
 
-one_start : (p : Core) (kind : PlaceKind) (r : Rule) (b : Bool) → MayBegin p kind r → All (IsStartOf p kind) (if b then (object_of r.head, value_of r.head) ∷ [] else [])
-one_start p kind r true h = All-cons (IsStartOf p kind) (object_of r.head, value_of r.head) [] h (All-nil (IsStartOf p kind))
+one_start : (p : Core) (kind : PlaceKind) (r : Rule) (b : Bool) → MayBegin p kind r → All (IsStartOf p kind) (if b then (object_of r.head, fact_value r.head) ∷ [] else [])
+one_start p kind r true h = All-cons (IsStartOf p kind) (object_of r.head, fact_value r.head) [] h (All-nil (IsStartOf p kind))
 one_start p kind r false h = All-nil (IsStartOf p kind)
 
 starts_if : (p : Core) (kind : PlaceKind) (b : Bool) (xs ys : List (ℕ × Term)) → All (IsStartOf p kind) xs → All (IsStartOf p kind) ys → All (IsStartOf p kind) (if b then xs else ys)
 starts_if p kind true xs ys h j = h
 starts_if p kind false xs ys h j = j
 
-pub starts_sound : (p : Core) (kind : PlaceKind) (decided : List ℕ) (rs : List Rule) → All (MayBegin p kind) rs → All (IsStartOf p kind) (starts_from decided rs)
+pub starts_sound : (p : Core) (kind : PlaceKind) (decided : List ℕ) (rs : List Rule) → All (MayBegin p kind) rs → All (IsStartOf p kind) (fact_starts decided rs)
 starts_sound p kind decided [] h = All-nil (IsStartOf p kind)
 starts_sound p kind decided (r ∷ rs) h =
     let rest = All-tail (MayBegin p kind) r rs h in
-    starts_if p kind (list_any (nat_eq (object_of r.head)) decided) (starts_from decided rs) (start_of r ++ starts_from (decided ++ object_of r.head ∷ []) rs)
+    starts_if p kind (list_any (nat_eq (object_of r.head)) decided) (fact_starts decided rs) (start_of_fact r ++ fact_starts (decided ++ object_of r.head ∷ []) rs)
     (starts_sound p kind decided rs rest)
-    (All-append (IsStartOf p kind) (start_of r) (starts_from (decided ++ object_of r.head ∷ []) rs) (one_start p kind r _ (All-head (MayBegin p kind) r rs h)) (starts_sound p kind (decided ++ object_of r.head ∷ []) rs rest))
+    (All-append (IsStartOf p kind) (start_of_fact r) (fact_starts (decided ++ object_of r.head ∷ []) rs) (one_start p kind r _ (All-head (MayBegin p kind) r rs h)) (starts_sound p kind (decided ++ object_of r.head ∷ []) rs rest))
 
 -- ---- no object twice
 
@@ -186,15 +186,15 @@ apart_of o q ds e f = here (nat_eq o q) refl
     here true k = absurd (let no : true ≡ false = sym e ∙ ap (λ (n : ℕ). list_any (nat_eq n) ds) (eqb-true o q k) ∙ f in cc)
 
 -- objects that are decided don't come again
-undecided : (o : ℕ) (decided : List ℕ) (rs : List Rule) → list_any (nat_eq o) decided ≡ true → Apart o (starts_from decided rs)
+undecided : (o : ℕ) (decided : List ℕ) (rs : List Rule) → list_any (nat_eq o) decided ≡ true → Apart o (fact_starts decided rs)
 undecided o decided [] e = tt
 undecided o decided (r ∷ rs) e = here (list_any (nat_eq (object_of r.head)) decided) refl (undecided o decided rs e) (undecided o (decided ++ object_of r.head ∷ []) rs (any_more (nat_eq o) decided (object_of r.head ∷ []) e))
   where
-    joined : (b : Bool) → nat_eq o (object_of r.head) ≡ false → Apart o (starts_from (decided ++ object_of r.head ∷ []) rs) → Apart o ((if b then (object_of r.head, value_of r.head) ∷ [] else []) ++ starts_from (decided ++ object_of r.head ∷ []) rs)
+    joined : (b : Bool) → nat_eq o (object_of r.head) ≡ false → Apart o (fact_starts (decided ++ object_of r.head ∷ []) rs) → Apart o ((if b then (object_of r.head, fact_value r.head) ∷ [] else []) ++ fact_starts (decided ++ object_of r.head ∷ []) rs)
     joined true f k = (f, k)
     joined false f k = k
 
-    here : (b : Bool) → list_any (nat_eq (object_of r.head)) decided ≡ b → Apart o (starts_from decided rs) → Apart o (starts_from (decided ++ object_of r.head ∷ []) rs) → Apart o (if b then starts_from decided rs else start_of r ++ starts_from (decided ++ object_of r.head ∷ []) rs)
+    here : (b : Bool) → list_any (nat_eq (object_of r.head)) decided ≡ b → Apart o (fact_starts decided rs) → Apart o (fact_starts (decided ++ object_of r.head ∷ []) rs) → Apart o (if b then fact_starts decided rs else start_of_fact r ++ fact_starts (decided ++ object_of r.head ∷ []) rs)
     here true q first then_on = first
     here false q first then_on = joined (nat_eq (length r.body) 0) (apart_of o (object_of r.head) decided e q) then_on
 
@@ -211,13 +211,13 @@ none_distinct : IsDistinct nat_eq (objects_of [])
 unfolding IsDistinct
 none_distinct = tt
 
-pub starts_distinct : (decided : List ℕ) (rs : List Rule) → IsDistinct nat_eq (objects_of (starts_from decided rs))
+pub starts_distinct : (decided : List ℕ) (rs : List Rule) → IsDistinct nat_eq (objects_of (fact_starts decided rs))
 starts_distinct decided [] = none_distinct
 starts_distinct decided (r ∷ rs) =
     let o = object_of r.head in
     let now = decided ++ o ∷ [] in
-    distinct_if (list_any (nat_eq o) decided) (starts_from decided rs) (start_of r ++ starts_from now rs) (starts_distinct decided rs)
-    (one_apart (nat_eq (length r.body) 0) o (value_of r.head) (starts_from now rs) (undecided o now rs (any_last o decided)) (starts_distinct now rs))
+    distinct_if (list_any (nat_eq o) decided) (fact_starts decided rs) (start_of_fact r ++ fact_starts now rs) (starts_distinct decided rs)
+    (one_apart (nat_eq (length r.body) 0) o (fact_value r.head) (fact_starts now rs) (undecided o now rs (any_last o decided)) (starts_distinct now rs))
 
 -- ---- declared values
 
@@ -280,7 +280,7 @@ pub declared_begins : (p : Core) (vars : ℕ) (s : Scope) (v : Value) → IsSet 
 declared_begins p vars s v e g h = let d = set_declared p vars s v e g h in record { fits = (refl, d.constant); value = d.sound }
 
 -- the values of parts
-pub parts_hold : (s : Scope) (ps : Parts) → Hold (IsKnown s) (of_parts false ps) → AllHold s (values_in ps)
+pub parts_hold : (s : Scope) (ps : Parts) → Hold (IsKnown s) (of_parts false ps) → AllHold s (head_values ps)
 parts_hold s tree.no_parts h = tt
 parts_hold s (tree.part (tree.part_word w) ps) h = parts_hold s ps h
 parts_hold s (tree.part (tree.part_value v) ps) h = (front (IsKnown s) (of_value false v) (of_parts false ps) h, parts_hold s ps (back (IsKnown s) (of_value false v) (of_parts false ps) h))
@@ -313,13 +313,13 @@ value_one p s (v ∷ vs) m g h = here (is_unset v) refl
     here true e = no_one p
     here false e = a_one p (term_of s v) (declared_begins p 0 s v (m e) g h)
 
-first_hold : (P : Thing → Type 0) (ps : Parts) → Hold P (of_parts false ps) → Hold P (of_first (values_in ps))
+first_hold : (P : Thing → Type 0) (ps : Parts) → Hold P (of_parts false ps) → Hold P (of_first (head_values ps))
 first_hold P tree.no_parts h = tt
 first_hold P (tree.part (tree.part_word w) ps) h = first_hold P ps h
 first_hold P (tree.part (tree.part_value v) ps) h = front P (of_value false v) (of_parts false ps) h
 
-head_one : (p : Core) (s : Scope) (ps : Parts) (b : Bool) → IsDeclarable ps → IsGround p 0 s → Hold (IsAmong s.names) (of_parts false ps) → IsOne p (if b then value_start s (values_in ps) else [])
-head_one p s ps true d g h = value_one p s (values_in ps) d.value g (first_hold (IsAmong s.names) ps h)
+head_one : (p : Core) (s : Scope) (ps : Parts) (b : Bool) → IsDeclarable ps → IsGround p 0 s → Hold (IsAmong s.names) (of_parts false ps) → IsOne p (if b then value_start s (head_values ps) else [])
+head_one p s ps true d g h = value_one p s (head_values ps) d.value g (first_hold (IsAmong s.names) ps h)
 head_one p s ps false d g h = no_one p
 
 pub declared_one_start : (p : Core) (s : Scope) (name : List ℕ) (heads : List Parts) → All IsDeclarable heads → All (λ (ps : Parts). Hold (IsAmong s.names) (of_parts false ps)) heads → IsGround p 0 s → IsOne p (declared_start s name heads)

@@ -9,10 +9,10 @@ use Rattle.dg_base.specs.declared.program.ClosureBody.{ClosureBody}
 use Rattle.dg_base.specs.declared.program.Goal.{Goal}
 use Rattle.dg_base.specs.declared.tree.Body.{Body as CodeBody}
 use Rattle.dg_closures.specs.Closures.{Layout, variables_in}
-use Rattle.dg_core.specs.Bodies.{Closed, no_closure, a_closure, join, direct, in_value, in_values, in_parts, in_stmt, in_stmts, in_branches, in_arms, in_changes}
-use Rattle.dg_core.specs.Goals.{Scope, selects, body_goals}
+use Rattle.dg_core.specs.Bodies.{Closed, no_closure, a_closure, joined_closures, direct, in_value, in_values, in_parts, in_stmt, in_stmts, in_branches, in_arms, in_changes}
+use Rattle.dg_core.specs.Goals.{Scope, count_selects, body_goals}
 use Rattle.dg_core.specs.inside.Making.{bodies_view}
-use Rattle.dg_core.specs.Rows.{size, selects_within, layout_at, Home, scope_in, row_with, captured_in, rows, in_rule}
+use Rattle.dg_core.specs.Rows.{size, selects_within, layout_at, Home, scope_in, row_with, captured_in, rows, closures_in_rule}
 use Rattle.dg_core.specs.inside.Waiting.{Waiting, pending, left_of, selects_left, waiting_view, stack_of, waiting_at, waiting_from, IsNext}
 use Rattle.dg_core.specs.declared.rows.Waiting.{Waiting as CodeWaiting}
 
@@ -23,7 +23,7 @@ abbrev pub HaveTheirs : Closed → Type 0
 HaveTheirs no_closure = Unit {0}
 HaveTheirs (a_closure b inner cs) = (inner ≡ in_branches b) × HaveTheirs cs
 
-joined : (cs ds : Closed) → HaveTheirs cs → HaveTheirs ds → HaveTheirs (join cs ds)
+joined : (cs ds : Closed) → HaveTheirs cs → HaveTheirs ds → HaveTheirs (joined_closures cs ds)
 joined no_closure ds h k = k
 joined (a_closure b inner cs) ds h k = (h.0, joined cs ds h.1 k)
 
@@ -63,8 +63,8 @@ mutual
   stmt_has (tree.choice_else arms b) = joined (in_arms arms) (in_branches b) (arms_have arms) (branches_have b)
   stmt_has (tree.exhaust s) = stmt_has s
   stmt_has (tree.stoppable s) = stmt_has s
-  stmt_has (tree.collect v b into) = joined (in_value v) (join (in_branches b) (in_value into)) (value_has v) (joined (in_branches b) (in_value into) (branches_have b) (value_has into))
-  stmt_has (tree.accumulate v b into) = joined (in_value v) (join (in_branches b) (in_value into)) (value_has v) (joined (in_branches b) (in_value into) (branches_have b) (value_has into))
+  stmt_has (tree.collect v b into) = joined (in_value v) (joined_closures (in_branches b) (in_value into)) (value_has v) (joined (in_branches b) (in_value into) (branches_have b) (value_has into))
+  stmt_has (tree.accumulate v b into) = joined (in_value v) (joined_closures (in_branches b) (in_value into)) (value_has v) (joined (in_branches b) (in_value into) (branches_have b) (value_has into))
   stmt_has (tree.select mode b) = branches_have b
   stmt_has (tree.first_answer b) = branches_have b
 
@@ -78,13 +78,13 @@ mutual
 
   arms_have : (arms : Arms) → HaveTheirs (in_arms arms)
   arms_have tree.no_arms = tt
-  arms_have (tree.arm c b arms) = joined (in_branches c) (join (in_branches b) (in_arms arms)) (branches_have c) (joined (in_branches b) (in_arms arms) (branches_have b) (arms_have arms))
+  arms_have (tree.arm c b arms) = joined (in_branches c) (joined_closures (in_branches b) (in_arms arms)) (branches_have c) (joined (in_branches b) (in_arms arms) (branches_have b) (arms_have arms))
 
   changes_have : (cs : Changes) → HaveTheirs (in_changes cs)
   changes_have tree.no_changes = tt
   changes_have (tree.change ps set cs) = joined (in_parts ps) (in_changes cs) (parts_have ps) (changes_have cs)
 
-pub rule_has : (ps : Parts) (b : Body) → HaveTheirs (in_rule ps b)
+pub rule_has : (ps : Parts) (b : Body) → HaveTheirs (closures_in_rule ps b)
 rule_has ps b = joined (in_parts ps) (in_branches b) (parts_have ps) (branches_have b)
 
 -- ---- what comes of those that were found
@@ -93,7 +93,7 @@ pub pending_found : (home : Home) (vars : List (List ℕ)) (ps : List ℕ) (i n 
 pending_found home vars ps i n no_closure ws h = ap (λ (k : ℕ). pending home k ws) (omega arith)
 pending_found home vars ps i n (a_closure b inner cs) ws h =
     let l = layout_at home.layouts (get_or ps i 0) in
-    let m = n + selects (of_body false b) in
+    let m = n + count_selects (of_body false b) in
     let r = row_with home (captured_in vars l) n l b in
     let others = waiting_from home.layouts vars ps (i + 1) (direct cs) ++ ws in
     let inside : Closed → List ClosureBody = λ c. rows home (variables_in l) l.places 0 m c in
@@ -152,11 +152,11 @@ row_made home captured n l b scope goals inside made =
     ap (λ (gs : List Goal). record { captured = captured; own = min (length l.own) 65535; body = gs }) (made ∙ ap (λ (s : Scope). body_goals s n b) inside)
 
 -- the row of a closure is made of the layout at its place, and those in it wait
-pub next_made : (home : Home) (w : Waiting) (n m : ℕ) (old new : List Waiting) (rs new_rows : List ClosureBody) (row : ClosureBody) (found : List Body) → row ≡ row_with home w.captured n (layout_at home.layouts w.place) w.body → found ≡ direct (in_branches w.body) → m ≡ n + selects (of_body false w.body) → new_rows ≡ rs ++ row ∷ [] → new ≡ waiting_from home.layouts (variables_in (layout_at home.layouts w.place)) (layout_at home.layouts w.place).places 0 found ++ old → IsNext home w n old rs m new new_rows
+pub next_made : (home : Home) (w : Waiting) (n m : ℕ) (old new : List Waiting) (rs new_rows : List ClosureBody) (row : ClosureBody) (found : List Body) → row ≡ row_with home w.captured n (layout_at home.layouts w.place) w.body → found ≡ direct (in_branches w.body) → m ≡ n + count_selects (of_body false w.body) → new_rows ≡ rs ++ row ∷ [] → new ≡ waiting_from home.layouts (variables_in (layout_at home.layouts w.place)) (layout_at home.layouts w.place).places 0 found ++ old → IsNext home w n old rs m new new_rows
 next_made home w n m old new rs new_rows row found made bodies sites pushed put =
     let l = layout_at home.layouts w.place in
     let inner = in_branches w.body in
-    let k = n + selects (of_body false w.body) in
+    let k = n + count_selects (of_body false w.body) in
     let waits = put ∙ ap (λ (bs : List Body). waiting_from home.layouts (variables_in l) l.places 0 bs ++ old) bodies in
     let theirs = branches_have w.body in
     record {

@@ -8,9 +8,9 @@ pub data Closed : Type 0 where
   a_closure : Body → Closed → Closed → Closed
 
 -- Some closures, and then others.
-abbrev pub join : Closed → Closed → Closed
-join no_closure after = after
-join (a_closure b inner cs) after = a_closure b inner (join cs after)
+abbrev pub joined_closures : Closed → Closed → Closed
+joined_closures no_closure after = after
+joined_closures (a_closure b inner cs) after = a_closure b inner (joined_closures cs after)
 
 -- Those that stand in no other closure.
 abbrev pub direct : Closed → List Body
@@ -22,17 +22,17 @@ abbrev mutual
   pub in_value : Value → Closed
   in_value (closure b) = a_closure b (in_branches b) no_closure
   in_value (plain_list vs) = in_values vs
-  in_value (tailed_list vs v) = join (in_values vs) (in_value v)
+  in_value (tailed_list vs v) = joined_closures (in_values vs) (in_value v)
   in_value v = no_closure
 
   pub in_values : Values → Closed
   in_values no_values = no_closure
-  in_values (value v vs) = join (in_value v) (in_values vs)
+  in_values (value v vs) = joined_closures (in_value v) (in_values vs)
 
   pub in_parts : Parts → Closed
   in_parts no_parts = no_closure
   in_parts (part (part_word w) ps) = in_parts ps
-  in_parts (part (part_value v) ps) = join (in_value v) (in_parts ps)
+  in_parts (part (part_value v) ps) = joined_closures (in_value v) (in_parts ps)
 
   pub in_stmt : Stmt → Closed
   in_stmt (print v) = in_value v
@@ -43,27 +43,27 @@ abbrev mutual
   in_stmt (not_group b) = in_branches b
   in_stmt (now cs) = in_changes cs
   in_stmt (choice arms) = in_arms arms
-  in_stmt (choice_else arms b) = join (in_arms arms) (in_branches b)
+  in_stmt (choice_else arms b) = joined_closures (in_arms arms) (in_branches b)
   in_stmt (exhaust s) = in_stmt s
   in_stmt (stoppable s) = in_stmt s
-  in_stmt (collect v b into) = join (in_value v) (join (in_branches b) (in_value into))
-  in_stmt (accumulate v b into) = join (in_value v) (join (in_branches b) (in_value into))
+  in_stmt (collect v b into) = joined_closures (in_value v) (joined_closures (in_branches b) (in_value into))
+  in_stmt (accumulate v b into) = joined_closures (in_value v) (joined_closures (in_branches b) (in_value into))
   in_stmt (select mode b) = in_branches b
   in_stmt (first_answer b) = in_branches b
   in_stmt s = no_closure
 
   pub in_stmts : Stmts → Closed
   in_stmts no_stmts = no_closure
-  in_stmts (stmt s ss) = join (in_stmt s) (in_stmts ss)
+  in_stmts (stmt s ss) = joined_closures (in_stmt s) (in_stmts ss)
 
   pub in_branches : Body → Closed
   in_branches no_branches = no_closure
-  in_branches (branch ss b) = join (in_stmts ss) (in_branches b)
+  in_branches (branch ss b) = joined_closures (in_stmts ss) (in_branches b)
 
   pub in_arms : Arms → Closed
   in_arms no_arms = no_closure
-  in_arms (arm c b arms) = join (in_branches c) (join (in_branches b) (in_arms arms))
+  in_arms (arm c b arms) = joined_closures (in_branches c) (joined_closures (in_branches b) (in_arms arms))
 
   pub in_changes : Changes → Closed
   in_changes no_changes = no_closure
-  in_changes (change ps set cs) = join (in_parts ps) (in_changes cs)
+  in_changes (change ps set cs) = joined_closures (in_parts ps) (in_changes cs)

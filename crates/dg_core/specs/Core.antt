@@ -20,17 +20,17 @@ use Rattle.dg_base.specs.declared.program.CoreProgram.{CoreProgram as Core}
 use Rattle.dg_base.specs.declared.refusal.Refusal.{Refusal}
 use Rattle.dg_base.specs.declared.refusal.Kind.TheVariants.{BadInitial, NoEntry}
 use Rattle.dg_names.specs.Named.{Named}
-use Rattle.dg_core.specs.Variables.{layouts_in, variables_of}
-use Rattle.dg_core.specs.Places.{Placed, is_among, declarations, place_names, declared_names, placed_of, kind_of, values_in, first_bad}
+use Rattle.dg_core.specs.Variables.{layouts_in, rule_variables}
+use Rattle.dg_core.specs.Places.{Placed, is_among, declarations, place_names, declared_names, placed_of, kind_of, head_values, first_bad_start}
 use Rattle.dg_core.specs.Bodies.{Closed, no_closure, in_parts}
-use Rattle.dg_core.specs.Goals.{Scope, past, number_in, term_of, terms_of, body_goals, selects}
-use Rattle.dg_core.specs.Rows.{selects_within, scope_in, in_rule, rows_of}
+use Rattle.dg_core.specs.Goals.{Scope, past, number_in, term_of, terms_of, body_goals, count_selects}
+use Rattle.dg_core.specs.Rows.{selects_within, scope_in, closures_in_rule, closure_rows}
 
 -- ---- rules
 
 -- What names stand for outside a rule: those of the program, and its places.
-abbrev pub outside : Named → List Item → Scope
-outside names items = record { names = names; places = place_names items; variables = []; closures = []; before = 0 }
+abbrev pub outer_scope : Named → List Item → Scope
+outer_scope names items = record { names = names; places = place_names items; variables = []; closures = []; before = 0 }
 
 -- How many selects and how many closures stand before something.
 pub record Before : Type 0 where
@@ -44,7 +44,7 @@ scope_of around first ps b = let ls = layouts_in ps b in scope_in (record { arou
 -- A rule whose body is followed by these goals.
 abbrev pub rule_of : Scope → Before → Parts → Body → List Goal → Rule
 rule_of around n ps b behind = record {
-  vars = min (length (variables_of ps b)) 65535;
+  vars = min (length (rule_variables ps b)) 65535;
   head = terms_of (scope_of around n.closures ps b) ps;
   body = body_goals (past (scope_of around n.closures ps b) (in_parts ps)) n.selects b ++ behind;
 }
@@ -54,21 +54,21 @@ abbrev pub failing : List Goal
 failing = Just ∷ Fail ∷ []
 
 -- The rule that an item gives to the predicate of this name, where it gives one.
-abbrev pub rules_in : Scope → Before → List ℕ → Said → List Rule
-rules_in around n name (rule ps b) = if bytes_eq (name_of ps) name then rule_of around n ps b [] ∷ [] else []
-rules_in around n name (deny ps b) = if bytes_eq (name_of ps) name then rule_of around n ps b failing ∷ [] else []
-rules_in around n name said = []
+abbrev pub rules_of_item : Scope → Before → List ℕ → Said → List Rule
+rules_of_item around n name (rule ps b) = if bytes_eq (name_of ps) name then rule_of around n ps b [] ∷ [] else []
+rules_of_item around n name (deny ps b) = if bytes_eq (name_of ps) name then rule_of around n ps b failing ∷ [] else []
+rules_of_item around n name said = []
 
 -- The selects of an item outside closures.
 abbrev pub selects_of : Said → ℕ
-selects_of (rule ps b) = selects (of_body false b)
-selects_of (deny ps b) = selects (of_body false b)
+selects_of (rule ps b) = count_selects (of_body false b)
+selects_of (deny ps b) = count_selects (of_body false b)
 selects_of said = 0
 
 -- The closures of an item, and the selects in them.
 abbrev pub closures_of : Said → Closed
-closures_of (rule ps b) = in_rule ps b
-closures_of (deny ps b) = in_rule ps b
+closures_of (rule ps b) = closures_in_rule ps b
+closures_of (deny ps b) = closures_in_rule ps b
 closures_of said = no_closure
 
 -- How many closures an item has, at every depth: as many as layouts.
@@ -84,7 +84,7 @@ behind_item n said = record { selects = n.selects + selects_of said; closures = 
 -- The rules that items give to the predicate of this name, in the order of the source.
 abbrev pub rules_from : Scope → Before → List ℕ → List Item → List Rule
 rules_from around n name [] = []
-rules_from around n name (i ∷ is) = rules_in around n name i.said ++ rules_from around (behind_item n i.said) name is
+rules_from around n name (i ∷ is) = rules_of_item around n name i.said ++ rules_from around (behind_item n i.said) name is
 
 -- The selects of items outside closures.
 abbrev pub all_selects : List Item → ℕ
@@ -103,8 +103,8 @@ pred_of around items name = record { name = name; from_source = not (name_among 
 
 -- The rows of an item's closures, so many selects standing before those in them.
 abbrev pub rows_in : Scope → Before → Said → List ClosureBody
-rows_in around n (rule ps b) = rows_of around n.closures n.selects ps b
-rows_in around n (deny ps b) = rows_of around n.closures n.selects ps b
+rows_in around n (rule ps b) = closure_rows around n.closures n.selects ps b
+rows_in around n (deny ps b) = closure_rows around n.closures n.selects ps b
 rows_in around n said = []
 
 -- Behind the closures of an item.
@@ -138,8 +138,8 @@ bare items name = record { kind = kind_of (declared_names items) name; start = [
 -- The program with every rule, those that only say how places start too.
 abbrev pub with_rules : Named → List Item → Core
 with_rules names items = record {
-  preds = map (pred_of (outside names items) items) names.preds;
-  closures = rows_from (outside names items) (behind_rules items) items;
+  preds = map (pred_of (outer_scope names items) items) names.preds;
+  closures = rows_from (outer_scope names items) (behind_rules items) items;
   places = map (bare items) (place_names items);
   objects = names.objects;
   words = names.words;
@@ -166,32 +166,32 @@ simple (top.Object o) = term.Object o
 simple t = term.Nil
 
 -- The value that a fact gives, and the empty list where the place has none.
-abbrev pub value_of : List Term → Term
-value_of (a ∷ b ∷ ts) = simple (out-Term b)
-value_of ts = term.Nil
+abbrev pub fact_value : List Term → Term
+fact_value (a ∷ b ∷ ts) = simple (out-Term b)
+fact_value ts = term.Nil
 
 -- A fact that holds has no goals, and a negated one fails.
-abbrev pub start_of : Rule → List (ℕ × Term)
-start_of r = if nat_eq (length r.body) 0 then (object_of r.head, value_of r.head) ∷ [] else []
+abbrev pub start_of_fact : Rule → List (ℕ × Term)
+start_of_fact r = if nat_eq (length r.body) 0 then (object_of r.head, fact_value r.head) ∷ [] else []
 
 -- How facts let a place start, some objects being decided before. The first fact of an object decides.
-abbrev pub starts_from : List ℕ → List Rule → List (ℕ × Term)
-starts_from decided [] = []
-starts_from decided (r ∷ rs) = if list_any (nat_eq (object_of r.head)) decided then starts_from decided rs else start_of r
-    ++ starts_from (decided ++ object_of r.head ∷ []) rs
+abbrev pub fact_starts : List ℕ → List Rule → List (ℕ × Term)
+fact_starts decided [] = []
+fact_starts decided (r ∷ rs) = if list_any (nat_eq (object_of r.head)) decided then fact_starts decided rs else start_of_fact r
+    ++ fact_starts (decided ++ object_of r.head ∷ []) rs
 
 -- The rules of the predicate with this number.
-abbrev pub rules_of : Option Pred → List Rule
-rules_of None = []
-rules_of (Some p) = p.rules
+abbrev pub pred_rules : Option Pred → List Rule
+pred_rules None = []
+pred_rules (Some p) = p.rules
 
-abbrev pub rules_at : List Pred → Option ℕ → List Rule
-rules_at preds None = []
-rules_at preds (Some k) = rules_of (slice_get preds k)
+abbrev pub numbered_rules : List Pred → Option ℕ → List Rule
+numbered_rules preds None = []
+numbered_rules preds (Some k) = pred_rules (slice_get preds k)
 
 -- The rules of the predicate with this name.
 abbrev pub rules_named : List ℕ → List Pred → List Rule
-rules_named name preds = rules_at preds (position (bytes_eq name) (map (λ (p : Pred). p.name) preds))
+rules_named name preds = numbered_rules preds (position (bytes_eq name) (map (λ (p : Pred). p.name) preds))
 
 -- A declared variable that is unset.
 abbrev pub is_unset : Value → Bool
@@ -210,7 +210,7 @@ or_else (s ∷ ss) others = s ∷ ss
 
 -- How a declaration lets the variable of this name start.
 abbrev pub head_start : Scope → List ℕ → Parts → List (ℕ × Term)
-head_start around name ps = if bytes_eq (name_of ps) name then value_start around (values_in ps) else []
+head_start around name ps = if bytes_eq (name_of ps) name then value_start around (head_values ps) else []
 
 -- How the first declaration that sets a name lets its variable start.
 abbrev pub declared_start : Scope → List ℕ → List Parts → List (ℕ × Term)
@@ -219,16 +219,16 @@ declared_start around name (ps ∷ heads) = or_else (head_start around name ps) 
 
 -- How the place of a name starts: by its declaration, or by the facts of its predicate.
 abbrev pub place_start : Scope → Placed → List Parts → List Pred → List ℕ → List (ℕ × Term)
-place_start around placed heads preds name = if is_among name placed.declared then declared_start around name heads else starts_from [] (rules_named name preds)
+place_start around placed heads preds name = if is_among name placed.declared then declared_start around name heads else fact_starts [] (rules_named name preds)
 
 -- The place of a name.
-abbrev pub place_of : Scope → Placed → List Parts → List Pred → List ℕ → Place
-place_of around placed heads preds name = record { kind = kind_of placed.declared name; start = place_start around placed heads preds name }
+abbrev pub core_place : Scope → Placed → List Parts → List Pred → List ℕ → Place
+core_place around placed heads preds name = record { kind = kind_of placed.declared name; start = place_start around placed heads preds name }
 
 -- A program whose places start as facts and declarations say.
 abbrev pub with_starts : Named → List Item → Core → Core
 with_starts names items core = record core {
-  places = map (place_of (outside names items) (placed_of items) (declarations items) core.preds)
+  places = map (core_place (outer_scope names items) (placed_of items) (declarations items) core.preds)
       (place_names items);
 }
 
@@ -257,11 +257,11 @@ abbrev pub has_entry : List Item → Bool
 has_entry items = list_any (λ (i : Item). is_rule_for entry_name i.said) items
 
 -- The refusal of a tree: of its first bad initial value, or for want of an entry.
-abbrev pub refusal_of : List Item → Option ℕ → Option Refusal
-refusal_of items (Some line) = Some (record { kind = BadInitial; line = line })
-refusal_of items None = if has_entry items then None else Some (record { kind = NoEntry; line = 1 })
+abbrev pub core_refusal : List Item → Option ℕ → Option Refusal
+core_refusal items (Some line) = Some (record { kind = BadInitial; line = line })
+core_refusal items None = if has_entry items then None else Some (record { kind = NoEntry; line = 1 })
 
 -- The core program of these names and items, or why they are refused.
 abbrev pub IsLowered : Named → List Item → Result Core Refusal → Type 0
-IsLowered names items (Ok core) = (refusal_of items (first_bad (placed_of items) [] items) ≡ None) × (core ≡ core_of names items)
-IsLowered names items (Err r) = refusal_of items (first_bad (placed_of items) [] items) ≡ Some r
+IsLowered names items (Ok core) = (core_refusal items (first_bad_start (placed_of items) [] items) ≡ None) × (core ≡ core_of names items)
+IsLowered names items (Err r) = core_refusal items (first_bad_start (placed_of items) [] items) ≡ Some r

@@ -13,11 +13,11 @@ use Rattle.dg_names.specs.Among.{IsAmong}
 use Rattle.dg_names.specs.Named.{Named}
 use Rattle.dg_core.specs.Matches.{ArePlain}
 use Rattle.dg_core.specs.Core.{is_unset}
-use Rattle.dg_core.specs.Places.{parent_name, place_names, values_in}
+use Rattle.dg_core.specs.Places.{parent_name, place_names, head_values}
 
 -- What is changed has at most two values, and a select has a branch and at most 500.
 abbrev pub IsFit : Thing → Type 0
-IsFit (query (role.Changed set) ps) = length (values_in ps) ≤ 2
+IsFit (query (role.Changed set) ps) = length (head_values ps) ≤ 2
 IsFit (select n) = (1 ≤ n) × (n ≤ 500)
 IsFit t = Unit {0}
 
@@ -42,8 +42,8 @@ MayStart (v ∷ vs) = is_unset v ≡ false → IsSet v
 
 -- What is declared has one value, which it may have, and isn't the place of parents.
 pub record IsDeclarable (ps : Parts) : Type 0 where
-  pub one : length (values_in ps) ≡ 1
-  pub value : MayStart (values_in ps)
+  pub one : length (head_values ps) ≡ 1
+  pub value : MayStart (head_values ps)
   pub other : bytes_eq parent_name (name_of ps) ≡ false
 
 -- A rule and each closure in it has at most 64 variables, and no query stands as a value in it.

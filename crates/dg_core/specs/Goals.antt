@@ -14,7 +14,7 @@ use Rattle.dg_base.specs.declared.program.Goal.{Goal}
 use Rattle.dg_base.specs.declared.program.Goal.TheVariants as goal
 use Rattle.dg_names.specs.Named.{Named}
 use Rattle.dg_core.specs.Bodies.{Closed, direct, in_value, in_values, in_parts, in_stmt, in_stmts, in_branches, in_arms}
-use Rattle.dg_core.specs.Places.{values_in}
+use Rattle.dg_core.specs.Places.{head_values}
 
 -- What the names in a rule stand for: those of the program, the places, and the variables of the rule. With them, the numbers of the closures
 -- that stand directly in it, and how many of these stand before what is looked at.
@@ -36,9 +36,9 @@ past scope cs = at scope (scope.before + length (direct cs))
 -- ---- numbers
 
 -- The number of a place, and 0 where there is none.
-abbrev pub or_zero : Option ℕ → ℕ
-or_zero None = 0
-or_zero (Some n) = n
+abbrev pub place_or_zero : Option ℕ → ℕ
+place_or_zero None = 0
+place_or_zero (Some n) = n
 
 -- A number of 16 bits, and 0 for another one.
 abbrev pub in_16_bits : ℕ → ℕ
@@ -46,7 +46,7 @@ in_16_bits n = if nat_lt n 65536 then n else 0
 
 -- The number of a name among names, and 0 where it isn't there.
 abbrev pub number_in : List (List ℕ) → List ℕ → ℕ
-number_in names name = in_16_bits (or_zero (position (bytes_eq name) names))
+number_in names name = in_16_bits (place_or_zero (position (bytes_eq name) names))
 
 -- ---- terms
 
@@ -79,7 +79,7 @@ terms_of_values scope (v ∷ vs) = term_of scope v ∷ terms_of_values (past sco
 
 -- The terms of a head or a query.
 abbrev pub terms_of : Scope → Parts → List Term
-terms_of scope ps = terms_of_values scope (values_in ps)
+terms_of scope ps = terms_of_values scope (head_values ps)
 
 -- ---- queries
 
@@ -145,11 +145,11 @@ unit (goals ∷ []) = goals
 unit lists = goal.Either lists ∷ []
 
 -- The selects that are mentioned outside closures.
-abbrev pub selects : Mentions → ℕ
-selects nothing = 0
-selects (thing (mentions.select n) ms) = selects ms + 1
-selects (thing t ms) = selects ms
-selects (closed inner ms) = selects ms
+abbrev pub count_selects : Mentions → ℕ
+count_selects nothing = 0
+count_selects (thing (mentions.select n) ms) = count_selects ms + 1
+count_selects (thing t ms) = count_selects ms
+count_selects (closed inner ms) = count_selects ms
 
 -- The goals of statements, a select having the number of those that stand before it.
 abbrev mutual
@@ -163,7 +163,7 @@ abbrev mutual
   stmt_goals scope n (not_group b) = goal.Not (unit (lists scope n b)) ∷ []
   stmt_goals scope n (now cs) = change_goals scope cs
   stmt_goals scope n (choice arms) = arm_goals scope n arms []
-  stmt_goals scope n (choice_else arms b) = arm_goals scope n arms (unit (lists (past scope (in_arms arms)) (n + selects (of_arms false arms)) b))
+  stmt_goals scope n (choice_else arms b) = arm_goals scope n arms (unit (lists (past scope (in_arms arms)) (n + count_selects (of_arms false arms)) b))
   stmt_goals scope n (exhaust s) = goal.Exhaust (stmt_goals scope n s) ∷ []
   stmt_goals scope n (stoppable s) = goal.Stoppable (stmt_goals scope n s) ∷ []
   stmt_goals scope n (collect v b into) =
@@ -178,20 +178,20 @@ abbrev mutual
   -- One statement after the other.
   pub goals_of : Scope → ℕ → Stmts → List Goal
   goals_of scope n no_stmts = []
-  goals_of scope n (stmt s ss) = stmt_goals scope n s ++ goals_of (past scope (in_stmt s)) (n + selects (of_stmt false s)) ss
+  goals_of scope n (stmt s ss) = stmt_goals scope n s ++ goals_of (past scope (in_stmt s)) (n + count_selects (of_stmt false s)) ss
 
   -- The list of each branch.
   pub lists : Scope → ℕ → Body → List (List Goal)
   lists scope n no_branches = []
-  lists scope n (branch ss b) = goals_of scope n ss ∷ lists (past scope (in_stmts ss)) (n + selects (mentions.of_stmts false ss)) b
+  lists scope n (branch ss b) = goals_of scope n ss ∷ lists (past scope (in_stmts ss)) (n + count_selects (mentions.of_stmts false ss)) b
 
   -- Conditions, each with what follows it, and what is done where none holds.
   pub arm_goals : Scope → ℕ → Arms → List Goal → List Goal
   arm_goals scope n no_arms otherwise = otherwise
   arm_goals scope n (arm c b arms) otherwise =
-      let behind = n + selects (of_body false c) in
+      let behind = n + count_selects (of_body false c) in
       let between = past scope (in_branches c) in
-      let last = behind + selects (of_body false b) in
+      let last = behind + count_selects (of_body false b) in
       goal.If (unit (lists scope n c)) (unit (lists between behind b)) (arm_goals (past between (in_branches b)) last arms otherwise) ∷ []
 
 -- The goals of a body.

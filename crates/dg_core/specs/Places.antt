@@ -63,36 +63,36 @@ kind_of declared name = if bytes_eq parent_name name then Parent else (if is_amo
 
 -- ---- facts
 
-abbrev pub is_object : Value → Bool
-is_object (object_name n) = true
-is_object v = false
+abbrev pub is_object_value : Value → Bool
+is_object_value (object_name n) = true
+is_object_value v = false
 
 -- A value that a per-object variable can have.
-abbrev pub is_simple : Value → Bool
-is_simple (num n) = true
-is_simple (dict_word w) = true
-is_simple (object_name n) = true
-is_simple (plain_list no_values) = true
-is_simple v = false
+abbrev pub is_simple_value : Value → Bool
+is_simple_value (num n) = true
+is_simple_value (dict_word w) = true
+is_simple_value (object_name n) = true
+is_simple_value (plain_list no_values) = true
+is_simple_value v = false
 
 -- The values of a head, from left to right.
-abbrev pub values_in : Parts → List Value
-values_in no_parts = []
-values_in (part (part_word w) ps) = values_in ps
-values_in (part (part_value v) ps) = v ∷ values_in ps
+abbrev pub head_values : Parts → List Value
+head_values no_parts = []
+head_values (part (part_word w) ps) = head_values ps
+head_values (part (part_value v) ps) = v ∷ head_values ps
 
 -- The values that a fact of a place of this kind may have. There is no fact of a declared variable.
 abbrev pub are_fact : PlaceKind → List Value → Bool
 are_fact Flag [] = true
-are_fact ObjectFlag (v ∷ []) = is_object v
-are_fact ObjectVar (v ∷ w ∷ []) = is_object v && is_simple w
-are_fact Parent (v ∷ w ∷ []) = is_object v && is_object w
+are_fact ObjectFlag (v ∷ []) = is_object_value v
+are_fact ObjectVar (v ∷ w ∷ []) = is_object_value v && is_simple_value w
+are_fact Parent (v ∷ w ∷ []) = is_object_value v && is_object_value w
 are_fact kind vs = false
 
 -- A body in which nothing is written.
-abbrev pub is_empty : Body → Bool
-is_empty (branch no_stmts no_branches) = true
-is_empty b = false
+abbrev pub is_empty_body : Body → Bool
+is_empty_body (branch no_stmts no_branches) = true
+is_empty_body b = false
 
 -- The names of a tree's places, and which of them are declared.
 pub record Placed : Type 0 where
@@ -104,15 +104,15 @@ placed_of is = record { names = place_names is; declared = declared_names is }
 
 -- A rule of a place that is no fact.
 abbrev pub is_no_fact : Placed → Parts → Body → Bool
-is_no_fact p ps b = is_among (name_of ps) p.names && not (is_empty b && are_fact (kind_of p.declared (name_of ps)) (values_in ps))
+is_no_fact p ps b = is_among (name_of ps) p.names && not (is_empty_body b && are_fact (kind_of p.declared (name_of ps)) (head_values ps))
 
 -- An item that gives no initial value, though it should: a rule of a place that is no fact, or the second declaration of a name, some being declared before.
-abbrev pub is_bad : Placed → List (List ℕ) → Said → Bool
-is_bad p before (rule ps b) = is_no_fact p ps b
-is_bad p before (deny ps b) = is_no_fact p ps b
-is_bad p before (global_variable ps) = is_among (name_of ps) before
-is_bad p before (topic n) = false
-is_bad p before (access ps b) = false
+abbrev pub is_bad_start : Placed → List (List ℕ) → Said → Bool
+is_bad_start p before (rule ps b) = is_no_fact p ps b
+is_bad_start p before (deny ps b) = is_no_fact p ps b
+is_bad_start p before (global_variable ps) = is_among (name_of ps) before
+is_bad_start p before (topic n) = false
+is_bad_start p before (access ps b) = false
 
 -- The names that are declared behind an item.
 abbrev pub declared_behind : List (List ℕ) → Said → List (List ℕ)
@@ -120,6 +120,6 @@ declared_behind before (global_variable ps) = before ++ name_of ps ∷ []
 declared_behind before said = before
 
 -- The line of the first item with a bad initial value.
-abbrev pub first_bad : Placed → List (List ℕ) → List Item → Option ℕ
-first_bad p before [] = None
-first_bad p before (i ∷ is) = if is_bad p before i.said then Some i.line else first_bad p (declared_behind before i.said) is
+abbrev pub first_bad_start : Placed → List (List ℕ) → List Item → Option ℕ
+first_bad_start p before [] = None
+first_bad_start p before (i ∷ is) = if is_bad_start p before i.said then Some i.line else first_bad_start p (declared_behind before i.said) is

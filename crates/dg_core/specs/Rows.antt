@@ -6,9 +6,9 @@ use Rattle.dg_base.specs.Tree.{Parts, Body}
 use Rattle.dg_base.specs.declared.mentions.Role.TheVariants as role
 use Rattle.dg_base.specs.declared.program.ClosureBody.{ClosureBody}
 use Rattle.dg_access.specs.Counts.{names_out}
-use Rattle.dg_closures.specs.Closures.{Layout, layout_by, variables_in, behind}
-use Rattle.dg_core.specs.Bodies.{Closed, no_closure, a_closure, join, in_parts, in_branches}
-use Rattle.dg_core.specs.Goals.{Scope, number_in, selects, body_goals}
+use Rattle.dg_closures.specs.Closures.{Layout, layout_by, variables_in, behind_closure}
+use Rattle.dg_core.specs.Bodies.{Closed, no_closure, a_closure, joined_closures, in_parts, in_branches}
+use Rattle.dg_core.specs.Goals.{Scope, number_in, count_selects, body_goals}
 use Rattle.dg_core.specs.Variables.{layouts_in}
 
 -- How many closures stand here, at every depth.
@@ -19,7 +19,7 @@ size (a_closure b inner cs) = size inner + 1 + size cs
 -- The selects that stand in their bodies.
 abbrev pub selects_within : Closed → ℕ
 selects_within no_closure = 0
-selects_within (a_closure b inner cs) = selects (of_body false b) + selects_within inner + selects_within cs
+selects_within (a_closure b inner cs) = count_selects (of_body false b) + selects_within inner + selects_within cs
 
 -- What a closure has where no layout stands at its place: none of a source that was read.
 abbrev pub no_layout : Layout
@@ -58,23 +58,23 @@ abbrev pub rows : Home → List (List ℕ) → List ℕ → ℕ → ℕ → Clos
 rows home enclosing places i n no_closure = []
 rows home enclosing places i n (a_closure b inner cs) =
     let l = layout_at home.layouts (get_or places i 0) in
-    let m = n + selects (of_body false b) in
+    let m = n + count_selects (of_body false b) in
     row_with home (captured_in enclosing l) n l b ∷
     (rows home (variables_in l) l.places 0 m inner ++ rows home enclosing places (i + 1) (m + selects_within inner) cs)
 
 -- The closures that stand in a rule, those of its head first.
-abbrev pub in_rule : Parts → Body → Closed
-in_rule ps b = join (in_parts ps) (in_branches b)
+abbrev pub closures_in_rule : Parts → Body → Closed
+closures_in_rule ps b = joined_closures (in_parts ps) (in_branches b)
 
 -- All names of variables in a rule.
 abbrev pub names_of : Parts → Body → List (List ℕ)
 names_of ps b = names_in variable_in (things (of_rule role.Rule ps b))
 
 -- The rows of the closures of a rule, so many closures standing in the items before, and so many selects before its closures.
-abbrev pub rows_of : Scope → ℕ → ℕ → Parts → Body → List ClosureBody
-rows_of around first n ps b =
+abbrev pub closure_rows : Scope → ℕ → ℕ → Parts → Body → List ClosureBody
+closure_rows around first n ps b =
     let ls = layouts_in ps b in
-    rows (record { around = around; layouts = ls.closures; first = first }) ls.variables ls.places 0 n (in_rule ps b)
+    rows (record { around = around; layouts = ls.closures; first = first }) ls.variables ls.places 0 n (closures_in_rule ps b)
 
 -- ---- what the law on rows says
 
@@ -84,7 +84,7 @@ AreCaught rs all vars k nothing = Unit {0}
 AreCaught rs all vars k (thing t ms) = AreCaught rs all vars k ms
 AreCaught rs all vars k (closed inner ms) =
     let own = variables_in (layout_by all (names_out all inner) []) in
-    Captures (length vars) (slice_get rs k) × AreCaught rs all own (k + 1) inner × AreCaught rs all vars (behind k inner) ms
+    Captures (length vars) (slice_get rs k) × AreCaught rs all own (k + 1) inner × AreCaught rs all vars (behind_closure k inner) ms
 
 -- A closure has its parameter among its own variables, and at most 64 other variables.
 pub record IsSmallRow (row : ClosureBody) : Type 0 where

@@ -10,5 +10,5 @@ abbrev pub layouts_in : Parts → Body → Layouts
 layouts_in ps b = let ms = of_rule role.Rule ps b in layouts_of (names_in variable_in (things ms)) ms
 
 -- The variables of a rule, in order of first appearance, its head first: those that stand outside its closures, and those that these capture.
-abbrev pub variables_of : Parts → Body → List (List ℕ)
-variables_of ps b = (layouts_in ps b).variables
+abbrev pub rule_variables : Parts → Body → List (List ℕ)
+rule_variables ps b = (layouts_in ps b).variables

@@ -13,19 +13,19 @@ use dg_base::{Body, Boxed, Head, Item, ItemBody, Items, Name, Part, PlaceKind, V
 use std::alloc::{AllocError, Global};
 
 fn is_object(value: &Value) -> bool
-    ensures { result ≡ spec.is_object (value_view value.now) }
+    ensures { result ≡ spec.is_object_value (value_view value.now) }
 {
     matches!(value, Value::Object(_))
 }
 
 fn is_nothing(values: &Items<Value>) -> bool
-    ensures { result ≡ spec.is_simple (plain_list (values_of (map value_view values.now))) }
+    ensures { result ≡ spec.is_simple_value (plain_list (values_of (map value_view values.now))) }
 {
     values.is_empty()
 }
 
 fn is_nil(values: &Items<Value>, tail: &Option<Boxed<Value>>) -> bool
-    ensures { result ≡ spec.is_simple (list_view (map value_view values.now) (option_map value_view tail.now)) }
+    ensures { result ≡ spec.is_simple_value (list_view (map value_view values.now) (option_map value_view tail.now)) }
 {
     match tail {
         None => is_nothing(values),
@@ -34,7 +34,7 @@ fn is_nil(values: &Items<Value>, tail: &Option<Boxed<Value>>) -> bool
 }
 
 fn is_simple(value: &Value) -> bool
-    ensures { result ≡ spec.is_simple (value_view value.now) }
+    ensures { result ≡ spec.is_simple_value (value_view value.now) }
 {
     match value {
         Value::Num(_) | Value::Word(_) | Value::Object(_) => true,
@@ -45,7 +45,7 @@ fn is_simple(value: &Value) -> bool
 
 /// The values of a head, from left to right.
 pub fn values_in<'a>(alloc: Global, parts: &'a [Part]) -> Result<Vec<&'a Value>, AllocError>
-    ensures { IfOk result (λ values. values_view values.items ≡ spec.values_in (parts_of (map part_view parts.now))) }
+    ensures { IfOk result (λ values. values_view values.items ≡ spec.head_values (parts_of (map part_view parts.now))) }
 {
     let mut values = Vec::new(alloc);
     for part in parts {
@@ -69,7 +69,7 @@ fn are_fact(kind: PlaceKind, values: &[&Value]) -> bool
 }
 
 fn is_empty(body: &Body) -> bool
-    ensures { result ≡ spec.is_empty (body_view body.now) }
+    ensures { result ≡ spec.is_empty_body (body_view body.now) }
 {
     match body.branches.as_slice() {
         [only] => only.is_empty(),
@@ -115,7 +115,7 @@ fn is_bad(
     before: &[Name],
     said: &ItemBody,
 ) -> Result<bool, AllocError>
-    ensures { IfOk result (λ is. is ≡ spec.is_bad (places_view places.now) before.now (said_view said.now)) }
+    ensures { IfOk result (λ is. is ≡ spec.is_bad_start (places_view places.now) before.now (said_view said.now)) }
 {
     match said {
         ItemBody::Rule(head, body) | ItemBody::Deny(head, body) => {
@@ -139,7 +139,7 @@ fn add_declared(alloc: Global, before: &mut Vec<Name>, said: &ItemBody) -> Resul
 /// The line of the first item with a bad initial value: of a rule of a place that is no fact, or of the second declaration
 /// of a name.
 pub fn first_bad(alloc: Global, places: &Places, items: &[Item]) -> Result<Option<u32>, AllocError>
-    ensures { IfOk result (λ first. first ≡ spec.first_bad (places_view places.now) [] (map item_view items.now)) }
+    ensures { IfOk result (λ first. first ≡ spec.first_bad_start (places_view places.now) [] (map item_view items.now)) }
 {
     let mut before = Vec::new(alloc);
     for item in items {

@@ -502,7 +502,7 @@ pub fn goals_of<'a>(
 ) -> Result<(Items<Goal>, Items<&'a Body>), AllocError>
     ensures goals { IfOk result (λ made. made.0 ≡ spec.body_goals (scope_behind scope.now found.entry) sites.old (body_view body.now)) }
     ensures found { IfOk result (λ made. bodies_view made.1 ≡ bodies_view found.entry ++ direct (in_branches (body_view body.now))) }
-    ensures sites { OnOk result (sites.new ≡ sites.old + spec.selects (of_body false (body_view body.now))) }
+    ensures sites { OnOk result (sites.new ≡ sites.old + spec.count_selects (of_body false (body_view body.now))) }
 {
     let mut goals = Items::new(alloc);
     goals.push(Items::new(alloc))?;

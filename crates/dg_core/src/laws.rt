@@ -7,13 +7,13 @@ ghost use Rattle.dg_base.specs.Tree.{Parts, Body, rule, Item};
 ghost use Rattle.dg_base.specs.declared.mentions.Role.TheVariants as role;
 ghost use Rattle.dg_access.specs.Few.{HasFewVariables};
 ghost use Rattle.dg_names.specs.Named.{Named};
-ghost use Rattle.dg_core.specs.Core.{core_of, entry_name, refusal_of};
+ghost use Rattle.dg_core.specs.Core.{core_of, entry_name, core_refusal};
 ghost use Rattle.dg_core.specs.Given.{IsGiven};
 ghost use Rattle.dg_core.specs.Goals.{Scope, number_in, terms_of};
 ghost use Rattle.dg_core.specs.Matches.{ArePlain, Matches};
-ghost use Rattle.dg_core.specs.Places.{placed_of, first_bad};
-ghost use Rattle.dg_core.specs.Rows.{in_rule, names_of, rows_of, AreCaught, IsSmallRow};
-ghost use Rattle.dg_core.specs.Variables.{variables_of};
+ghost use Rattle.dg_core.specs.Places.{placed_of, first_bad_start};
+ghost use Rattle.dg_core.specs.Rows.{closures_in_rule, names_of, closure_rows, AreCaught, IsSmallRow};
+ghost use Rattle.dg_core.specs.Variables.{rule_variables};
 
 /// A query of a predicate among the names has as many terms as the heads of its rules.
 pub fn queries_fit()
@@ -31,22 +31,22 @@ pub fn entry_fits()
 /// The core program of a tree with its names is sound, where they come from a source that was read and nothing is refused.
 pub fn core_is_sound()
     ensures { (names : Named) (items : List Item) → IsGiven names items →
-        refusal_of items (first_bad (placed_of items) [] items) ≡ None → IsSound (core_of names items) }
+        core_refusal items (first_bad_start (placed_of items) [] items) ≡ None → IsSound (core_of names items) }
 {}
 
 /// The closures that stand in a rule are those that it mentions, where no query stands as a value.
 pub fn closures_match()
-    ensures { (ps : Parts) (b : Body) → ArePlain (of_rule role.Rule ps b) → Matches (of_rule role.Rule ps b) (in_rule ps b) }
+    ensures { (ps : Parts) (b : Body) → ArePlain (of_rule role.Rule ps b) → Matches (of_rule role.Rule ps b) (closures_in_rule ps b) }
 {}
 
 /// Each closure of a rule has its row, which captures variables of what the closure stands in, where few variables stand in each.
 pub fn closures_have_rows()
     ensures counted { (around : Scope) (first n : ℕ) (ps : Parts) (b : Body) → ArePlain (of_rule role.Rule ps b) →
-        length (rows_of around first n ps b) ≡ length (closures (of_rule role.Rule ps b)) }
+        length (closure_rows around first n ps b) ≡ length (closures (of_rule role.Rule ps b)) }
     ensures caught { (around : Scope) (first n : ℕ) (ps : Parts) (b : Body) → ArePlain (of_rule role.Rule ps b) → HasFewVariables (rule ps b) →
-        AreCaught (rows_of around first n ps b) (names_of ps b) (variables_of ps b) 0 (of_rule role.Rule ps b) }
+        AreCaught (closure_rows around first n ps b) (names_of ps b) (rule_variables ps b) 0 (of_rule role.Rule ps b) }
     ensures small { (around : Scope) (first n : ℕ) (ps : Parts) (b : Body) → ArePlain (of_rule role.Rule ps b) → HasFewVariables (rule ps b) →
-        All IsSmallRow (rows_of around first n ps b) }
+        All IsSmallRow (closure_rows around first n ps b) }
 {
     dg_closures::variables_are_held();
     dg_closures::closures_are_small();

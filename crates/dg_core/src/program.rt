@@ -14,10 +14,10 @@ ghost use Rattle.dg_names.specs.State.{listed, names_view, seen};
 ghost use Rattle.dg_core.specs.Bodies.{direct};
 ghost use Rattle.dg_core.specs.Core as spec;
 ghost use Rattle.dg_core.specs.Given.{IsGiven};
-ghost use Rattle.dg_core.specs.Goals.{selects};
+ghost use Rattle.dg_core.specs.Goals.{count_selects};
 ghost use Rattle.dg_core.specs.inside.Making.{bodies_view};
-ghost use Rattle.dg_core.specs.Places.{placed_of, first_bad as spec_first_bad};
-ghost use Rattle.dg_core.specs.Rows.{in_rule};
+ghost use Rattle.dg_core.specs.Places.{placed_of, first_bad_start as spec_first_bad};
+ghost use Rattle.dg_core.specs.Rows.{closures_in_rule};
 ghost use Rattle.dg_core.specs.Variables.{layouts_in};
 ghost use Rattle.dg_core.specs.inside.View.{scope_view, places_view, before_view, rule_in, with_rule, with_rules_in, pred_names};
 ghost use Rattle.dg_core.specs.inside.Waiting.{rows_kept, selects_kept, Waits, Keeps};
@@ -76,8 +76,8 @@ fn rule_of<'a>(
     behind: Items<Goal>,
 ) -> Result<(Rule, Items<&'a Body>), AllocError>
     ensures rule { IfOk result (λ made. made.0 ≡ rule_in (scope_view scope.now) sites.old (head_view head.now) (body_view body.now) behind) }
-    ensures found { IfOk result (λ made. bodies_view made.1 ≡ direct (in_rule (head_view head.now) (body_view body.now))) }
-    ensures sites { OnOk result (sites.new ≡ sites.old + selects (of_body false (body_view body.now))) }
+    ensures found { IfOk result (λ made. bodies_view made.1 ≡ direct (closures_in_rule (head_view head.now) (body_view body.now))) }
+    ensures sites { OnOk result (sites.new ≡ sites.old + count_selects (of_body false (body_view body.now))) }
 {
     let mut found = Items::new(alloc);
     let terms = terms_of(alloc, scope, &mut found, head)?;
@@ -245,7 +245,7 @@ fn rules_of<'a>(
         (scope_view around.now).names.preds) }
     ensures named { IfOk result (λ all. pred_names all.preds.items ≡ (scope_view around.now).names.preds) }
     ensures kept { IfOk result (λ all. (n : ℕ) → rows_kept (scope_view around.now) n all.kept.items
-        ≡ spec.rows_from (scope_view around.now) (record { selects = n; closures = 0 }) (map item_view items.now)) }
+        ≡ spec.rows_from (scope_view around.now) (record { count_selects = n; closures = 0 }) (map item_view items.now)) }
     ensures inner { IfOk result (λ all. selects_kept all.kept.items ≡ spec.inner_selects (map item_view items.now)) }
     ensures sites { IfOk result (λ all. all.before.selects ≡ spec.all_selects (map item_view items.now)) }
 {
@@ -333,7 +333,7 @@ fn has_entry(tree: &Tree) -> bool
 // Why a tree is refused.
 fn refusal_of(alloc: Global, tree: &Tree, places: &Places) -> Result<Option<Refusal>, AllocError>
     requires { places_view places.now ≡ placed_of (tree_view tree.now) }
-    ensures { IfOk result (λ refusal. refusal ≡ spec.refusal_of (tree_view tree.now)
+    ensures { IfOk result (λ refusal. refusal ≡ spec.core_refusal (tree_view tree.now)
         (spec_first_bad (placed_of (tree_view tree.now)) [] (tree_view tree.now))) }
 {
     match first_bad(alloc, places, tree.items.as_slice())? {

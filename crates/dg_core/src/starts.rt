@@ -37,7 +37,7 @@ fn simple(term: &Term) -> Term
 }
 
 fn value_of(terms: &[Term]) -> Term
-    ensures { result ≡ spec.value_of terms.now }
+    ensures { result ≡ spec.fact_value terms.now }
 {
     match terms {
         [_, value, ..] => simple(value),
@@ -57,7 +57,7 @@ fn is_among(decided: &[u16], object: u16) -> bool
 }
 
 fn add_start(start: &mut Items<(u16, Term)>, rule: &Rule) -> Result<(), AllocError>
-    ensures { OnOk result (start.new ≡ start.old ++ spec.start_of rule.now) }
+    ensures { OnOk result (start.new ≡ start.old ++ spec.start_of_fact rule.now) }
 {
     if rule.body.is_empty() {
         let head = rule.head.as_slice();
@@ -68,7 +68,7 @@ fn add_start(start: &mut Items<(u16, Term)>, rule: &Rule) -> Result<(), AllocErr
 
 // How facts let a place start. The first fact of an object decides.
 fn facts_start(alloc: Global, rules: &[Rule]) -> Result<Items<(u16, Term)>, AllocError>
-    ensures { IfOk result (λ start. start ≡ spec.starts_from [] rules.now) }
+    ensures { IfOk result (λ start. start ≡ spec.fact_starts [] rules.now) }
 {
     let mut start = Items::new(alloc);
     let mut decided = Vec::new(alloc);
@@ -168,7 +168,7 @@ fn named_start(
     preds: &[Pred],
     at: Option<usize>,
 ) -> Result<Items<(u16, Term)>, AllocError>
-    ensures { IfOk result (λ start. start ≡ spec.starts_from [] (spec.rules_at preds.now at)) }
+    ensures { IfOk result (λ start. start ≡ spec.fact_starts [] (spec.numbered_rules preds.now at)) }
 {
     let Some(at) = at else {
         return Ok(Items::new(alloc));
@@ -205,7 +205,7 @@ fn place_of(
     name: &[u8],
 ) -> Result<Place, AllocError>
     requires { pred_names preds.now ≡ (scope_view around.now).names.preds }
-    ensures { IfOk result (λ place. place ≡ spec.place_of (scope_view around.now) (places_view around.now.places.now)
+    ensures { IfOk result (λ place. place ≡ spec.core_place (scope_view around.now) (places_view around.now.places.now)
         (heads_view heads.now) preds.now name.now) }
 {
     Ok(Place {
@@ -221,7 +221,7 @@ fn all_places(
     preds: &[Pred],
 ) -> Result<Items<Place>, AllocError>
     requires { pred_names preds.now ≡ (scope_view around.now).names.preds }
-    ensures { IfOk result (λ places. places ≡ map (spec.place_of (scope_view around.now) (places_view around.now.places.now)
+    ensures { IfOk result (λ places. places ≡ map (spec.core_place (scope_view around.now) (places_view around.now.places.now)
         (heads_view heads.now) preds.now) (scope_view around.now).places) }
 {
     let mut places = Items::new(alloc);
@@ -239,7 +239,7 @@ pub fn places_with_starts(
     preds: &[Pred],
 ) -> Result<Items<Place>, AllocError>
     requires { pred_names preds.now ≡ (scope_view around.now).names.preds }
-    ensures { IfOk result (λ places. places ≡ map (spec.place_of (scope_view around.now) (places_view around.now.places.now)
+    ensures { IfOk result (λ places. places ≡ map (spec.core_place (scope_view around.now) (places_view around.now.places.now)
         (declarations (map item_view items.now)) preds.now) (scope_view around.now).places) }
 {
     let heads = declarations_of(alloc, items)?;

@@ -12,7 +12,7 @@ use Rattle.dg_access.specs.declared.work.Close.TheVariants as close
 use Rattle.dg_access.specs.declared.work.Wrap.{Wrap}
 use Rattle.dg_access.specs.declared.work.Wrap.TheVariants as wrap
 use Rattle.dg_access.proofs.BuildLemmas.{front_at, behind_at, init_push, last_push}
-use Rattle.dg_expand.specs.Put.{Access, Argument, Place, Level, level, put_query, rule_for, given_by, moved_from, within, changing, made, put_change, changes_behind, one_change, changes_in, queries_of, put_value, put_values, put_parts, put_stmt, put_stmts, put_body, put_arms, put_changes}
+use Rattle.dg_expand.specs.Put.{Access, Argument, Spot, Level, level, put_query, rule_for, given_by, moved_from, within, change_access, made, put_change, changes_behind, one_change, changes_in, list_queries, put_value, put_values, put_parts, put_stmt, put_stmts, put_body, put_arms, put_changes}
 use Rattle.dg_expand.specs.inside.Putting.{Around, closed_around, copied_around, after_value, after_values, after_parts, after_stmt, after_stmts, after_branches, after_body, after_arms, after_changes, bare, wrap_of, does, run}
 use Rattle.dg_expand.specs.declared.place.Place.{Place as CodePlace}
 use Rattle.dg_expand.specs.declared.work.Work.{Work}
@@ -53,24 +53,24 @@ pub changes_again : (cs : Changes) → changes_of (list_of_changes cs) ≡ cs
 changes_again tree.no_changes = refl
 changes_again (tree.change ps set cs) = ap (tree.change ps set) (changes_again cs)
 
-pub values_count : (l : Level) (p : Place) (n : ℕ) (vs : List Value) → length (list_of_values (put_values l p n (values_of vs)).0) ≡ length vs
+pub values_count : (l : Level) (p : Spot) (n : ℕ) (vs : List Value) → length (list_of_values (put_values l p n (values_of vs)).0) ≡ length vs
 values_count l p n [] = refl
 values_count l p n (v ∷ vs) = omega (arith, values_count l p (put_value l p n v).1 vs)
 
-pub parts_count : (l : Level) (p : Place) (n : ℕ) (ps : List Part) → length (list_of_parts (put_parts l p n (parts_of ps)).0) ≡ length ps
+pub parts_count : (l : Level) (p : Spot) (n : ℕ) (ps : List Part) → length (list_of_parts (put_parts l p n (parts_of ps)).0) ≡ length ps
 parts_count l p n [] = refl
 parts_count l p n (tree.part_word w ∷ ps) = omega (arith, parts_count l p n ps)
 parts_count l p n (tree.part_value v ∷ ps) = omega (arith, parts_count l p (put_value l p n v).1 ps)
 
-pub stmts_count : (l : Level) (p : Place) (n : ℕ) (ss : List Stmt) → length (list_of_stmts (put_stmts l p n (stmts_of ss)).0) ≡ length ss
+pub stmts_count : (l : Level) (p : Spot) (n : ℕ) (ss : List Stmt) → length (list_of_stmts (put_stmts l p n (stmts_of ss)).0) ≡ length ss
 stmts_count l p n [] = refl
 stmts_count l p n (s ∷ ss) = omega (arith, stmts_count l p (put_stmt l p n s).1 ss)
 
-pub branches_count : (l : Level) (p : Place) (n : ℕ) (bs : List Stmts) → length (list_of_branches (put_body l p n (branches_of bs)).0) ≡ length bs
+pub branches_count : (l : Level) (p : Spot) (n : ℕ) (bs : List Stmts) → length (list_of_branches (put_body l p n (branches_of bs)).0) ≡ length bs
 branches_count l p n [] = refl
 branches_count l p n (ss ∷ bs) = omega (arith, branches_count l p (put_stmts l p n ss).1 bs)
 
-pub arms_count : (l : Level) (p : Place) (n : ℕ) (arms : List (Body × Body)) → length (list_of_arms (put_arms l p n (arms_of arms)).0) ≡ length arms
+pub arms_count : (l : Level) (p : Spot) (n : ℕ) (arms : List (Body × Body)) → length (list_of_arms (put_arms l p n (arms_of arms)).0) ≡ length arms
 arms_count l p n [] = refl
 arms_count l p n (a ∷ arms) = omega (arith, arms_count l p (put_body l p (put_body l p n a.0).1 a.1).1 arms)
 
@@ -142,7 +142,7 @@ abbrev pub inside : Around → Level → Access → Parts → ℕ → Around
 inside a l r ps n = record { at = l; place = within (given_by a.at (moved_from a.place) r.head ps) n }
 
 query_used : (h l : Level) (n : ℕ) (f : Body → Stmt) (m : Option Access) (r : Access) (g : Access → List (List ℕ × Argument)) (o : Stmt × ℕ) → m ≡ Some r → h.inner ≡ put_body l → put_query h n f m g o ≡ made f (put_body l (within (g r) n) (n + 1) r.body)
-query_used h l n f m r g o e d = ap (λ (x : Option Access). put_query h n f x g o) e ∙ ap (λ (i : Place → ℕ → Body → Body × ℕ). made f (i (within (g r) n) (n + 1) r.body)) d
+query_used h l n f m r g o e d = ap (λ (x : Option Access). put_query h n f x g o) e ∙ ap (λ (i : Spot → ℕ → Body → Body × ℕ). made f (i (within (g r) n) (n + 1) r.body)) d
 
 -- a statement, and the number behind it
 abbrev with_stmt : Built → Stmt × ℕ → Built
@@ -172,25 +172,25 @@ changes_listed : (cs ds : Changes) → list_of_changes (changes_behind cs ds) �
 changes_listed tree.no_changes ds = refl
 changes_listed (tree.change ps set cs) ds = ap (λ (l : List (Parts × Bool)). (ps, set) ∷ l) (changes_listed cs ds)
 
-pub change_built : (a : Around) (set : Bool) (ps : Parts) (k : ℕ) (s : Built) → changing set (rule_for a.at.rules ps) ≡ None → k ≡ length (list_of_parts (put_parts a.at a.place s.at ps).0) → closing bare (close.Change set k) (after_parts a ps s) ≡ after_changes a (one_change set ps) s
+pub change_built : (a : Around) (set : Bool) (ps : Parts) (k : ℕ) (s : Built) → change_access set (rule_for a.at.rules ps) ≡ None → k ≡ length (list_of_parts (put_parts a.at a.place s.at ps).0) → closing bare (close.Change set k) (after_parts a ps s) ≡ after_changes a (one_change set ps) s
 change_built a set ps k s none e = let r = (put_parts a.at a.place s.at ps).0 in rw none (rw (front_at s.parts (list_of_parts r) k e) (rw (behind_at s.parts (list_of_parts r) k e) (rw (parts_again r) refl)))
 
-change_used : (h l : Level) (n : ℕ) (set : Bool) (m : Option Access) (r : Access) (g : Access → List (List ℕ × Argument)) (o : Changes × ℕ) → m ≡ Some r → h.inner_changes ≡ put_changes l → put_change h n set m g o ≡ put_changes l (within (g r) n) (n + 1) (changes_in set (queries_of r.body))
-change_used h l n set m r g o e d = ap (λ (x : Option Access). put_change h n set x g o) e ∙ ap (λ (i : Place → ℕ → Changes → Changes × ℕ). i (within (g r) n) (n + 1) (changes_in set (queries_of r.body))) d
+change_used : (h l : Level) (n : ℕ) (set : Bool) (m : Option Access) (r : Access) (g : Access → List (List ℕ × Argument)) (o : Changes × ℕ) → m ≡ Some r → h.inner_changes ≡ put_changes l → put_change h n set m g o ≡ put_changes l (within (g r) n) (n + 1) (changes_in set (list_queries r.body))
+change_used h l n set m r g o e d = ap (λ (x : Option Access). put_change h n set x g o) e ∙ ap (λ (i : Spot → ℕ → Changes → Changes × ℕ). i (within (g r) n) (n + 1) (changes_in set (list_queries r.body))) d
 
 -- changes, and the number behind them
 abbrev with_changes : Built → Changes × ℕ → Built
 with_changes s r = record s { at = r.1; changes = s.changes ++ list_of_changes r.0 }
 
-pub changed_built : (a : Around) (l : Level) (set : Bool) (r : Access) (ps : Parts) (s : Built) → changing set (rule_for a.at.rules ps) ≡ Some r → a.at.inner_changes ≡ put_changes l → after_changes (inside a l r ps s.at) (changes_in set (queries_of r.body)) (record s { at = s.at + 1 }) ≡ after_changes a (one_change set ps) s
+pub changed_built : (a : Around) (l : Level) (set : Bool) (r : Access) (ps : Parts) (s : Built) → change_access set (rule_for a.at.rules ps) ≡ Some r → a.at.inner_changes ≡ put_changes l → after_changes (inside a l r ps s.at) (changes_in set (list_queries r.body)) (record s { at = s.at + 1 }) ≡ after_changes a (one_change set ps) s
 changed_built a l set r ps s e inner =
-    let x = put_changes l (inside a l r ps s.at).place (s.at + 1) (changes_in set (queries_of r.body)) in
+    let x = put_changes l (inside a l r ps s.at).place (s.at + 1) (changes_in set (list_queries r.body)) in
     ap (λ (cs : Changes). with_changes s (cs, x.1)) (sym (nothing_behind x.0))
-    ∙ sym (ap (λ (z : Changes × ℕ). with_changes s (changes_behind z.0 tree.no_changes, z.1)) (change_used a.at l s.at set (changing set (rule_for a.at.rules ps)) r (λ t. given_by a.at (moved_from a.place) t.head ps) (made (one_change set) (put_parts a.at a.place s.at ps)) e inner))
+    ∙ sym (ap (λ (z : Changes × ℕ). with_changes s (changes_behind z.0 tree.no_changes, z.1)) (change_used a.at l s.at set (change_access set (rule_for a.at.rules ps)) r (λ t. given_by a.at (moved_from a.place) t.head ps) (made (one_change set) (put_parts a.at a.place s.at ps)) e inner))
 
 pub changes_built : (a : Around) (set : Bool) (ps : Parts) (cs : Changes) (s : Built) → after_changes a cs (after_changes a (one_change set ps) s) ≡ after_changes a (tree.change ps set cs) s
 changes_built a set ps cs s =
-    let x = put_change a.at s.at set (changing set (rule_for a.at.rules ps)) (λ r. given_by a.at (moved_from a.place) r.head ps) (made (one_change set) (put_parts a.at a.place s.at ps)) in
+    let x = put_change a.at s.at set (change_access set (rule_for a.at.rules ps)) (λ r. given_by a.at (moved_from a.place) r.head ps) (made (one_change set) (put_parts a.at a.place s.at ps)) in
     let y = put_changes a.at a.place x.1 cs in
     rw (nothing_behind x.0) (rw (append_assoc s.changes (list_of_changes x.0) (list_of_changes y.0)) (rw (changes_listed x.0 y.0) refl))
 

@@ -13,26 +13,26 @@ use Rattle.dg_base.specs.declared.mentions.Role.TheVariants as role
 use Rattle.dg_base.specs.declared.mentions.Form.TheVariants as form
 use Rattle.dg_access.specs.Items.{free_number}
 use Rattle.dg_access.proofs.KeptLemmas.{Hold, front, back, both, three, from_all, to_all, all_front, all_back}
-use Rattle.dg_expand.specs.Put.{Access, Argument, Place, Level, rule_for, parameter_of, with_argument, in_item, within, moved_from, in_closure, in_copy, own_or, own_name, is_own_parameter, argument_for, change_by, with_change, changes_in, queries_of, is_one, changes_behind, made, put_query, changing, put_change, one_change, level, put_value, put_values, put_parts, given_by, put_stmt, put_stmts, put_body, put_arms, put_changes}
-use Rattle.dg_expand.specs.Expanded.{access_in, access_rules, signed, rules_of, put_rule, stay, put_said, on_line, put_item, put_items}
+use Rattle.dg_expand.specs.Put.{Access, Argument, Spot, Level, rule_for, parameter_of, with_argument, in_item, within, moved_from, in_closure, in_copy, own_or, own_name, is_own_parameter, argument_for, change_by, with_change, changes_in, list_queries, is_one, changes_behind, made, put_query, change_access, put_change, one_change, level, put_value, put_values, put_parts, given_by, put_stmt, put_stmts, put_body, put_arms, put_changes}
+use Rattle.dg_expand.specs.Expanded.{access_in, access_rules, signed_rule, head_rules, put_rule, stay, put_said, on_line, put_item, put_items}
 use Rattle.dg_expand.specs.Comes as comes
 use Rattle.dg_expand.specs.Comes.{is_made, is_turned, PutFrom, MentionsArePut}
 use Rattle.dg_expand.proofs.AnswerLemmas.{all_mentioned}
 
 -- ---- names
 
-behind_named : (l : Level) (p : Place) (n : ℕ) (ps : Parts) → parts_behind (put_parts l p n ps).0 ≡ parts_behind ps
+behind_named : (l : Level) (p : Spot) (n : ℕ) (ps : Parts) → parts_behind (put_parts l p n ps).0 ≡ parts_behind ps
 behind_named l p n tree.no_parts = refl
 behind_named l p n (tree.part (tree.part_word w) ps) = ap (λ (t : List ℕ). 32 ∷ (part_name (tree.part_word w) ++ t)) (behind_named l p n ps)
 behind_named l p n (tree.part (tree.part_value v) ps) = ap (λ (t : List ℕ). 32 ∷ ((36 ∷ []) ++ t)) (behind_named l p (put_value l p n v).1 ps)
 
 -- a head keeps its name
-pub named : (l : Level) (p : Place) (n : ℕ) (ps : Parts) → name_of (put_parts l p n ps).0 ≡ name_of ps
+pub named : (l : Level) (p : Spot) (n : ℕ) (ps : Parts) → name_of (put_parts l p n ps).0 ≡ name_of ps
 named l p n tree.no_parts = refl
 named l p n (tree.part (tree.part_word w) ps) = ap (λ (t : List ℕ). 40 ∷ (part_name (tree.part_word w) ++ (t ++ 41 ∷ []))) (behind_named l p n ps)
 named l p n (tree.part (tree.part_value v) ps) = ap (λ (t : List ℕ). 40 ∷ ((36 ∷ []) ++ (t ++ 41 ∷ []))) (behind_named l p (put_value l p n v).1 ps)
 
-branches_kept : (l : Level) (p : Place) (n : ℕ) (b : Body) → branches_in (put_body l p n b).0 ≡ branches_in b
+branches_kept : (l : Level) (p : Spot) (n : ℕ) (b : Body) → branches_in (put_body l p n b).0 ≡ branches_in b
 branches_kept l p n tree.no_branches = refl
 branches_kept l p n (tree.branch ss b) = ap (λ (m : ℕ). m + 1) (branches_kept l p (put_stmts l p n ss).1 b)
 
@@ -81,8 +81,8 @@ AllGiven Q (g ∷ gs) = GivesHeld Q (Some g.1) × AllGiven Q gs
 -- what access rules of this level come to
 pub record Level_carries (N : List ℕ → Type 0) (P Q : Thing → Type 0) (l : Level) : Type 0 where
   pub carries : Carries l.rules N P Q
-  pub bodies : (asked : Role) (ps : Parts) (r : Access) → is_asked asked ≡ true → P (query asked ps) → rule_for l.rules ps ≡ Some r → (p : Place) (n : ℕ) (b : Bool) → AllGiven Q p.given → Hold Q (of_branches b (l.inner p n r.body).0)
-  pub changes : (ps : Parts) (r : Access) → N (name_of ps) → rule_for l.rules ps ≡ Some r → (p : Place) (n : ℕ) (b set : Bool) → AllGiven Q p.given → ChangesHold N Q b (l.inner_changes p n (changes_in set (queries_of r.body))).0
+  pub bodies : (asked : Role) (ps : Parts) (r : Access) → is_asked asked ≡ true → P (query asked ps) → rule_for l.rules ps ≡ Some r → (p : Spot) (n : ℕ) (b : Bool) → AllGiven Q p.given → Hold Q (of_branches b (l.inner p n r.body).0)
+  pub changes : (ps : Parts) (r : Access) → N (name_of ps) → rule_for l.rules ps ≡ Some r → (p : Spot) (n : ℕ) (b set : Bool) → AllGiven Q p.given → ChangesHold N Q b (l.inner_changes p n (changes_in set (list_queries r.body))).0
 
 -- ---- arguments
 
@@ -99,7 +99,7 @@ found_good Q (g ∷ gs) w h = here (bytes_eq g.0 w) (found_good Q gs w h.1)
     here true k = h.0
     here false k = k
 
-variable_held : (Q : Thing → Type 0) (new : (w : List ℕ) → Q (variable w)) (mark : ℕ) (p : Place) (n : ℕ) (w : List ℕ) (b own : Bool) (m : Option Argument) → GivesHeld Q m → Hold Q (of_value b (if own then (tree.variable w, n) else own_or mark p n w m).0)
+variable_held : (Q : Thing → Type 0) (new : (w : List ℕ) → Q (variable w)) (mark : ℕ) (p : Spot) (n : ℕ) (w : List ℕ) (b own : Bool) (m : Option Argument) → GivesHeld Q m → Hold Q (of_value b (if own then (tree.variable w, n) else own_or mark p n w m).0)
 variable_held Q new mark p n w b true m h = (new w, tt)
 variable_held Q new mark p n w b false None h = (new (own_name mark p w), tt)
 variable_held Q new mark p n w b false (Some f) h = h b n
@@ -114,15 +114,15 @@ query_held : (N : List ℕ → Type 0) (P Q : Thing → Type 0) (l : Level) (g :
 query_held N P Q l g b n f how ps None given o a k e wrap args h = h e
 query_held N P Q l g b n f how ps (Some r) given o a k e wrap args h = wrap _ (g.bodies how ps r a k e (within (given r) n) (n + 1) b (args r))
 
-changing_is : (set : Bool) (m : Option Access) (r : Access) → changing set m ≡ Some r → m ≡ Some r
+changing_is : (set : Bool) (m : Option Access) (r : Access) → change_access set m ≡ Some r → m ≡ Some r
 changing_is set None r e = e
-changing_is set (Some q) r e = here (set || is_one (queries_of q.body)) e
+changing_is set (Some q) r e = here (set || is_one (list_queries q.body)) e
   where
     here : (b : Bool) → (if b then Some q else None) ≡ Some r → Some q ≡ Some r
     here true f = f
     here false f = cc
 
-change_held : (N : List ℕ → Type 0) (P Q : Thing → Type 0) (l : Level) (g : Level_carries N P Q l) (b : Bool) (n : ℕ) (set : Bool) (ps : Parts) (m : Option Access) (given : Access → List (List ℕ × Argument)) (o : Changes × ℕ) → N (name_of ps) → changing set (rule_for l.rules ps) ≡ m → ((r : Access) → AllGiven Q (given r)) → ChangesHold N Q b o.0 → ChangesHold N Q b (put_change l n set m given o).0
+change_held : (N : List ℕ → Type 0) (P Q : Thing → Type 0) (l : Level) (g : Level_carries N P Q l) (b : Bool) (n : ℕ) (set : Bool) (ps : Parts) (m : Option Access) (given : Access → List (List ℕ × Argument)) (o : Changes × ℕ) → N (name_of ps) → change_access set (rule_for l.rules ps) ≡ m → ((r : Access) → AllGiven Q (given r)) → ChangesHold N Q b o.0 → ChangesHold N Q b (put_change l n set m given o).0
 change_held N P Q l g b n set ps None given o k e args h = h
 change_held N P Q l g b n set ps (Some r) given o k e args h = g.changes ps r k (changing_is set (rule_for l.rules ps) r e) (within (given r) n) (n + 1) b set (args r)
 
@@ -153,14 +153,14 @@ queries_turned rules N P Q k a set tree.no_stmts h = tt
 queries_turned rules N P Q k a set (tree.stmt s ss) h =
     turned_held rules N P Q k a set s (changes_in set ss) (front P (of_stmt a s) (of_stmts a ss) h) (queries_turned rules N P Q k a set ss (back P (of_stmt a s) (of_stmts a ss) h))
 
-pub first_branch : (P : Thing → Type 0) (a : Bool) (b : Body) → Hold P (of_branches a b) → Hold P (of_stmts a (queries_of b))
+pub first_branch : (P : Thing → Type 0) (a : Bool) (b : Body) → Hold P (of_branches a b) → Hold P (of_stmts a (list_queries b))
 first_branch P a tree.no_branches h = tt
 first_branch P a (tree.branch ss b) h = front P (of_stmts a ss) (of_branches a b) h
 
 -- ---- everywhere
 
 mutual
-  value_put : (N : List ℕ → Type 0) (P Q : Thing → Type 0) (l : Level) (g : Level_carries N P Q l) (p : Place) (ok : AllGiven Q p.given) (a b : Bool) (n : ℕ) (v : Value) → Hold P (of_value a v) → Hold Q (of_value b (put_value l p n v).0)
+  value_put : (N : List ℕ → Type 0) (P Q : Thing → Type 0) (l : Level) (g : Level_carries N P Q l) (p : Spot) (ok : AllGiven Q p.given) (a b : Bool) (n : ℕ) (v : Value) → Hold P (of_value a v) → Hold Q (of_value b (put_value l p n v).0)
   value_put N P Q l g p ok a b n (tree.num m) h = (g.carries.same (number m) refl h.0, tt)
   value_put N P Q l g p ok a b n (tree.dict_word w) h = (g.carries.same (word w) refl h.0, tt)
   value_put N P Q l g p ok a b n (tree.object_name w) h = (g.carries.same (object w) refl h.0, tt)
@@ -177,24 +177,24 @@ mutual
   value_put N P Q l g p ok a b n (tree.nested ps) h = (g.carries.again role.Nested ps (put_parts l p n ps).0 (λ e. cc) (sym (named l p n ps)) h.0, nested_put N P Q l g p ok a b n ps h.1)
   value_put N P Q l g p ok a b n (tree.word_choice ws) h = (g.carries.same (word_choice ws) refl h.0, tt)
 
-  values_put : (N : List ℕ → Type 0) (P Q : Thing → Type 0) (l : Level) (g : Level_carries N P Q l) (p : Place) (ok : AllGiven Q p.given) (a b : Bool) (n : ℕ) (vs : Values) → Hold P (of_values a vs) → Hold Q (of_values b (put_values l p n vs).0)
+  values_put : (N : List ℕ → Type 0) (P Q : Thing → Type 0) (l : Level) (g : Level_carries N P Q l) (p : Spot) (ok : AllGiven Q p.given) (a b : Bool) (n : ℕ) (vs : Values) → Hold P (of_values a vs) → Hold Q (of_values b (put_values l p n vs).0)
   values_put N P Q l g p ok a b n tree.no_values h = tt
   values_put N P Q l g p ok a b n (tree.value v vs) h =
       both Q (of_value b (put_value l p n v).0) _ (value_put N P Q l g p ok a b n v (front P (of_value a v) (of_values a vs) h)) (values_put N P Q l g p ok a b (put_value l p n v).1 vs (back P (of_value a v) (of_values a vs) h))
 
-  pub parts_put : (N : List ℕ → Type 0) (P Q : Thing → Type 0) (l : Level) (g : Level_carries N P Q l) (p : Place) (ok : AllGiven Q p.given) (a b : Bool) (n : ℕ) (ps : Parts) → Hold P (of_parts a ps) → Hold Q (of_parts b (put_parts l p n ps).0)
+  pub parts_put : (N : List ℕ → Type 0) (P Q : Thing → Type 0) (l : Level) (g : Level_carries N P Q l) (p : Spot) (ok : AllGiven Q p.given) (a b : Bool) (n : ℕ) (ps : Parts) → Hold P (of_parts a ps) → Hold Q (of_parts b (put_parts l p n ps).0)
   parts_put N P Q l g p ok a b n tree.no_parts h = tt
   parts_put N P Q l g p ok a b n (tree.part (tree.part_word w) ps) h = parts_put N P Q l g p ok a b n ps h
   parts_put N P Q l g p ok a b n (tree.part (tree.part_value v) ps) h =
       both Q (of_value b (put_value l p n v).0) _ (value_put N P Q l g p ok a b n v (front P (of_value a v) (of_parts a ps) h)) (parts_put N P Q l g p ok a b (put_value l p n v).1 ps (back P (of_value a v) (of_parts a ps) h))
 
-  nested_put : (N : List ℕ → Type 0) (P Q : Thing → Type 0) (l : Level) (g : Level_carries N P Q l) (p : Place) (ok : AllGiven Q p.given) (a b : Bool) (n : ℕ) (ps : Parts) → Hold P (of_nested a ps) → Hold Q (of_nested b (put_parts l p n ps).0)
+  nested_put : (N : List ℕ → Type 0) (P Q : Thing → Type 0) (l : Level) (g : Level_carries N P Q l) (p : Spot) (ok : AllGiven Q p.given) (a b : Bool) (n : ℕ) (ps : Parts) → Hold P (of_nested a ps) → Hold Q (of_nested b (put_parts l p n ps).0)
   nested_put N P Q l g p ok a b n tree.no_parts h = tt
   nested_put N P Q l g p ok a b n (tree.part (tree.part_word w) ps) h = nested_put N P Q l g p ok a b n ps h
   nested_put N P Q l g p ok a b n (tree.part (tree.part_value v) ps) h =
       both Q (of_value true (put_value l p n v).0) _ (value_put N P Q l g p ok true true n v (front P (of_value true v) (of_parts a ps) h)) (parts_put N P Q l g p ok a b (put_value l p n v).1 ps (back P (of_value true v) (of_parts a ps) h))
 
-  given_put : (N : List ℕ → Type 0) (P Q : Thing → Type 0) (l : Level) (g : Level_carries N P Q l) (p : Place) (ok : AllGiven Q p.given) (a : Bool) (head ps : Parts) → Hold P (of_parts a ps) → AllGiven Q (given_by l p head ps)
+  given_put : (N : List ℕ → Type 0) (P Q : Thing → Type 0) (l : Level) (g : Level_carries N P Q l) (p : Spot) (ok : AllGiven Q p.given) (a : Bool) (head ps : Parts) → Hold P (of_parts a ps) → AllGiven Q (given_by l p head ps)
   given_put N P Q l g p ok a head tree.no_parts h = tt
   given_put N P Q l g p ok a tree.no_parts (tree.part q ps) h = tt
   given_put N P Q l g p ok a (tree.part d head) (tree.part (tree.part_word w) ps) h =
@@ -202,7 +202,7 @@ mutual
   given_put N P Q l g p ok a (tree.part d head) (tree.part (tree.part_value v) ps) h =
       with_good Q (parameter_of d) (Some (λ n. put_value l p n v)) (given_by l p head ps) (λ b n. value_put N P Q l g p ok a b n v (front P (of_value a v) (of_parts a ps) h)) (given_put N P Q l g p ok a head ps (back P (of_value a v) (of_parts a ps) h))
 
-  stmt_put : (N : List ℕ → Type 0) (P Q : Thing → Type 0) (l : Level) (g : Level_carries N P Q l) (p : Place) (ok : AllGiven Q p.given) (a b : Bool) (n : ℕ) (s : Stmt) → Hold P (of_stmt a s) → Hold Q (of_stmt b (put_stmt l p n s).0)
+  stmt_put : (N : List ℕ → Type 0) (P Q : Thing → Type 0) (l : Level) (g : Level_carries N P Q l) (p : Spot) (ok : AllGiven Q p.given) (a b : Bool) (n : ℕ) (s : Stmt) → Hold P (of_stmt a s) → Hold Q (of_stmt b (put_stmt l p n s).0)
   stmt_put N P Q l g p ok a b n (tree.text w) h = (g.carries.same (text w) refl h.0, tt)
   stmt_put N P Q l g p ok a b n (tree.print v) h = (g.carries.same (other form.Print) refl h.0, value_put N P Q l g p ok a b n v h.1)
   stmt_put N P Q l g p ok a b n (tree.ask ps) h =
@@ -250,17 +250,17 @@ mutual
       (subst (λ (m : ℕ). Q (select m)) (sym (branches_kept l p n s)) (g.carries.same (select (branches_in s)) refl h.0), body_put N P Q l g p ok a b n s h.1)
   stmt_put N P Q l g p ok a b n (tree.first_answer s) h = (g.carries.new (other form.First) refl, (g.carries.new (branches _) refl, body_put N P Q l g p ok a b n s h.1.1))
 
-  stmts_put : (N : List ℕ → Type 0) (P Q : Thing → Type 0) (l : Level) (g : Level_carries N P Q l) (p : Place) (ok : AllGiven Q p.given) (a b : Bool) (n : ℕ) (ss : Stmts) → Hold P (of_stmts a ss) → Hold Q (of_stmts b (put_stmts l p n ss).0)
+  stmts_put : (N : List ℕ → Type 0) (P Q : Thing → Type 0) (l : Level) (g : Level_carries N P Q l) (p : Spot) (ok : AllGiven Q p.given) (a b : Bool) (n : ℕ) (ss : Stmts) → Hold P (of_stmts a ss) → Hold Q (of_stmts b (put_stmts l p n ss).0)
   stmts_put N P Q l g p ok a b n tree.no_stmts h = tt
   stmts_put N P Q l g p ok a b n (tree.stmt s ss) h =
       both Q (of_stmt b (put_stmt l p n s).0) _ (stmt_put N P Q l g p ok a b n s (front P (of_stmt a s) (of_stmts a ss) h)) (stmts_put N P Q l g p ok a b (put_stmt l p n s).1 ss (back P (of_stmt a s) (of_stmts a ss) h))
 
-  pub body_put : (N : List ℕ → Type 0) (P Q : Thing → Type 0) (l : Level) (g : Level_carries N P Q l) (p : Place) (ok : AllGiven Q p.given) (a b : Bool) (n : ℕ) (s : Body) → Hold P (of_branches a s) → Hold Q (of_branches b (put_body l p n s).0)
+  pub body_put : (N : List ℕ → Type 0) (P Q : Thing → Type 0) (l : Level) (g : Level_carries N P Q l) (p : Spot) (ok : AllGiven Q p.given) (a b : Bool) (n : ℕ) (s : Body) → Hold P (of_branches a s) → Hold Q (of_branches b (put_body l p n s).0)
   body_put N P Q l g p ok a b n tree.no_branches h = tt
   body_put N P Q l g p ok a b n (tree.branch ss s) h =
       both Q (of_stmts b (put_stmts l p n ss).0) _ (stmts_put N P Q l g p ok a b n ss (front P (of_stmts a ss) (of_branches a s) h)) (body_put N P Q l g p ok a b (put_stmts l p n ss).1 s (back P (of_stmts a ss) (of_branches a s) h))
 
-  arms_put : (N : List ℕ → Type 0) (P Q : Thing → Type 0) (l : Level) (g : Level_carries N P Q l) (p : Place) (ok : AllGiven Q p.given) (a b : Bool) (n : ℕ) (arms : Arms) → Hold P (of_arms a arms) → Hold Q (of_arms b (put_arms l p n arms).0)
+  arms_put : (N : List ℕ → Type 0) (P Q : Thing → Type 0) (l : Level) (g : Level_carries N P Q l) (p : Spot) (ok : AllGiven Q p.given) (a b : Bool) (n : ℕ) (arms : Arms) → Hold P (of_arms a arms) → Hold Q (of_arms b (put_arms l p n arms).0)
   arms_put N P Q l g p ok a b n tree.no_arms h = tt
   arms_put N P Q l g p ok a b n (tree.arm s u arms) h =
       let rest = back P (of_body a s) (join (of_body a u) (of_arms a arms)) h in
@@ -269,12 +269,12 @@ mutual
       three Q (of_body b x.0) (of_body b y.0) (of_arms b (put_arms l p y.1 arms).0)
       (g.carries.new (branches _) refl, body_put N P Q l g p ok a b n s (front P (of_body a s) (join (of_body a u) (of_arms a arms)) h).1) (g.carries.new (branches _) refl, body_put N P Q l g p ok a b x.1 u (front P (of_body a u) (of_arms a arms) rest).1) (arms_put N P Q l g p ok a b y.1 arms (back P (of_body a u) (of_arms a arms) rest))
 
-  pub changes_put : (N : List ℕ → Type 0) (P Q : Thing → Type 0) (l : Level) (g : Level_carries N P Q l) (p : Place) (ok : AllGiven Q p.given) (a b : Bool) (n : ℕ) (cs : Changes) → ChangesHold N P a cs → ChangesHold N Q b (put_changes l p n cs).0
+  pub changes_put : (N : List ℕ → Type 0) (P Q : Thing → Type 0) (l : Level) (g : Level_carries N P Q l) (p : Spot) (ok : AllGiven Q p.given) (a b : Bool) (n : ℕ) (cs : Changes) → ChangesHold N P a cs → ChangesHold N Q b (put_changes l p n cs).0
   changes_put N P Q l g p ok a b n tree.no_changes h = tt
   changes_put N P Q l g p ok a b n (tree.change ps set cs) h =
-      let x = put_change l n set (changing set (rule_for l.rules ps)) (λ r. given_by l (moved_from p) r.head ps) (made (one_change set) (put_parts l p n ps)) in
+      let x = put_change l n set (change_access set (rule_for l.rules ps)) (λ r. given_by l (moved_from p) r.head ps) (made (one_change set) (put_parts l p n ps)) in
       behind_held N Q b x.0 (put_changes l p x.1 cs).0
-      (change_held N P Q l g b n set ps (changing set (rule_for l.rules ps)) (λ r. given_by l (moved_from p) r.head ps) (made (one_change set) (put_parts l p n ps)) h.0 refl
+      (change_held N P Q l g b n set ps (change_access set (rule_for l.rules ps)) (λ r. given_by l (moved_from p) r.head ps) (made (one_change set) (put_parts l p n ps)) h.0 refl
       (λ r. given_put N P Q l g (moved_from p) ok a r.head ps h.1) (subst N (sym (named l p n ps)) h.0, parts_put N P Q l g p ok a b n ps h.1, tt))
       (changes_put N P Q l g p ok a b x.1 cs h.2)
 
@@ -302,7 +302,7 @@ level_held rules N P Q k mark (suc depth) h =
     record {
       carries = k rules;
       bodies = λ asked ps r one there e p n b ok. body_put N P Q (level rules mark depth) below p ok false b n r.body (rule_found P rules ps r h e);
-      changes = λ ps r there e p n b set ok. changes_put N P Q (level rules mark depth) below p ok false b n (changes_in set (queries_of r.body)) (queries_turned rules N P Q (k rules) false set (queries_of r.body) (first_branch P false r.body (rule_found P rules ps r h e)));
+      changes = λ ps r there e p n b set ok. changes_put N P Q (level rules mark depth) below p ok false b n (changes_in set (list_queries r.body)) (queries_turned rules N P Q (k rules) false set (list_queries r.body) (first_branch P false r.body (rule_found P rules ps r h e)));
     }
 
 -- ---- items
@@ -336,14 +336,14 @@ carries_from ts rules = record {
   changed = λ s set ks qs h n. comes.changed s set n.by ks n.parts qs h n.turned n.named n.there;
 }
 
-heads_done : (ts : List Thing) (line : ℕ) (heads : Changes) (b : Body) → ChangesHold (Stands ts) (PutFrom ts) false heads → Hold (PutFrom ts) (of_body false b) → All (PutFrom ts) (mentioned (on_line line (rules_of heads b)))
+heads_done : (ts : List Thing) (line : ℕ) (heads : Changes) (b : Body) → ChangesHold (Stands ts) (PutFrom ts) false heads → Hold (PutFrom ts) (of_body false b) → All (PutFrom ts) (mentioned (on_line line (head_rules heads b)))
 heads_done ts line tree.no_changes b h k = All-nil (PutFrom ts)
 heads_done ts line (tree.change ps set heads) b h k =
     let n = h.0 in
     let rule : Hold (PutFrom ts) (of_rule role.Rule ps b) = (comes.headed n.by n.parts ps n.turned n.named n.there, both (PutFrom ts) (of_parts false ps) (of_body false b) h.1 k) in
-    All-append (PutFrom ts) (things_in (signed set ps b)) (mentioned (on_line line (rules_of heads b))) (signed_done set rule) (heads_done ts line heads b h.2 k)
+    All-append (PutFrom ts) (things_in (signed_rule set ps b)) (mentioned (on_line line (head_rules heads b))) (signed_done set rule) (heads_done ts line heads b h.2 k)
   where
-    signed_done : (set : Bool) → Hold (PutFrom ts) (of_rule role.Rule ps b) → All (PutFrom ts) (things_in (signed set ps b))
+    signed_done : (set : Bool) → Hold (PutFrom ts) (of_rule role.Rule ps b) → All (PutFrom ts) (things_in (signed_rule set ps b))
     signed_done true rule = to_all (PutFrom ts) (of_rule role.Rule ps b) rule
     signed_done false rule = to_all (PutFrom ts) (of_rule role.Rule ps b) rule
 

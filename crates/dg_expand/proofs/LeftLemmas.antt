@@ -16,10 +16,10 @@ use Rattle.dg_base.specs.declared.mentions.Role.TheVariants as role
 use Rattle.dg_access.specs.Items.{plain_items, free_number}
 use Rattle.dg_access.proofs.KeptLemmas.{Hold, back, both, from_all, to_all, all_front, all_back}
 use Rattle.dg_expand.specs.Answer.{IsRewritten}
-use Rattle.dg_expand.specs.Expanded.{access_in, access_rules, is_fixed, is_closed, is_bad, values_in, signed, rules_of, put_rule, put_said, on_line, put_item, put_items}
+use Rattle.dg_expand.specs.Expanded.{access_in, access_rules, is_kept_builtin, is_closed, is_misplaced, count_values, signed_rule, head_rules, put_rule, put_said, on_line, put_item, put_items}
 use Rattle.dg_expand.specs.Left.{is_left, NoneIsLeft, IsPutIn}
 use Rattle.dg_expand.specs.Loops.{asks_for, mentions, reaches, loops, first_looping}
-use Rattle.dg_expand.specs.Put.{Access, rule_for, in_item, queries_of, changes_in, one_change, level, put_body, put_changes}
+use Rattle.dg_expand.specs.Put.{Access, rule_for, in_item, list_queries, changes_in, one_change, level, put_body, put_changes}
 use Rattle.dg_expand.specs.Comes.{is_made}
 use Rattle.dg_expand.proofs.AnswerLemmas.{rewritten_open}
 use Rattle.dg_expand.proofs.CarryLemmas.{is_kept, is_asked, Carries, ChangesHold, Level_carries, queries_turned, first_branch, body_put, changes_put, none_some}
@@ -320,8 +320,8 @@ level_low rules none mark (suc d) =
       bodies = λ asked ps r one there e p n b ok. body_put (LowName rules d) (Low rules d) (Out rules) (level rules mark d) inner p ok false b n r.body (body_low rules none r d (below (rank rules r) d (there (asked_low asked one) ps r refl e)));
       changes = λ ps r there e p n b set ok.
           changes_more (LowName rules d) (LowName rules (suc d)) (Out rules) b (one_more rules d) _
-          (changes_put (LowName rules d) (Low rules d) (Out rules) (level rules mark d) inner p ok false b n (changes_in set (queries_of r.body))
-          (queries_turned (level rules mark d).rules (LowName rules d) (Low rules d) (Out rules) inner.carries false set (queries_of r.body) (first_branch (Low rules d) false r.body (body_low rules none r d (below (rank rules r) d (there ps r refl e))))));
+          (changes_put (LowName rules d) (Low rules d) (Out rules) (level rules mark d) inner p ok false b n (changes_in set (list_queries r.body))
+          (queries_turned (level rules mark d).rules (LowName rules d) (Low rules d) (Out rules) inner.carries false set (list_queries r.body) (first_branch (Low rules d) false r.body (body_low rules none r d (below (rank rules r) d (there ps r refl e))))));
     }
 
 -- ---- items
@@ -346,13 +346,13 @@ OutSaid rules (tree.access ps b) = All (Out rules) (things_in (tree.access ps b)
 abbrev OutItem : List Access → Item → Type 0
 OutItem rules i = OutSaid rules i.said
 
-heads_out : (rules : List Access) (line : ℕ) (heads : tree.Changes) (b : Body) → ChangesHold (LowName rules (length rules)) (Out rules) false heads → Hold (Out rules) (of_body false b) → All (OutItem rules) (on_line line (rules_of heads b))
+heads_out : (rules : List Access) (line : ℕ) (heads : tree.Changes) (b : Body) → ChangesHold (LowName rules (length rules)) (Out rules) false heads → Hold (Out rules) (of_body false b) → All (OutItem rules) (on_line line (head_rules heads b))
 heads_out rules line tree.no_changes b h k = All-nil (OutItem rules)
 heads_out rules line (tree.change ps set heads) b h k =
-    All-cons (OutItem rules) _ (on_line line (rules_of heads b))
+    All-cons (OutItem rules) _ (on_line line (head_rules heads b))
     (signed_out set ((λ e. cc), both (Out rules) (of_parts false ps) (of_body false b) h.1 k)) (heads_out rules line heads b h.2 k)
   where
-    signed_out : (set : Bool) → Hold (Out rules) (of_rule role.Rule ps b) → OutSaid rules (signed set ps b)
+    signed_out : (set : Bool) → Hold (Out rules) (of_rule role.Rule ps b) → OutSaid rules (signed_rule set ps b)
     signed_out true rule = to_all (Out rules) (of_rule role.Rule ps b) rule
     signed_out false rule = to_all (Out rules) (of_rule role.Rule ps b) rule
 
@@ -382,38 +382,38 @@ items_out rules none (i ∷ is) = All-append (OutItem rules) (put_item rules i) 
 
 open_rule : (rules : List Access) (ps : Parts) → is_closed rules ps ≡ false → is_some (rule_for rules ps) ≡ false
 open_rule rules ps h =
-    (or_parts (name_among (name_of ps) prelude_names) (is_some (rule_for rules ps)) (or_parts (is_fixed (builtin_named (name_of ps))) (name_among (name_of ps) prelude_names || is_some (rule_for rules ps)) h).1).1
+    (or_parts (name_among (name_of ps) prelude_names) (is_some (rule_for rules ps)) (or_parts (is_kept_builtin (builtin_named (name_of ps))) (name_among (name_of ps) prelude_names || is_some (rule_for rules ps)) h).1).1
 
-not_left : (rules : List Access) (t : Thing) → Out rules t → is_bad rules t ≡ false → is_left rules t ≡ false
+not_left : (rules : List Access) (t : Thing) → Out rules t → is_misplaced rules t ≡ false → is_left rules t ≡ false
 not_left rules (query role.Asked ps) o b = ap is_some (o refl)
 not_left rules (query role.AskedAll ps) o b = ap is_some (o refl)
 not_left rules (query role.AskedNot ps) o b = ap is_some (o refl)
 not_left rules (query role.Rule ps) o b = open_rule rules ps b
-not_left rules (query (role.Changed set) ps) o b = open_rule rules ps (or_parts (is_closed rules ps) (nat_lt 2 (values_in ps)) b).0
+not_left rules (query (role.Changed set) ps) o b = open_rule rules ps (or_parts (is_closed rules ps) (nat_lt 2 (count_values ps)) b).0
 not_left rules (query role.Access ps) o b = refl
 not_left rules (query role.Declared ps) o b = refl
 not_left rules (query role.Nested ps) o b = refl
 not_left rules t o b = refl
 
-none_left : (rules : List Access) (ts : List Thing) → All (Out rules) ts → All (λ (t : Thing). is_bad rules t ≡ false) ts → NoneIsLeft rules ts
+none_left : (rules : List Access) (ts : List Thing) → All (Out rules) ts → All (λ (t : Thing). is_misplaced rules t ≡ false) ts → NoneIsLeft rules ts
 none_left rules [] o b = All-nil (λ (t : Thing). is_left rules t ≡ false)
 none_left rules (t ∷ ts) o b =
-    All-cons (λ (u : Thing). is_left rules u ≡ false) t ts (not_left rules t (All-head (Out rules) t ts o) (All-head (λ (u : Thing). is_bad rules u ≡ false) t ts b))
-    (none_left rules ts (All-tail (Out rules) t ts o) (All-tail (λ (u : Thing). is_bad rules u ≡ false) t ts b))
+    All-cons (λ (u : Thing). is_left rules u ≡ false) t ts (not_left rules t (All-head (Out rules) t ts o) (All-head (λ (u : Thing). is_misplaced rules u ≡ false) t ts b))
+    (none_left rules ts (All-tail (Out rules) t ts o) (All-tail (λ (u : Thing). is_misplaced rules u ≡ false) t ts b))
 
-said_left : (rules : List Access) (said : Said) → OutSaid rules said → All (λ (t : Thing). is_bad rules t ≡ false) (things_in said) → IsPutIn rules said
+said_left : (rules : List Access) (said : Said) → OutSaid rules said → All (λ (t : Thing). is_misplaced rules t ≡ false) (things_in said) → IsPutIn rules said
 said_left rules (tree.global_variable ps) o b = tt
 said_left rules (tree.topic n) o b = none_left rules (things_in (tree.topic n)) o b
 said_left rules (tree.rule ps c) o b = none_left rules (things_in (tree.rule ps c)) o b
 said_left rules (tree.deny ps c) o b = none_left rules (things_in (tree.deny ps c)) o b
 said_left rules (tree.access ps c) o b = none_left rules (things_in (tree.access ps c)) o b
 
-items_left : (rules : List Access) (new : List Item) → All (OutItem rules) new → All (λ (t : Thing). is_bad rules t ≡ false) (mentioned new) → All (λ (i : Item). IsPutIn rules i.said) new
+items_left : (rules : List Access) (new : List Item) → All (OutItem rules) new → All (λ (t : Thing). is_misplaced rules t ≡ false) (mentioned new) → All (λ (i : Item). IsPutIn rules i.said) new
 items_left rules [] o b = All-nil (λ (i : Item). IsPutIn rules i.said)
 items_left rules (i ∷ new) o b =
     All-cons (λ (j : Item). IsPutIn rules j.said) i new
-    (said_left rules i.said (All-head (OutItem rules) i new o) (all_front (λ (t : Thing). is_bad rules t ≡ false) (things_in i.said) (mentioned new) b))
-    (items_left rules new (All-tail (OutItem rules) i new o) (all_back (λ (t : Thing). is_bad rules t ≡ false) (things_in i.said) (mentioned new) b))
+    (said_left rules i.said (All-head (OutItem rules) i new o) (all_front (λ (t : Thing). is_misplaced rules t ≡ false) (things_in i.said) (mentioned new) b))
+    (items_left rules new (All-tail (OutItem rules) i new o) (all_back (λ (t : Thing). is_misplaced rules t ≡ false) (things_in i.said) (mentioned new) b))
 
 pub nothing_left : (is new : List Item) → IsRewritten is (Ok new) → All (λ (i : Item). IsPutIn (access_rules (plain_items None is)) i.said) new
 nothing_left is new h =

@@ -8,8 +8,8 @@ use Rattle.dg_base.specs.Mentions.{Thing, things, weight_of, of_parts, of_body, 
 use Rattle.dg_base.proofs.MentionLemmas.{weight_append}
 use Rattle.dg_names.specs.Counts.{closures_at, selects_at}
 use Rattle.dg_access.specs.Building.{list_of_changes}
-use Rattle.dg_access.specs.Counts.{nodes_at, queries_at, rules_at, counted_of, counted_among, any_has_many, are_large, are_many}
-use Rattle.dg_expand.specs.Expanded.{signed, rules_of, on_line}
+use Rattle.dg_access.specs.Counts.{nodes_at, queries_at, thing_rules, counted_of, counted_among, any_has_many, are_large, are_over}
+use Rattle.dg_expand.specs.Expanded.{signed_rule, head_rules, on_line}
 use Rattle.dg_expand.specs.inside.Weights.{load, parts_load, body_load, changes_load, HasManyHeads, IsOver}
 use Rattle.dg_expand.proofs.BuiltLemmas.{changes_again}
 use Rattle.dg_expand.proofs.WeightLemmas.{join_load}
@@ -37,22 +37,22 @@ first false b e = cc
 -- too many queries
 over_queries : (is : List Item) → 10000 < weight_of queries_at (counted_among is) → IsOver is
 over_queries is h = λ before.
-    first (are_large is) (are_many (before ++ is)) (first (nat_lt 10000 (weight_of queries_at (counted_among is))) (any_has_many is) (lt-ltb 10000 (weight_of queries_at (counted_among is)) h))
+    first (are_large is) (are_over (before ++ is)) (first (nat_lt 10000 (weight_of queries_at (counted_among is))) (any_has_many is) (lt-ltb 10000 (weight_of queries_at (counted_among is)) h))
 
 -- too many rules
-pub over_rules : (is : List Item) → 16000 < weight_of rules_at (counted_among is) → IsOver is
+pub over_rules : (is : List Item) → 16000 < weight_of thing_rules (counted_among is) → IsOver is
 over_rules is h = λ before.
     let ts = counted_among (before ++ is) in
-    either (are_large is) (are_many (before ++ is))
-    (first (nat_lt 16000 (weight_of rules_at ts)) (nat_lt 16000 (weight_of closures_at ts) || (nat_lt 500 (weight_of selects_at ts) || nat_lt 2000000 (weight_of nodes_at ts)))
-    (lt-ltb 16000 (weight_of rules_at ts) (omega (arith, h, among_weight rules_at before is))))
+    either (are_large is) (are_over (before ++ is))
+    (first (nat_lt 16000 (weight_of thing_rules ts)) (nat_lt 16000 (weight_of closures_at ts) || (nat_lt 500 (weight_of selects_at ts) || nat_lt 2000000 (weight_of nodes_at ts)))
+    (lt-ltb 16000 (weight_of thing_rules ts) (omega (arith, h, among_weight thing_rules before is))))
 
 -- too many nodes
 over_nodes : (is : List Item) → 2000000 < weight_of nodes_at (counted_among is) → IsOver is
 over_nodes is h = λ before.
     let ts = counted_among (before ++ is) in
-    either (are_large is) (are_many (before ++ is))
-    (either (nat_lt 16000 (weight_of rules_at ts)) (nat_lt 16000 (weight_of closures_at ts) || (nat_lt 500 (weight_of selects_at ts) || nat_lt 2000000 (weight_of nodes_at ts)))
+    either (are_large is) (are_over (before ++ is))
+    (either (nat_lt 16000 (weight_of thing_rules ts)) (nat_lt 16000 (weight_of closures_at ts) || (nat_lt 500 (weight_of selects_at ts) || nat_lt 2000000 (weight_of nodes_at ts)))
     (either (nat_lt 16000 (weight_of closures_at ts)) (nat_lt 500 (weight_of selects_at ts) || nat_lt 2000000 (weight_of nodes_at ts))
     (either (nat_lt 500 (weight_of selects_at ts)) (nat_lt 2000000 (weight_of nodes_at ts))
     (lt-ltb 2000000 (weight_of nodes_at ts) (omega (arith, h, among_weight nodes_at before is))))))
@@ -80,41 +80,41 @@ over_load is h = here (one_is_over (weight_of nodes_at ts) (weight_of queries_at
 
 -- ---- rules of several heads
 
-rule_load : (set : Bool) (ps : Parts) (b : Body) → weight_of load (things (counted_of (signed set ps b))) ≡ parts_load ps + body_load b + 1
+rule_load : (set : Bool) (ps : Parts) (b : Body) → weight_of load (things (counted_of (signed_rule set ps b))) ≡ parts_load ps + body_load b + 1
 rule_load true ps b = omega (arith, join_load (of_parts false ps) (of_body false b))
 rule_load false ps b = omega (arith, join_load (of_parts false ps) (of_body false b))
 
-rule_counts : (set : Bool) (ps : Parts) (b : Body) → 1 ≤ weight_of rules_at (things (counted_of (signed set ps b)))
+rule_counts : (set : Bool) (ps : Parts) (b : Body) → 1 ≤ weight_of thing_rules (things (counted_of (signed_rule set ps b)))
 rule_counts true ps b = omega arith
 rule_counts false ps b = omega arith
 
 -- they weigh what their heads do, and the body once for each
-rules_load : (line : ℕ) (hs : List (Parts × Bool)) (b : Body) → weight_of load (counted_among (on_line line (rules_of (changes_of hs) b))) ≡ changes_load (changes_of hs) + length hs * body_load b
+rules_load : (line : ℕ) (hs : List (Parts × Bool)) (b : Body) → weight_of load (counted_among (on_line line (head_rules (changes_of hs) b))) ≡ changes_load (changes_of hs) + length hs * body_load b
 rules_load line [] b = omega arith
 rules_load line (h ∷ hs) b =
-    let rest = counted_among (on_line line (rules_of (changes_of hs) b)) in
-    omega (arith, rules_load line hs b, rule_load h.1 h.0 b, weight_append load (things (counted_of (signed h.1 h.0 b))) rest, join_load (of_parts false h.0) (of_changes false (changes_of hs)))
+    let rest = counted_among (on_line line (head_rules (changes_of hs) b)) in
+    omega (arith, rules_load line hs b, rule_load h.1 h.0 b, weight_append load (things (counted_of (signed_rule h.1 h.0 b))) rest, join_load (of_parts false h.0) (of_changes false (changes_of hs)))
 
-rules_counted : (line : ℕ) (hs : List (Parts × Bool)) (b : Body) → length hs ≤ weight_of rules_at (counted_among (on_line line (rules_of (changes_of hs) b)))
+rules_counted : (line : ℕ) (hs : List (Parts × Bool)) (b : Body) → length hs ≤ weight_of thing_rules (counted_among (on_line line (head_rules (changes_of hs) b)))
 rules_counted line [] b = omega arith
 rules_counted line (h ∷ hs) b =
-    let rest = counted_among (on_line line (rules_of (changes_of hs) b)) in
-    omega (arith, rules_counted line hs b, rule_counts h.1 h.0 b, weight_append rules_at (things (counted_of (signed h.1 h.0 b))) rest)
+    let rest = counted_among (on_line line (head_rules (changes_of hs) b)) in
+    omega (arith, rules_counted line hs b, rule_counts h.1 h.0 b, weight_append thing_rules (things (counted_of (signed_rule h.1 h.0 b))) rest)
 
-pub over_heads : (line : ℕ) (hs : List (Parts × Bool)) (b : Body) → 16000 < length hs → IsOver (on_line line (rules_of (changes_of hs) b))
-over_heads line hs b h = over_rules (on_line line (rules_of (changes_of hs) b)) (omega (arith, h, rules_counted line hs b))
+pub over_heads : (line : ℕ) (hs : List (Parts × Bool)) (b : Body) → 16000 < length hs → IsOver (on_line line (head_rules (changes_of hs) b))
+over_heads line hs b h = over_rules (on_line line (head_rules (changes_of hs) b)) (omega (arith, h, rules_counted line hs b))
 
-pub over_bodies : (line : ℕ) (hs : List (Parts × Bool)) (b : Body) → 2500000 < length hs * body_load b → IsOver (on_line line (rules_of (changes_of hs) b))
-over_bodies line hs b h = over_load (on_line line (rules_of (changes_of hs) b)) (omega (arith, h, rules_load line hs b))
+pub over_bodies : (line : ℕ) (hs : List (Parts × Bool)) (b : Body) → 2500000 < length hs * body_load b → IsOver (on_line line (head_rules (changes_of hs) b))
+over_bodies line hs b h = over_load (on_line line (head_rules (changes_of hs) b)) (omega (arith, h, rules_load line hs b))
 
-over_changes : (line : ℕ) (cs : Changes) (b : Body) → 2500000 < changes_load cs → IsOver (on_line line (rules_of cs b))
+over_changes : (line : ℕ) (cs : Changes) (b : Body) → 2500000 < changes_load cs → IsOver (on_line line (head_rules cs b))
 over_changes line cs b h =
-    subst (λ (ds : Changes). 2500000 < changes_load ds → IsOver (on_line line (rules_of ds b))) (changes_again cs)
-    (λ k. over_load (on_line line (rules_of (changes_of (list_of_changes cs)) b)) (omega (arith, k, rules_load line (list_of_changes cs) b))) h
+    subst (λ (ds : Changes). 2500000 < changes_load ds → IsOver (on_line line (head_rules ds b))) (changes_again cs)
+    (λ k. over_load (on_line line (head_rules (changes_of (list_of_changes cs)) b)) (omega (arith, k, rules_load line (list_of_changes cs) b))) h
 
-pub over_many_heads : (line : ℕ) (cs : Changes) (b : Body) → HasManyHeads cs → IsOver (on_line line (rules_of cs b))
+pub over_many_heads : (line : ℕ) (cs : Changes) (b : Body) → HasManyHeads cs → IsOver (on_line line (head_rules cs b))
 over_many_heads line cs b (inl h) = over_changes line cs b h
-over_many_heads line cs b (inr h) = subst (λ (ds : Changes). IsOver (on_line line (rules_of ds b))) (changes_again cs) (over_heads line (list_of_changes cs) b h)
+over_many_heads line cs b (inr h) = subst (λ (ds : Changes). IsOver (on_line line (head_rules ds b))) (changes_again cs) (over_heads line (list_of_changes cs) b h)
 
 pub over_declared : (line : ℕ) (ps : Parts) → 2500000 < parts_load ps → IsOver (on_line line (tree.global_variable ps ∷ []))
 over_declared line ps h = over_load (on_line line (tree.global_variable ps ∷ [])) (omega (arith, h, weight_append load (things (counted_of (tree.global_variable ps))) []))

@@ -9,7 +9,7 @@ use Rattle.dg_base.specs.TreeView.{part_view}
 use Rattle.dg_base.specs.Tree as tree
 use Rattle.dg_base.specs.declared.tree.Part.{Part as CodePart}
 use Rattle.dg_base.specs.Tree.{Part, Value, parts_of}
-use Rattle.dg_expand.specs.Put.{Access, Argument, Place, Level, changing, parameter_of, with_argument, argument_of, given_by, argument_for, put_value}
+use Rattle.dg_expand.specs.Put.{Access, Argument, Spot, Level, change_access, parameter_of, with_argument, argument_of, given_by, argument_for, put_value}
 use Rattle.dg_expand.specs.inside.Putting.{Around, around_in, outer_view, outer_step, place_step, value_in, argument_or, argument_in}
 use Rattle.dg_expand.specs.declared.place.Outer.{Outer, fold-roll-Outer}
 use Rattle.dg_expand.specs.declared.place.Outer.TheOpen.{Outer-F}
@@ -34,17 +34,17 @@ outer_within rules' mark p =
 
 -- ---- arguments
 
-either : (l : Level) (p : Place) (b : Bool) (v : Value) (x : Option Argument) (rest : Option Value) → x ≡ option_map (λ (u : Value) (n : ℕ). put_value l p n u) rest → (if b then Some (λ (n : ℕ). put_value l p n v) else x) ≡ option_map (λ (u : Value) (n : ℕ). put_value l p n u) (if b then Some v else rest)
+either : (l : Level) (p : Spot) (b : Bool) (v : Value) (x : Option Argument) (rest : Option Value) → x ≡ option_map (λ (u : Value) (n : ℕ). put_value l p n u) rest → (if b then Some (λ (n : ℕ). put_value l p n v) else x) ≡ option_map (λ (u : Value) (n : ℕ). put_value l p n u) (if b then Some v else rest)
 either l p true v x rest e = refl
 either l p false v x rest e = e
 
-one_given : (l : Level) (p : Place) (w : List ℕ) (m : Option (List ℕ)) (q : Part) (given : List (List ℕ × Argument)) (rest : Option Value) → argument_for given w ≡ option_map (λ (u : Value) (n : ℕ). put_value l p n u) rest → argument_for (with_argument m (argument_of l p q) given) w ≡ option_map (λ (u : Value) (n : ℕ). put_value l p n u) (argument_or m (value_in q) w rest)
+one_given : (l : Level) (p : Spot) (w : List ℕ) (m : Option (List ℕ)) (q : Part) (given : List (List ℕ × Argument)) (rest : Option Value) → argument_for given w ≡ option_map (λ (u : Value) (n : ℕ). put_value l p n u) rest → argument_for (with_argument m (argument_of l p q) given) w ≡ option_map (λ (u : Value) (n : ℕ). put_value l p n u) (argument_or m (value_in q) w rest)
 one_given l p w None (tree.part_word x) given rest e = e
 one_given l p w None (tree.part_value v) given rest e = e
 one_given l p w (Some m) (tree.part_word x) given rest e = e
 one_given l p w (Some m) (tree.part_value v) given rest e = either l p (bytes_eq m w) v (argument_for given w) rest e
 
-pub given_in : (l : Level) (p : Place) (w : List ℕ) (hs qs : List Part) → argument_for (given_by l p (parts_of hs) (parts_of qs)) w ≡ option_map (λ (u : Value) (n : ℕ). put_value l p n u) (argument_in hs qs w)
+pub given_in : (l : Level) (p : Spot) (w : List ℕ) (hs qs : List Part) → argument_for (given_by l p (parts_of hs) (parts_of qs)) w ≡ option_map (λ (u : Value) (n : ℕ). put_value l p n u) (argument_in hs qs w)
 given_in l p w [] [] = refl
 given_in l p w [] (q ∷ qs) = refl
 given_in l p w (h ∷ hs) [] = refl
@@ -86,6 +86,6 @@ ended hs qs i name le =
     ∙ no_arguments (map part_view (drop (suc i) hs)) name
     ∙ sym (ap (λ (l : List CodePart). argument_in (map part_view (drop i hs)) (map part_view l) name) (drop_of_length-le qs le) ∙ no_arguments (map part_view (drop i hs)) name)
 
-pub changing_some : (set : Bool) (m : Option Access) (r : Access) → changing set m ≡ Some r → (x : Access) × (m ≡ Some x)
+pub changing_some : (set : Bool) (m : Option Access) (r : Access) → change_access set m ≡ Some r → (x : Access) × (m ≡ Some x)
 changing_some set None r e = cc
 changing_some set (Some x) r e = (x, refl)

@@ -20,7 +20,7 @@ use Rattle.dg_access.specs.declared.work.Close.TheVariants as close
 use Rattle.dg_access.specs.declared.work.Asking.{Asking}
 use Rattle.dg_access.specs.declared.work.Wrap.{Wrap}
 use Rattle.dg_access.proofs.Views.{each_branch}
-use Rattle.dg_expand.specs.Put.{Access, Place, Level, level, rule_for, changing, one_change, change_by, with_change, changes_in, queries_of, is_own_parameter, argument_for, own_name, put_values, put_parts, put_stmts, put_body, put_arms, put_changes}
+use Rattle.dg_expand.specs.Put.{Access, Spot, Level, level, rule_for, change_access, one_change, change_by, with_change, changes_in, list_queries, is_own_parameter, argument_for, own_name, put_values, put_parts, put_stmts, put_body, put_arms, put_changes}
 use Rattle.dg_expand.specs.inside.Putting.{Around, access_view, closed_around, copied_around, after_value, after_values, after_parts, after_stmt, after_stmts, after_branches, after_body, after_arms, after_changes, does, run, bare, wrap_of, IsPutOff}
 use Rattle.dg_expand.specs.declared.place.Access.{Access as CodeAccess}
 use Rattle.dg_expand.specs.declared.place.Place.{Place as CodePlace}
@@ -30,19 +30,19 @@ use Rattle.dg_expand.proofs.BuiltLemmas.{off, values_count, parts_count, stmts_c
 
 -- ---- how many there are
 
-pub values_many : (l : Level) (p : Place) (n : ℕ) (xs : List Value) (k : ℕ) → k ≡ length xs → k ≡ length (list_of_values (put_values l p n (values_of (map value_view xs))).0)
+pub values_many : (l : Level) (p : Spot) (n : ℕ) (xs : List Value) (k : ℕ) → k ≡ length xs → k ≡ length (list_of_values (put_values l p n (values_of (map value_view xs))).0)
 values_many l p n xs k e = e ∙ sym (values_count l p n (map value_view xs) ∙ length-map xs value_view)
 
-pub parts_many : (l : Level) (p : Place) (n : ℕ) (xs : List Part) (k : ℕ) → k ≡ length xs → k ≡ length (list_of_parts (put_parts l p n (parts_of (map part_view xs))).0)
+pub parts_many : (l : Level) (p : Spot) (n : ℕ) (xs : List Part) (k : ℕ) → k ≡ length xs → k ≡ length (list_of_parts (put_parts l p n (parts_of (map part_view xs))).0)
 parts_many l p n xs k e = e ∙ sym (parts_count l p n (map part_view xs) ∙ length-map xs part_view)
 
-pub stmts_many : (l : Level) (p : Place) (n : ℕ) (xs : List Stmt) (k : ℕ) → k ≡ length xs → k ≡ length (list_of_stmts (put_stmts l p n (stmts_of (map stmt_view xs))).0)
+pub stmts_many : (l : Level) (p : Spot) (n : ℕ) (xs : List Stmt) (k : ℕ) → k ≡ length xs → k ≡ length (list_of_stmts (put_stmts l p n (stmts_of (map stmt_view xs))).0)
 stmts_many l p n xs k e = e ∙ sym (stmts_count l p n (map stmt_view xs) ∙ length-map xs stmt_view)
 
-pub arms_many : (l : Level) (p : Place) (n : ℕ) (xs : List Arm) (k : ℕ) → k ≡ length xs → k ≡ length (list_of_arms (put_arms l p n (arms_of (map arm_view xs))).0)
+pub arms_many : (l : Level) (p : Spot) (n : ℕ) (xs : List Arm) (k : ℕ) → k ≡ length xs → k ≡ length (list_of_arms (put_arms l p n (arms_of (map arm_view xs))).0)
 arms_many l p n xs k e = e ∙ sym (arms_count l p n (map arm_view xs) ∙ length-map xs arm_view)
 
-pub branches_many : (l : Level) (p : Place) (n : ℕ) (xs : List (List Stmt)) (k : ℕ) → k ≡ length xs → k ≡ length (list_of_branches (put_body l p n (branches_view (map (map stmt_view) xs))).0)
+pub branches_many : (l : Level) (p : Spot) (n : ℕ) (xs : List (List Stmt)) (k : ℕ) → k ≡ length xs → k ≡ length (list_of_branches (put_body l p n (branches_view (map (map stmt_view) xs))).0)
 branches_many l p n xs k e =
     e ∙ sym (ap (λ (b : tree.Body). length (list_of_branches (put_body l p n b).0)) (each_branch xs) ∙ branches_count l p n (map branch_view xs) ∙ length-map xs branch_view)
 
@@ -165,17 +165,17 @@ used_off h inner at l q r b ps n s t w old new e deep stands number more wraps s
     ∙ ap (λ (x : Built). closing bare (close.Wrapped (wrap_of q)) (after_body (inside (at h.now) l (access_view r) (parts_of (map part_view ps.now)) s.at) (body_view r.body.now) x)) more
     ∙ used_built (at h.now) l q (access_view r) (parts_of (map part_view ps.now)) s e deep)
 
-pub change_off : (h : Bor CodePlace) (at : CodePlace → Around) (set : Bool) (ps : Bor (List Part)) (k : ℕ) (s : Built) (old new : List Work) → changing set (rule_for (at h.now).at.rules (parts_of (map part_view ps.now))) ≡ None → k ≡ length ps.now → new ≡ old ++ work.Close (close.Change set k) ∷ work.Parts h ps ∷ [] → run at new s ≡ run at old (after_changes (at h.now) (one_change set (parts_of (map part_view ps.now))) s)
+pub change_off : (h : Bor CodePlace) (at : CodePlace → Around) (set : Bool) (ps : Bor (List Part)) (k : ℕ) (s : Built) (old new : List Work) → change_access set (rule_for (at h.now).at.rules (parts_of (map part_view ps.now))) ≡ None → k ≡ length ps.now → new ≡ old ++ work.Close (close.Change set k) ∷ work.Parts h ps ∷ [] → run at new s ≡ run at old (after_changes (at h.now) (one_change set (parts_of (map part_view ps.now))) s)
 change_off h at set ps k s old new none count put =
     off at old new (work.Close (close.Change set k) ∷ work.Parts h ps ∷ []) s _ put
     (change_built (at h.now) set (parts_of (map part_view ps.now)) k s none (parts_many (at h.now).at (at h.now).place s.at ps.now k count))
 
-pub changed_off : (h inner : Bor CodePlace) (at : CodePlace → Around) (l : Level) (set : Bool) (r : CodeAccess) (qs : Bor (List Stmt)) (ps : Bor (List Part)) (n : ℕ) (s t : Built) (old new : List Work) → changing set (rule_for (at h.now).at.rules (parts_of (map part_view ps.now))) ≡ Some (access_view r) → (at h.now).at.inner_changes ≡ put_changes l → at inner.now ≡ inside (at h.now) l (access_view r) (parts_of (map part_view ps.now)) n → n ≡ s.at → t ≡ record s { at = s.at + 1 } → stmts_of (map stmt_view qs.now) ≡ queries_of (body_view r.body.now) → new ≡ old ++ work.Queries inner set qs ∷ [] → run at new t ≡ run at old (after_changes (at h.now) (one_change set (parts_of (map part_view ps.now))) s)
+pub changed_off : (h inner : Bor CodePlace) (at : CodePlace → Around) (l : Level) (set : Bool) (r : CodeAccess) (qs : Bor (List Stmt)) (ps : Bor (List Part)) (n : ℕ) (s t : Built) (old new : List Work) → change_access set (rule_for (at h.now).at.rules (parts_of (map part_view ps.now))) ≡ Some (access_view r) → (at h.now).at.inner_changes ≡ put_changes l → at inner.now ≡ inside (at h.now) l (access_view r) (parts_of (map part_view ps.now)) n → n ≡ s.at → t ≡ record s { at = s.at + 1 } → stmts_of (map stmt_view qs.now) ≡ list_queries (body_view r.body.now) → new ≡ old ++ work.Queries inner set qs ∷ [] → run at new t ≡ run at old (after_changes (at h.now) (one_change set (parts_of (map part_view ps.now))) s)
 changed_off h inner at l set r qs ps n s t old new e deep stands number more same put =
     off at old new (work.Queries inner set qs ∷ []) t _ put
     (ap (λ (x : tree.Stmts). after_changes (at inner.now) (changes_in set x) t) same
-    ∙ ap (λ (x : Around). after_changes x (changes_in set (queries_of (body_view r.body.now))) t) (stands ∙ ap (λ (m : ℕ). inside (at h.now) l (access_view r) (parts_of (map part_view ps.now)) m) number)
-    ∙ ap (λ (x : Built). after_changes (inside (at h.now) l (access_view r) (parts_of (map part_view ps.now)) s.at) (changes_in set (queries_of (body_view r.body.now))) x) more
+    ∙ ap (λ (x : Around). after_changes x (changes_in set (list_queries (body_view r.body.now))) t) (stands ∙ ap (λ (m : ℕ). inside (at h.now) l (access_view r) (parts_of (map part_view ps.now)) m) number)
+    ∙ ap (λ (x : Built). after_changes (inside (at h.now) l (access_view r) (parts_of (map part_view ps.now)) s.at) (changes_in set (list_queries (body_view r.body.now))) x) more
     ∙ changed_built (at h.now) l set (access_view r) (parts_of (map part_view ps.now)) s e deep)
 
 pub closed_off : (h inner : Bor CodePlace) (at : CodePlace → Around) (b : Bor Body) (s : Built) (old new : List Work) → (at h.now).place.moved ≡ false → at inner.now ≡ closed_around (at h.now) → new ≡ old ++ work.Close close.Closure ∷ work.Body inner b ∷ [] → run at new s ≡ run at old (after_value (at h.now) (tree.closure (body_view b.now)) s)

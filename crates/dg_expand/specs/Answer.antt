@@ -4,7 +4,7 @@ use Rattle.dg_base.specs.Tree.{Item}
 use Rattle.dg_base.specs.declared.refusal.Kind.{Kind}
 use Rattle.dg_base.specs.declared.refusal.Kind.TheVariants.{AccessLoop, BadNow, TooMany}
 use Rattle.dg_base.specs.declared.refusal.Refusal.{Refusal}
-use Rattle.dg_access.specs.Counts.{are_large, are_many}
+use Rattle.dg_access.specs.Counts.{are_large, are_over}
 use Rattle.dg_access.specs.Items.{plain_items}
 use Rattle.dg_expand.specs.Expanded.{access_rules, put_item, put_items, are_bad}
 use Rattle.dg_expand.specs.Loops.{first_looping}
@@ -14,7 +14,7 @@ use Rattle.dg_expand.specs.Put.{Access}
 -- stands where none may.
 abbrev pub cause_of : List Access → List Item → List Item → Option Kind
 cause_of rules before new =
-    if are_large new || are_many (before ++ new) then Some TooMany else if are_bad rules new then Some BadNow else None
+    if are_large new || are_over (before ++ new) then Some TooMany else if are_bad rules new then Some BadNow else None
 
 -- A refusal of this kind on this line, or else this one.
 abbrev pub refused_or : ℕ → Option Kind → Option Refusal → Option Refusal

@@ -28,18 +28,18 @@ access_rules [] = []
 access_rules (i ∷ is) = access_in i.said ++ access_rules is
 
 -- A rule of either sign.
-abbrev pub signed : Bool → Parts → Body → Said
-signed true ps b = tree.rule ps b
-signed false ps b = tree.deny ps b
+abbrev pub signed_rule : Bool → Parts → Body → Said
+signed_rule true ps b = tree.rule ps b
+signed_rule false ps b = tree.deny ps b
 
 -- A rule for each head, all of one body.
-abbrev pub rules_of : Changes → Body → List Said
-rules_of tree.no_changes b = []
-rules_of (tree.change ps set heads) b = signed set ps b ∷ rules_of heads b
+abbrev pub head_rules : Changes → Body → List Said
+head_rules tree.no_changes b = []
+head_rules (tree.change ps set heads) b = signed_rule set ps b ∷ head_rules heads b
 
 -- What becomes of a rule: its head is put in as a change is, of which each gives a rule.
 abbrev pub put_rule : Level → Bool → Parts → Body → List Said
-put_rule l set ps b = let heads = put_changes l in_item 0 (one_change set ps) in rules_of heads.0 (put_body l in_item heads.1 b).0
+put_rule l set ps b = let heads = put_changes l in_item 0 (one_change set ps) in head_rules heads.0 (put_body l in_item heads.1 b).0
 
 -- A head into which nothing is put.
 abbrev pub stay : Parts → Parts
@@ -62,27 +62,27 @@ put_item rules i = on_line i.line (put_said rules i.said)
 
 -- ---- what can't be changed
 
-abbrev pub values_in : Parts → ℕ
-values_in tree.no_parts = 0
-values_in (tree.part (tree.part_word w) ps) = values_in ps
-values_in (tree.part (tree.part_value v) ps) = values_in ps + 1
+abbrev pub count_values : Parts → ℕ
+count_values tree.no_parts = 0
+count_values (tree.part (tree.part_word w) ps) = count_values ps
+count_values (tree.part (tree.part_value v) ps) = count_values ps + 1
 
 -- A built-in query but `($ has parent $)`.
-abbrev pub is_fixed : Option Builtin → Bool
-is_fixed None = false
-is_fixed (Some builtin.HasParent) = false
-is_fixed (Some b) = true
+abbrev pub is_kept_builtin : Option Builtin → Bool
+is_kept_builtin None = false
+is_kept_builtin (Some builtin.HasParent) = false
+is_kept_builtin (Some b) = true
 
 -- A predicate that gets no rule and no change: a built-in but `($ has parent $)`, one that every program has, or one of an access
 -- rule of several queries that is still there, since it was negated.
 abbrev pub is_closed : List Access → Parts → Bool
-is_closed rules ps = is_fixed (builtin_named (name_of ps)) || (name_among (name_of ps) prelude_names || is_some (rule_for rules ps))
+is_closed rules ps = is_kept_builtin (builtin_named (name_of ps)) || (name_among (name_of ps) prelude_names || is_some (rule_for rules ps))
 
 -- A head or a change that stands where none may.
-abbrev pub is_bad : List Access → Thing → Bool
-is_bad rules (query role.Rule ps) = is_closed rules ps
-is_bad rules (query (role.Changed set) ps) = is_closed rules ps || nat_lt 2 (values_in ps)
-is_bad rules t = false
+abbrev pub is_misplaced : List Access → Thing → Bool
+is_misplaced rules (query role.Rule ps) = is_closed rules ps
+is_misplaced rules (query (role.Changed set) ps) = is_closed rules ps || nat_lt 2 (count_values ps)
+is_misplaced rules t = false
 
 -- ---- the answer
 
@@ -94,4 +94,4 @@ put_items rules (i ∷ is) = put_item rules i ++ put_items rules is
 -- In one of these items a head or a change stands where none may.
 abbrev pub are_bad : List Access → List Item → Bool
 are_bad rules [] = false
-are_bad rules (i ∷ is) = list_any (is_bad rules) (things_in i.said) || are_bad rules is
+are_bad rules (i ∷ is) = list_any (is_misplaced rules) (things_in i.said) || are_bad rules is

@@ -25,7 +25,7 @@ Argument = ℕ → Value × ℕ
 
 -- Where something stands: which arguments are put in for which parameters, the number of the access rule's use and of a copied
 -- closure, where it stands in one, whether it is itself an argument, and whether a closure is around it.
-pub record Place : Type 0 where
+pub record Spot : Type 0 where
   pub given : List (List ℕ × Argument)
   pub use_number : Option ℕ
   pub copy_number : Option ℕ
@@ -47,23 +47,23 @@ with_argument (Some w) None given = given
 with_argument None argument given = given
 
 -- In an item that isn't an access rule.
-abbrev pub in_item : Place
+abbrev pub in_item : Spot
 in_item = record { given = []; use_number = None; copy_number = None; moved = false; closed = false }
 
 -- In the body of an access rule that is put in.
-abbrev pub within : List (List ℕ × Argument) → ℕ → Place
+abbrev pub within : List (List ℕ × Argument) → ℕ → Spot
 within given n = record { given = given; use_number = Some n; copy_number = Some n; moved = false; closed = false }
 
 -- An argument stands here, and is put in elsewhere.
-abbrev pub moved_from : Place → Place
+abbrev pub moved_from : Spot → Spot
 moved_from p = record p { moved = true }
 
 -- In a closure that stands here.
-abbrev pub in_closure : Place → Place
+abbrev pub in_closure : Spot → Spot
 in_closure p = record p { closed = true }
 
 -- In a closure of an argument, where it is put in: each such copy has anonymous variables of its own.
-abbrev pub in_copy : Place → ℕ → Place
+abbrev pub in_copy : Spot → ℕ → Spot
 in_copy p n = record p { copy_number = Some n; moved = false; closed = true }
 
 -- What the names of an access rule's variables begin with where the rule is put in.
@@ -84,7 +84,7 @@ new_unnamed None w = w
 new_unnamed (Some n) w = copy_mark n ++ w
 
 -- The name of a variable that is no parameter.
-abbrev pub own_name : ℕ → Place → List ℕ → List ℕ
+abbrev pub own_name : ℕ → Spot → List ℕ → List ℕ
 own_name mark p w = if is_unnamed w then new_unnamed p.copy_number w else new_name mark p.use_number w
 
 abbrev pub argument_for : List (List ℕ × Argument) → List ℕ → Option Argument
@@ -92,15 +92,15 @@ argument_for [] w = None
 argument_for (g ∷ gs) w = if bytes_eq g.0 w then Some g.1 else argument_for gs w
 
 -- What stands for a variable: its argument, or the variable under its name here. A closure's parameter stays.
-abbrev pub own_or : ℕ → Place → ℕ → List ℕ → Option Argument → Value × ℕ
+abbrev pub own_or : ℕ → Spot → ℕ → List ℕ → Option Argument → Value × ℕ
 own_or mark p n w None = (tree.variable (own_name mark p w), n)
 own_or mark p n w (Some argument) = argument n
 
 -- Whether a variable is the parameter of the closure around it.
-abbrev pub is_own_parameter : Place → List ℕ → Bool
+abbrev pub is_own_parameter : Spot → List ℕ → Bool
 is_own_parameter p w = p.closed && bytes_eq w (codes "_")
 
-abbrev pub put_variable : ℕ → Place → ℕ → List ℕ → Value × ℕ
+abbrev pub put_variable : ℕ → Spot → ℕ → List ℕ → Value × ℕ
 put_variable mark p n w = if is_own_parameter p w then (tree.variable w, n) else own_or mark p n w (argument_for p.given w)
 
 -- ---- an access rule's body
@@ -122,9 +122,9 @@ changes_in set tree.no_stmts = tree.no_changes
 changes_in set (tree.stmt s ss) = with_change (change_by set s) (changes_in set ss)
 
 -- The queries of an access rule's body, which is one list.
-abbrev pub queries_of : Body → Stmts
-queries_of tree.no_branches = tree.no_stmts
-queries_of (tree.branch ss b) = ss
+abbrev pub list_queries : Body → Stmts
+list_queries tree.no_branches = tree.no_stmts
+list_queries (tree.branch ss b) = ss
 
 abbrev pub is_one : Stmts → Bool
 is_one (tree.stmt s tree.no_stmts) = true
@@ -144,8 +144,8 @@ made f a = (f a.0, a.1)
 pub record Level : Type 0 where
   pub rules : List Access
   pub mark : ℕ
-  pub inner : Place → ℕ → Body → Body × ℕ
-  pub inner_changes : Place → ℕ → Changes → Changes × ℕ
+  pub inner : Spot → ℕ → Body → Body × ℕ
+  pub inner_changes : Spot → ℕ → Changes → Changes × ℕ
 
 -- A query: in its place the body of its access rule, made a statement; or this, where it has none.
 abbrev pub put_query : Level → ℕ → (Body → Stmt) → Option Access → (Access → List (List ℕ × Argument)) → Stmt × ℕ → Stmt × ℕ
@@ -153,21 +153,21 @@ put_query l n statement None given other = other
 put_query l n statement (Some r) given other = made statement (l.inner (within (given r) n) (n + 1) r.body)
 
 -- An access rule that a change is replaced by: in a change that clears it has one query.
-abbrev pub changing : Bool → Option Access → Option Access
-changing set None = None
-changing set (Some r) = if set || is_one (queries_of r.body) then Some r else None
+abbrev pub change_access : Bool → Option Access → Option Access
+change_access set None = None
+change_access set (Some r) = if set || is_one (list_queries r.body) then Some r else None
 
 -- A change: in its place a change for each query of its access rule; or this, where it has none.
 abbrev pub put_change : Level → ℕ → Bool → Option Access → (Access → List (List ℕ × Argument)) → Changes × ℕ → Changes × ℕ
 put_change l n set None given other = other
-put_change l n set (Some r) given other = l.inner_changes (within (given r) n) (n + 1) (changes_in set (queries_of r.body))
+put_change l n set (Some r) given other = l.inner_changes (within (given r) n) (n + 1) (changes_in set (list_queries r.body))
 
 abbrev pub one_change : Bool → Parts → Changes
 one_change set ps = tree.change ps set tree.no_changes
 
 abbrev mutual
   -- A tree with access rules put in, at a place and from this number of a new name on, and the number behind it.
-  pub put_value : Level → Place → ℕ → Value → Value × ℕ
+  pub put_value : Level → Spot → ℕ → Value → Value × ℕ
   put_value l p n (tree.num k) = (tree.num k, n)
   put_value l p n (tree.dict_word w) = (tree.dict_word w, n)
   put_value l p n (tree.object_name w) = (tree.object_name w, n)
@@ -180,27 +180,27 @@ abbrev mutual
   put_value l p n (tree.nested ps) = made tree.nested (put_parts l p n ps)
   put_value l p n (tree.word_choice ws) = (tree.word_choice ws, n)
 
-  pub put_values : Level → Place → ℕ → Values → Values × ℕ
+  pub put_values : Level → Spot → ℕ → Values → Values × ℕ
   put_values l p n tree.no_values = (tree.no_values, n)
   put_values l p n (tree.value v vs) = let a = put_value l p n v in made (tree.value a.0) (put_values l p a.1 vs)
 
-  pub put_parts : Level → Place → ℕ → Parts → Parts × ℕ
+  pub put_parts : Level → Spot → ℕ → Parts → Parts × ℕ
   put_parts l p n tree.no_parts = (tree.no_parts, n)
   put_parts l p n (tree.part (tree.part_word w) ps) = made (tree.part (tree.part_word w)) (put_parts l p n ps)
   put_parts l p n (tree.part (tree.part_value v) ps) = let a = put_value l p n v in made (tree.part (tree.part_value a.0)) (put_parts l p a.1 ps)
 
   -- What is put in for a parameter, where this part is a value.
-  pub argument_of : Level → Place → Part → Option Argument
+  pub argument_of : Level → Spot → Part → Option Argument
   argument_of l p (tree.part_word w) = None
   argument_of l p (tree.part_value v) = Some (λ n. put_value l p n v)
 
   -- The arguments of a query, by the parameters of its access rule's head.
-  pub given_by : Level → Place → Parts → Parts → List (List ℕ × Argument)
+  pub given_by : Level → Spot → Parts → Parts → List (List ℕ × Argument)
   given_by l p head tree.no_parts = []
   given_by l p tree.no_parts (tree.part q ps) = []
   given_by l p (tree.part h head) (tree.part q ps) = with_argument (parameter_of h) (argument_of l p q) (given_by l p head ps)
 
-  pub put_stmt : Level → Place → ℕ → Stmt → Stmt × ℕ
+  pub put_stmt : Level → Spot → ℕ → Stmt → Stmt × ℕ
   put_stmt l p n (tree.text w) = (tree.text w, n)
   put_stmt l p n (tree.print v) = made tree.print (put_value l p n v)
   put_stmt l p n (tree.ask ps) = put_query l n tree.first_answer (rule_for l.rules ps) (λ r. given_by l (moved_from p) r.head ps)
@@ -223,22 +223,23 @@ abbrev mutual
   put_stmt l p n (tree.select mode b) = made (tree.select mode) (put_body l p n b)
   put_stmt l p n (tree.first_answer b) = made tree.first_answer (put_body l p n b)
 
-  pub put_stmts : Level → Place → ℕ → Stmts → Stmts × ℕ
+  pub put_stmts : Level → Spot → ℕ → Stmts → Stmts × ℕ
   put_stmts l p n tree.no_stmts = (tree.no_stmts, n)
   put_stmts l p n (tree.stmt s ss) = let a = put_stmt l p n s in made (tree.stmt a.0) (put_stmts l p a.1 ss)
 
-  pub put_body : Level → Place → ℕ → Body → Body × ℕ
+  pub put_body : Level → Spot → ℕ → Body → Body × ℕ
   put_body l p n tree.no_branches = (tree.no_branches, n)
   put_body l p n (tree.branch ss b) = let a = put_stmts l p n ss in made (tree.branch a.0) (put_body l p a.1 b)
 
-  pub put_arms : Level → Place → ℕ → Arms → Arms × ℕ
+  pub put_arms : Level → Spot → ℕ → Arms → Arms × ℕ
   put_arms l p n tree.no_arms = (tree.no_arms, n)
   put_arms l p n (tree.arm c b arms) = let a = put_body l p n c in let d = put_body l p a.1 b in made (tree.arm a.0 d.0) (put_arms l p d.1 arms)
 
-  pub put_changes : Level → Place → ℕ → Changes → Changes × ℕ
+  pub put_changes : Level → Spot → ℕ → Changes → Changes × ℕ
   put_changes l p n tree.no_changes = (tree.no_changes, n)
   put_changes l p n (tree.change ps set cs) =
-      let a = put_change l n set (changing set (rule_for l.rules ps)) (λ r. given_by l (moved_from p) r.head ps) (made (one_change set) (put_parts l p n ps)) in
+      let access = change_access set (rule_for l.rules ps) in
+      let a = put_change l n set access (λ r. given_by l (moved_from p) r.head ps) (made (one_change set) (put_parts l p n ps)) in
       made (changes_behind a.0) (put_changes l p a.1 cs)
 
 -- Access rules are put in to this depth: so many of them one in the other. Where none reaches itself, the number of all of them is enough.

@@ -17,7 +17,7 @@ use std::alloc::{AllocError, Global};
 const PARAMETERS: usize = 2;
 
 fn is_fixed(builtin: Option<Builtin>) -> bool
-    ensures { result ≡ spec.is_fixed builtin }
+    ensures { result ≡ spec.is_kept_builtin builtin }
 {
     match builtin {
         None | Some(Builtin::HasParent) => false,
@@ -32,7 +32,7 @@ fn is_closed(rules: &[Access<'_>], parts: &[Part]) -> bool
 }
 
 fn values_in(parts: &[Part]) -> usize
-    ensures { result ≡ spec.values_in (parts_of (map part_view parts.now)) }
+    ensures { result ≡ spec.count_values (parts_of (map part_view parts.now)) }
 {
     let mut count: usize = 0;
     for part in parts {
@@ -44,7 +44,7 @@ fn values_in(parts: &[Part]) -> usize
 }
 
 fn is_bad_role(rules: &[Access<'_>], role: Role, head: &Head) -> bool
-    ensures { result ≡ spec.is_bad (map access_view rules.now) (query role (head_view head.now)) }
+    ensures { result ≡ spec.is_misplaced (map access_view rules.now) (query role (head_view head.now)) }
 {
     let parts = head.parts.as_slice();
     match role {
@@ -55,7 +55,7 @@ fn is_bad_role(rules: &[Access<'_>], role: Role, head: &Head) -> bool
 }
 
 fn is_bad(rules: &[Access<'_>], mention: Mention<'_>) -> bool
-    ensures { result ≡ list_any (spec.is_bad (map access_view rules.now)) (thing_at (mention_view mention.entry)) }
+    ensures { result ≡ list_any (spec.is_misplaced (map access_view rules.now)) (thing_at (mention_view mention.entry)) }
 {
     match mention {
         Mention::Query(role, head) => is_bad_role(rules, role, head),
@@ -64,7 +64,7 @@ fn is_bad(rules: &[Access<'_>], mention: Mention<'_>) -> bool
 }
 
 fn any_bad(rules: &[Access<'_>], mentions: &[Mention<'_>]) -> bool
-    ensures { result ≡ list_any (spec.is_bad (map access_view rules.now)) (things_at (seen mentions.now)) }
+    ensures { result ≡ list_any (spec.is_misplaced (map access_view rules.now)) (things_at (seen mentions.now)) }
 {
     for mention in mentions {
         if is_bad(rules, *mention) {
@@ -75,7 +75,7 @@ fn any_bad(rules: &[Access<'_>], mentions: &[Mention<'_>]) -> bool
 }
 
 fn is_bad_item(alloc: Global, rules: &[Access<'_>], said: &ItemBody) -> Result<bool, AllocError>
-    ensures { IfOk result (λ bad. bad ≡ list_any (spec.is_bad (map access_view rules.now)) (things_in (said_view said.now))) }
+    ensures { IfOk result (λ bad. bad ≡ list_any (spec.is_misplaced (map access_view rules.now)) (things_in (said_view said.now))) }
 {
     let mentions = mentions_of(alloc, said)?;
     Ok(any_bad(rules, mentions.as_slice()))

@@ -9,7 +9,7 @@ ghost use Rattle.dg_base.specs.Tree.{Parts, Item};
 ghost use Rattle.dg_base.specs.declared.refusal.Refusal.{Refusal};
 ghost use Rattle.dg_expand.specs.Answer.{IsRewritten};
 ghost use Rattle.dg_expand.specs.Comes.{MentionsArePut};
-ghost use Rattle.dg_expand.specs.Expanded.{access_rules, is_bad, stay};
+ghost use Rattle.dg_expand.specs.Expanded.{access_rules, is_misplaced, stay};
 ghost use Rattle.dg_expand.specs.Left.{IsPutIn};
 ghost use Rattle.dg_names.specs.Counts.{closures_at};
 
@@ -40,7 +40,7 @@ pub fn declared_heads_keep_names()
 
 /// No head and no change stands in a rewritten tree where none may.
 pub fn none_is_closed()
-    ensures { (is new : List Item) → IsRewritten is (Ok new) → All (λ t. is_bad (access_rules (plain_items Option.None is)) t ≡ false) (mentioned new) }
+    ensures { (is new : List Item) → IsRewritten is (Ok new) → All (λ t. is_misplaced (access_rules (plain_items Option.None is)) t ≡ false) (mentioned new) }
 {}
 
 /// Nothing is left to put in in a rewritten tree.

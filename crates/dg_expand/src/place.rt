@@ -204,7 +204,7 @@ pub fn within<'a>(
 
 /// The queries of an access rule's body, which is one list.
 pub fn queries_of(body: &Body) -> &[Stmt]
-    ensures { stmts_of (map stmt_view result.now) ≡ spec.queries_of (body_view body.now) }
+    ensures { stmts_of (map stmt_view result.now) ≡ spec.list_queries (body_view body.now) }
 {
     match body.branches.as_slice() {
         [first, ..] => first.as_slice(),
@@ -231,7 +231,7 @@ pub fn changing_rule_at<'a>(
     set: bool,
     parts: &[Part],
 ) -> Option<Access<'a>>
-    ensures { option_map access_view result ≡ spec.changing set (spec.rule_for (around uses.entry at.now).at.rules (parts_of (map part_view parts.now))) }
+    ensures { option_map access_view result ≡ spec.change_access set (spec.rule_for (around uses.entry at.now).at.rules (parts_of (map part_view parts.now))) }
 {
     let rule = rule_at(uses, at, parts)?;
     if set || is_one(queries_of(rule.body)) {

@@ -93,7 +93,7 @@ fn take_first(heads: &mut Vec<NowChange>) -> Option<NowChange>
 }
 
 fn signed(head: NowChange, body: Body) -> ItemBody
-    ensures { said_view result ≡ spec.signed head.set (head_view head.head) (body_view body) }
+    ensures { said_view result ≡ spec.signed_rule head.set (head_view head.head) (body_view body) }
 {
     let NowChange { head, set } = head;
     if set {
@@ -140,9 +140,9 @@ fn add_rules<'a>(
     body: &'a Body,
 ) -> Result<bool, AllocError>
     ensures added { IfOk result (λ done. done ≡ true → map item_view out.new.items
-        ≡ map item_view out.old.items ++ spec.on_line line (spec.rules_of (changes_of (map change_view heads.heads.items))
+        ≡ map item_view out.old.items ++ spec.on_line line (spec.head_rules (changes_of (map change_view heads.heads.items))
         (put_body (around uses.entry at.now).at (around uses.entry at.now).place heads.number (body_view body.now)).0)) }
-    ensures large { IfOk result (λ done. done ≡ false → IsOver (spec.on_line line (spec.rules_of (changes_of (map change_view heads.heads.items))
+    ensures large { IfOk result (λ done. done ≡ false → IsOver (spec.on_line line (spec.head_rules (changes_of (map change_view heads.heads.items))
         (put_body (around uses.entry at.now).at (around uses.entry at.now).place heads.number (body_view body.now)).0))) }
 {
     let Heads { mut heads, number } = heads;

@@ -12,8 +12,8 @@ use Rattle.std.proofs.lemmas.List.{take_all}
 use Rattle.std.proofs.lemmas.List.Elements.{All-nil, All-cons}
 use Rattle.std.proofs.lemmas.Str.{IsUtf8-nil, IsUtf8-past_char, IsUtf8-from_is_utf8}
 use Rattle.dg_base.specs.declared.refusal.Kind.TheVariants.{SourceTooLong}
-use Rattle.dg_lex.specs.Bad.{bad_from, first_invalid, first_bad, refusal_at, refusal_of}
-use Rattle.dg_lex.specs.Chars.{backslash, is_blank, is_special, begins, opens_comment}
+use Rattle.dg_lex.specs.Bad.{bad_from, first_invalid, first_bad, refusal_at, lex_refusal}
+use Rattle.dg_lex.specs.Chars.{backslash, is_blank, is_special, begins_with, opens_comment}
 use Rattle.dg_lex.specs.Tokens.{gap_length, word_length, name_length, shape, named, bracket_of, name_at, shape_or, shape_at, token_of, IsTokens, IsLexed, without_mark, seen}
 use Rattle.dg_lex.specs.declared.bad.Place.{Place}
 use Rattle.dg_lex.specs.declared.bad.Place.TheVariants.{Outside, Escaped, Comment}
@@ -166,14 +166,14 @@ word_token_fine c w rest kind u g stops e = here (nat_eq c backslash) refl g.1 e
     placed false good = subst (λ (o : Bool). IsGood (if o then Comment else Outside) (w ++ rest)) stop.1 good
 
     left : (b : Bool) → nat_eq c backslash ≡ b → length w ≡ word_length b (w ++ rest) → (if b then escapes_dropped true w else c ∷ escapes_dropped false w) ≢ []
-    left true q long = escaped_some w rest long (not_lone_special (nat_eq c backslash) (begins is_special (w ++ rest)) q fine.not_lone)
+    left true q long = escaped_some w rest long (not_lone_special (nat_eq c backslash) (begins_with is_special (w ++ rest)) q fine.not_lone)
     left false q long = λ s. cc
 
     here : (b : Bool) → nat_eq c backslash ≡ b → IsGood (if b then Escaped else (if opens_comment c (w ++ rest) then Comment else Outside)) (w ++ rest) → shape Word (1 + word_length b (w ++ rest)) ≡ shape kind (length (c ∷ w)) → IsFine kind (c ∷ w) rest
     here b q good k =
         let same = kinds Word kind (1 + word_length b (w ++ rest)) (length (c ∷ w)) k in
         let long = shorter c (word_length b (w ++ rest)) w same.1 in
-        let stretch = word_fine b w rest long (placed b good) (λ s. not_lone_special (nat_eq c backslash) (begins is_special (w ++ rest)) (q ∙ s) fine.not_lone) in
+        let stretch = word_fine b w rest long (placed b good) (λ s. not_lone_special (nat_eq c backslash) (begins_with is_special (w ++ rest)) (q ∙ s) fine.not_lone) in
         let all : IsStretch (c ∷ w) rest = record { clean = All-cons IsClean c w (clean_from c stop.0 fine.no_control fine.not_high) stretch.clean; good = stretch.good; ascii = stretch.ascii } in
         let text = stretch_text (c ∷ w) rest all u in
         let some : without_escapes (c ∷ w) ≢ [] = subst (λ (x : Bool). (if x then escapes_dropped true w else c ∷ escapes_dropped false w) ≢ []) (sym q) (left b q long) in
@@ -302,7 +302,7 @@ none_found : (source : List ℕ) (o : Option ℕ) → refusal_at source o ≡ No
 none_found source None e = refl
 none_found source (Some n) e = cc
 
-source_accepted : (source : List ℕ) → refusal_of source ≡ None → IsAccepted source
+source_accepted : (source : List ℕ) → lex_refusal source ≡ None → IsAccepted source
 source_accepted source h = long (nat_lt 1048576 (length source)) h
   where
     valid : (b : Bool) → nat_lt (utf8_valid_len source) (length source) ≡ b → (if b then Some (utf8_valid_len source) else None) ≡ None → length source ≤ utf8_valid_len source
@@ -323,7 +323,7 @@ source_accepted source h = long (nat_lt 1048576 (length source)) h
     long false e = none_bad (bad_from Outside 0 (take (utf8_valid_len source) source)) refl e
 
 -- the tokens of a source that is accepted are spelled
-pub lexed_spelled : (source : List ℕ) (tokens : List Token) → refusal_of source ≡ None → IsLexed source tokens → All IsSpelledToken (map seen tokens)
+pub lexed_spelled : (source : List ℕ) (tokens : List Token) → lex_refusal source ≡ None → IsLexed source tokens → All IsSpelledToken (map seen tokens)
 lexed_spelled source tokens h lexed =
     let accepted = mark_accepted source (source_accepted source h) in
     tokens_fine true 1 (without_mark source) tokens lexed accepted.utf8 accepted.good

@@ -8,7 +8,7 @@ use Rattle.std.proofs.lemmas.Bool.Decides.{nat_tests}
 use Rattle.std.proofs.lemmas.List.Elements.{All-nil, All-cons}
 use Rattle.std.proofs.lemmas.Str.{IsUtf8-nil}
 use Rattle.dg_lex.specs.Bad.{place_behind, is_lone, is_bad, bad_from}
-use Rattle.dg_lex.specs.Chars.{newline, percent, backslash, is_blank, is_special, is_control, begins_too_high, is_past_ascii, is_digit, is_letter, is_name_char, begins, opens_comment}
+use Rattle.dg_lex.specs.Chars.{newline, percent, backslash, is_blank, is_special, is_control, begins_too_high, is_past_ascii, is_digit, is_letter, is_name_char, begins_with, opens_comment}
 use Rattle.dg_lex.specs.Tokens.{gap_length, is_word_char, word_length, name_length}
 use Rattle.dg_lex.specs.declared.bad.Place.{Place}
 use Rattle.dg_lex.specs.declared.bad.Place.TheVariants.{Outside, Escaped, Comment}
@@ -66,13 +66,13 @@ clean_from c blank control high =
     record { from = grind (arith, nat_tests, past); no_delete = grind (arith, nat_tests, each.1); low = grind (arith, nat_tests, high) }
 
 opens_small : (c : ℕ) (cs : List ℕ) → opens_comment c cs ≡ true → c ≡ 37
-opens_small c cs e = let first = (and_parts (nat_eq c percent) (begins (nat_eq percent) cs) e).0 in grind (arith, nat_tests, first)
+opens_small c cs e = let first = (and_parts (nat_eq c percent) (begins_with (nat_eq percent) cs) e).0 in grind (arith, nat_tests, first)
 
 other : (c n : ℕ) → c ≢ n → nat_eq c n ≡ false
 other c n h = grind (arith, nat_tests, h)
 
 pub closed_comment : (c : ℕ) (cs : List ℕ) → c ≢ 37 → opens_comment c cs ≡ false
-closed_comment c cs h = ap (λ (b : Bool). b && begins (nat_eq percent) cs) (other c 37 h)
+closed_comment c cs h = ap (λ (b : Bool). b && begins_with (nat_eq percent) cs) (other c 37 h)
 
 pub outside_behind : (c : ℕ) (cs : List ℕ) → c ≢ 92 → c ≢ 37 → place_behind Outside c cs ≡ Outside
 outside_behind c cs h k =
@@ -177,7 +177,7 @@ word_ends c cs h = elim (and_cases (not (is_blank c || is_special c)) (not (open
   | inr a ↦ omega (arith, opens_small c cs (not_false (opens_comment c cs) a))
 ]
 
-pub word_fine : (e : Bool) (w rest : List ℕ) → length w ≡ word_length e (w ++ rest) → IsGood (place_of e) (w ++ rest) → (e ≡ true → begins is_special (w ++ rest) ≡ true) → IsStretch w rest
+pub word_fine : (e : Bool) (w rest : List ℕ) → length w ≡ word_length e (w ++ rest) → IsGood (place_of e) (w ++ rest) → (e ≡ true → begins_with is_special (w ++ rest) ≡ true) → IsStretch w rest
 word_fine true [] [] n g s = record { clean = All-nil IsClean; good = tt; ascii = tt }
 word_fine true [] (c ∷ cs) n g s = absurd (omega (arith, n))
 word_fine false [] [] n g s = record { clean = All-nil IsClean; good = tt; ascii = tt }
@@ -200,12 +200,12 @@ word_fine false (x ∷ w) rest n g s = here (nat_eq x backslash) (is_word_char x
     with_first c others = record { clean = All-cons IsClean x w c others.clean; good = others.good; ascii = others.ascii }
 
     here : (b d : Bool) → nat_eq x backslash ≡ b → is_word_char x (w ++ rest) ≡ d → length (x ∷ w) ≡ (if b then 1 + word_length true (w ++ rest) else (if d then 1 + word_length false (w ++ rest) else 0)) → IsGood (if b then Escaped else (if opens_comment x (w ++ rest) then Comment else Outside)) (w ++ rest)
-        → (length w ≡ word_length true (w ++ rest) → IsGood Escaped (w ++ rest) → (◌≡◌ {A = Bool} true true → begins is_special (w ++ rest) ≡ true) → IsStretch w rest)
+        → (length w ≡ word_length true (w ++ rest) → IsGood Escaped (w ++ rest) → (◌≡◌ {A = Bool} true true → begins_with is_special (w ++ rest) ≡ true) → IsStretch w rest)
         → (length w ≡ word_length false (w ++ rest) → IsGood Outside (w ++ rest) → IsStretch w rest) → IsStretch (x ∷ w) rest
     here true d q r k good escape goes =
         let same : x ≡ 92 = grind (arith, nat_tests, q) in
         with_first (record { from = omega arith; no_delete = λ e. omega arith; low = omega arith })
-        (escape (longer _ w x k) good (λ e. not_lone_special (nat_eq x backslash) (begins is_special (w ++ rest)) q fine.not_lone))
+        (escape (longer _ w x k) good (λ e. not_lone_special (nat_eq x backslash) (begins_with is_special (w ++ rest)) q fine.not_lone))
     here false true q r k good escape goes =
         let each = and_parts (not (is_blank x || is_special x)) (not (opens_comment x (w ++ rest))) r in
         let plain = or_parts (is_blank x) (is_special x) (not_true (is_blank x || is_special x) each.0) in
@@ -214,7 +214,7 @@ word_fine false (x ∷ w) rest n g s = here (nat_eq x backslash) (is_word_char x
     here false false q r k good escape goes = absurd (omega (arith, k))
 
 -- a character stands behind a backslash
-pub escaped_some : (w rest : List ℕ) → length w ≡ word_length true (w ++ rest) → begins is_special (w ++ rest) ≡ true → escapes_dropped true w ≢ []
+pub escaped_some : (w rest : List ℕ) → length w ≡ word_length true (w ++ rest) → begins_with is_special (w ++ rest) ≡ true → escapes_dropped true w ≢ []
 escaped_some [] [] n s = λ e. absurd (let no : false ≡ true = s in cc)
 escaped_some [] (c ∷ cs) n s = absurd (omega (arith, n))
 escaped_some (x ∷ w) rest n s = λ e. cc
@@ -224,7 +224,7 @@ word_some [] rest some n g = absurd (some refl)
 word_some (x ∷ w) rest some n g = here (nat_eq x backslash) refl n
   where
     here : (b : Bool) → nat_eq x backslash ≡ b → length (x ∷ w) ≡ (if b then 1 + word_length true (w ++ rest) else (if is_word_char x (w ++ rest) then 1 + word_length false (w ++ rest) else 0)) → (if b then escapes_dropped true w else x ∷ escapes_dropped false w) ≢ []
-    here true q k = escaped_some w rest (longer _ w x k) (not_lone_special (nat_eq x backslash) (begins is_special (w ++ rest)) q (allowed Outside x (w ++ rest) g.0).not_lone)
+    here true q k = escaped_some w rest (longer _ w x k) (not_lone_special (nat_eq x backslash) (begins_with is_special (w ++ rest)) q (allowed Outside x (w ++ rest) g.0).not_lone)
     here false q k = λ e. cc
 
 -- ---- names

@@ -4,7 +4,7 @@ use Rattle.std.specs.Option.{option_or}
 use Rattle.std.specs.Str.Lossy.{utf8_valid_len}
 use Rattle.dg_base.specs.declared.refusal.Refusal.{Refusal}
 use Rattle.dg_base.specs.declared.refusal.Kind.TheVariants.{BadByte, SourceTooLong}
-use Rattle.dg_lex.specs.Chars.{newline, backslash, is_special, is_control, begins_too_high, begins, opens_comment}
+use Rattle.dg_lex.specs.Chars.{newline, backslash, is_special, is_control, begins_too_high, begins_with, opens_comment}
 use Rattle.dg_lex.specs.declared.bad.Place.{Place}
 use Rattle.dg_lex.specs.declared.bad.Place.TheVariants.{Outside, Escaped, Comment}
 
@@ -16,7 +16,7 @@ place_behind Comment c behind = if nat_eq c newline then Outside else Comment
 
 -- a backslash outside a comment that no special character follows
 abbrev pub is_lone : Place → ℕ → List ℕ → Bool
-is_lone Outside c behind = nat_eq c backslash && not (begins is_special behind)
+is_lone Outside c behind = nat_eq c backslash && not (begins_with is_special behind)
 is_lone Escaped c behind = false
 is_lone Comment c behind = false
 
@@ -46,5 +46,5 @@ abbrev pub refusal_at : List ℕ → Option ℕ → Option Refusal
 refusal_at source None = None
 refusal_at source (Some at) = Some (record { kind = BadByte; line = 1 + lines (take at source) })
 
-abbrev pub refusal_of : List ℕ → Option Refusal
-refusal_of source = if nat_lt 1048576 (length source) then Some (record { kind = SourceTooLong; line = 1 }) else refusal_at source (first_bad source)
+abbrev pub lex_refusal : List ℕ → Option Refusal
+lex_refusal source = if nat_lt 1048576 (length source) then Some (record { kind = SourceTooLong; line = 1 }) else refusal_at source (first_bad source)

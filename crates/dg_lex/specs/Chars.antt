@@ -51,10 +51,10 @@ abbrev pub is_name_char : ℕ → Bool
 is_name_char c = (is_letter c || is_digit c) || (list_any (nat_eq c) (43 ∷ 45 ∷ 95 ∷ []) || is_past_ascii c)
 
 -- the text begins with a character that passes
-abbrev pub begins : (ℕ → Bool) → List ℕ → Bool
-begins p [] = false
-begins p (c ∷ cs) = p c
+abbrev pub begins_with : (ℕ → Bool) → List ℕ → Bool
+begins_with p [] = false
+begins_with p (c ∷ cs) = p c
 
 -- two percent signs begin here
 abbrev pub opens_comment : ℕ → List ℕ → Bool
-opens_comment c behind = nat_eq c percent && begins (nat_eq percent) behind
+opens_comment c behind = nat_eq c percent && begins_with (nat_eq percent) behind

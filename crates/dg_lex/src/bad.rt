@@ -90,7 +90,7 @@ pub fn lines(text: &[u8]) -> usize
 
 /// Why a source is refused before any token is read: it is too long, or has a bad character.
 pub fn refusal_of(source: &[u8]) -> Option<Refusal>
-    ensures refusal { result ≡ spec.refusal_of source.now }
+    ensures refusal { result ≡ spec.lex_refusal source.now }
     ensures short { IsNone result → length source.now ≤ 1048576 }
 {
     if source.len() > 1_048_576 {

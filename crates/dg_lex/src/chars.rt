@@ -28,7 +28,7 @@ pub fn is_name_char(c: u8) -> bool
 
 /// Whether the text begins with a special character.
 pub fn begins_special(text: &[u8]) -> bool
-    ensures { result ≡ spec.begins spec.is_special text.now }
+    ensures { result ≡ spec.begins_with spec.is_special text.now }
 {
     match text {
         [c, ..] => is_special(*c),

@@ -140,11 +140,11 @@ fn tokens_of(alloc: Global, text: &[u8]) -> Result<Vec<Token<'_>>, AllocError>
 /// The tokens of a source, or why it is refused before any token is read: it has more than 1,048,576 bytes, or a bad character.
 pub fn lex(alloc: Global, source: &[u8]) -> Result<Vec<Token<'_>>, ReadFault>
     ensures tokens { IfOk result (λ tokens. spec.IsLexed source.now tokens.items) }
-    ensures accepted { IfOk result (λ _. bad.refusal_of source.now ≡ None) }
-    ensures memory { IsErrOf result ReadFault.OutOfMemory → bad.refusal_of source.now ≡ None }
+    ensures accepted { IfOk result (λ _. bad.lex_refusal source.now ≡ None) }
+    ensures memory { IsErrOf result ReadFault.OutOfMemory → bad.lex_refusal source.now ≡ None }
     ensures some { IsErrOf result ReadFault.OutOfMemory → 0 < length source.now }
     ensures refused { IfErr result (λ fault. (fault ≡ ReadFault.OutOfMemory) ⊎
-        ((r : _) × (bad.refusal_of source.now ≡ Some r) × (fault ≡ ReadFault.Refused r))) }
+        ((r : _) × (bad.lex_refusal source.now ≡ Some r) × (fault ≡ ReadFault.Refused r))) }
 {
     if let Some(refusal) = refusal_of(source) {
         return Err(ReadFault::Refused(refusal));

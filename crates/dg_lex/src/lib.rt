@@ -3,7 +3,7 @@
 
 ghost use Rattle.std.specs.Prelude.{◌≡◌, ℕ, List, None, All, map};
 ghost use Rattle.dg_base.specs.Sound.{IsName};
-ghost use Rattle.dg_lex.specs.Bad.{refusal_of};
+ghost use Rattle.dg_lex.specs.Bad.{lex_refusal};
 ghost use Rattle.dg_lex.specs.Spelled.{IsSpelled, IsSpelledToken};
 ghost use Rattle.dg_lex.specs.Tokens.{IsLexed, seen};
 ghost use Rattle.dg_lex.specs.declared.token.Token.{Token};
@@ -24,7 +24,7 @@ pub fn tokens_are_one()
 
 /// The words and names of a source that isn't refused are spelled.
 pub fn tokens_are_spelled()
-    ensures { (source : List ℕ) (ts : List Token) → refusal_of source ≡ None → IsLexed source ts → All IsSpelledToken (map seen ts) }
+    ensures { (source : List ℕ) (ts : List Token) → lex_refusal source ≡ None → IsLexed source ts → All IsSpelledToken (map seen ts) }
 {}
 
 /// A text that is spelled can be printed.

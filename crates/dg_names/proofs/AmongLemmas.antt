@@ -17,8 +17,8 @@ use Rattle.dg_base.specs.Tree.{Parts, Said, Item}
 use Rattle.dg_base.specs.declared.names.Builtin.{Builtin}
 use Rattle.dg_base.specs.Readable.{IsReadable}
 use Rattle.dg_names.specs.Among.{HasPred, IsAmong, IsSmall, ArePrintable, AreFew}
-use Rattle.dg_names.specs.Counts.{places_in, rules_in, closures_at, selects_at, is_full, is_excess, are_many_names, are_many, has_excess}
-use Rattle.dg_names.specs.Named.{Named, firsts, is_fixed, predicate_in, object_in, word_in, names_of}
+use Rattle.dg_names.specs.Counts.{places_in, rule_count, closures_at, selects_at, is_full, is_excess, are_many_names, are_many, has_excess}
+use Rattle.dg_names.specs.Named.{Named, firsts, is_fixed, predicate_in, object_in, thing_words, names_of}
 use Rattle.dg_names.proofs.MemberLemmas.{first_there, firsts_are}
 
 -- ---- each name can be printed
@@ -36,7 +36,7 @@ object_plain (topic_line n) h = All-cons IsName n [] h (All-nil IsName)
 object_plain (object n) h = All-cons IsName n [] h (All-nil IsName)
 object_plain t h = All-nil IsName
 
-word_plain : (t : Thing) → IsReadable t → All IsName (word_in t)
+word_plain : (t : Thing) → IsReadable t → All IsName (thing_words t)
 word_plain (word w) h = All-cons IsName w [] h (All-nil IsName)
 word_plain (word_choice ws) h = h
 word_plain t h = All-nil IsName
@@ -55,7 +55,7 @@ pub printable : (is : List Item) → All IsReadable (mentioned is) → ArePrinta
 printable is r = record {
   preds = firsts_plain (names_in predicate_in (mentioned is)) (names_plain predicate_in pred_plain (mentioned is) r);
   objects = firsts_plain (names_in object_in (mentioned is)) (names_plain object_in object_plain (mentioned is) r);
-  words = firsts_plain (names_in word_in (mentioned is)) (names_plain word_in word_plain (mentioned is) r);
+  words = firsts_plain (names_in thing_words (mentioned is)) (names_plain thing_words word_plain (mentioned is) r);
 }
 
 -- ---- what is mentioned is among the names
@@ -80,7 +80,7 @@ each_there ns (w ∷ ws) h = All-cons (λ (u : List ℕ). Contains ns u) w ws (h
 pub record Gives (ts : List Thing) (d : Named) : Type 0 where
   preds : Within (names_in predicate_in ts) d.preds
   objects : Within (names_in object_in ts) d.objects
-  words : Within (names_in word_in ts) d.words
+  words : Within (names_in thing_words ts) d.words
 
 first_gives : (given : Thing → List (List ℕ)) (t : Thing) (ts : List Thing) (ns : List (List ℕ)) → Within (names_in given (t ∷ ts)) ns → Within (given t) ns
 first_gives given t ts ns h n k = h n (Contains-append_left (given t) (names_in given ts) n k)
@@ -88,7 +88,7 @@ first_gives given t ts ns h n k = h n (Contains-append_left (given t) (names_in 
 later_gives : (given : Thing → List (List ℕ)) (t : Thing) (ts : List Thing) (ns : List (List ℕ)) → Within (names_in given (t ∷ ts)) ns → Within (names_in given ts) ns
 later_gives given t ts ns h n k = h n (Contains-append_right (given t) (names_in given ts) n k)
 
-one_among : (d : Named) (t : Thing) → IsReadable t → Within (predicate_in t) d.preds → Within (object_in t) d.objects → Within (word_in t) d.words → IsAmong d t
+one_among : (d : Named) (t : Thing) → IsReadable t → Within (predicate_in t) d.preds → Within (object_in t) d.objects → Within (thing_words t) d.words → IsAmong d t
 one_among d (query r ps) m p o w = pred_among d ps (builtin_named (name_of ps)) refl p
 one_among d (topic_line n) m p o w = o n (first_there n [])
 one_among d (object n) m p o w = o n (first_there n [])
@@ -102,14 +102,14 @@ each_among : (d : Named) (ts : List Thing) → All IsReadable ts → Gives ts d 
 each_among d [] m g = All-nil (IsAmong d)
 each_among d (t ∷ ts) m g =
     All-cons (IsAmong d) t ts
-    (one_among d t (All-head IsReadable t ts m) (first_gives predicate_in t ts d.preds g.preds) (first_gives object_in t ts d.objects g.objects) (first_gives word_in t ts d.words g.words))
-    (each_among d ts (All-tail IsReadable t ts m) (record { preds = later_gives predicate_in t ts d.preds g.preds; objects = later_gives object_in t ts d.objects g.objects; words = later_gives word_in t ts d.words g.words }))
+    (one_among d t (All-head IsReadable t ts m) (first_gives predicate_in t ts d.preds g.preds) (first_gives object_in t ts d.objects g.objects) (first_gives thing_words t ts d.words g.words))
+    (each_among d ts (All-tail IsReadable t ts m) (record { preds = later_gives predicate_in t ts d.preds g.preds; objects = later_gives object_in t ts d.objects g.objects; words = later_gives thing_words t ts d.words g.words }))
 
 pub mentions_among : (is : List Item) → All IsReadable (mentioned is) → All (IsAmong (names_of is)) (mentioned is)
 mentions_among is r = each_among (names_of is) (mentioned is) r (record {
   preds = (firsts_are (names_in predicate_in (mentioned is))).all;
   objects = (firsts_are (names_in object_in (mentioned is))).all;
-  words = (firsts_are (names_in word_in (mentioned is))).all;
+  words = (firsts_are (names_in thing_words (mentioned is))).all;
 })
 
 -- ---- the names are few
@@ -134,7 +134,7 @@ few_names d h =
 pub names_few : (is : List Item) → first_passing has_excess are_many [] is ≡ None → AreFew (names_of is)
 names_few is h =
     few_names (names_of is)
-    (or_parts (are_many_names (names_of is)) (nat_lt 16000 (rules_in is) || (nat_lt 16000 (weight_of closures_at (mentioned is)) || nat_lt 500 (weight_of selects_at (mentioned is)))) (passed_on [] is refl h)).0
+    (or_parts (are_many_names (names_of is)) (nat_lt 16000 (rule_count is) || (nat_lt 16000 (weight_of closures_at (mentioned is)) || nat_lt 500 (weight_of selects_at (mentioned is)))) (passed_on [] is refl h)).0
 
 -- ---- what is mentioned is small
 

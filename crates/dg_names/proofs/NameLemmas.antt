@@ -11,8 +11,8 @@ use Rattle.dg_base.specs.declared.refusal.ReadFault.{ReadFault}
 use Rattle.dg_base.specs.declared.refusal.ReadFault.TheVariants.{Refused}
 use Rattle.dg_base.proofs.MentionLemmas.{names_append, weight_append, mentioned_push}
 use Rattle.dg_base.proofs.PassingLemmas as one
-use Rattle.dg_names.specs.Named.{Named, predicate_in, object_in, word_in, names_of}
-use Rattle.dg_names.specs.Counts.{is_rule, rules_in, has_excess, closures_at, selects_at, are_many_names, are_many, IsNamed}
+use Rattle.dg_names.specs.Named.{Named, predicate_in, object_in, thing_words, names_of}
+use Rattle.dg_names.specs.Counts.{is_rule, rule_count, has_excess, closures_at, selects_at, are_many_names, are_many, IsNamed}
 use Rattle.dg_names.specs.Scopes.{with_names}
 use Rattle.dg_names.specs.State.{Told, told, behind, untold, told_on, told_names, has_many}
 use Rattle.dg_names.proofs.FirstLemmas.{firsts_of, with_append}
@@ -37,7 +37,7 @@ weight_on f k a b = omega (arith, weight_append f a b)
 
 pub told_append : (a b : List Thing) (t : Told) → told (a ++ b) t ≡ told b (told a t)
 told_append a b t = same_told _ _ _ _ _ _ _ _ _ _ _ _
-    (names_on predicate_in t.preds a b) (names_on object_in t.objects a b) (names_on word_in t.words a b)
+    (names_on predicate_in t.preds a b) (names_on object_in t.objects a b) (names_on thing_words t.words a b)
     (weight_on closures_at t.closures a b) (weight_on selects_at t.selects a b) refl
 
 -- ---- all items at once
@@ -48,15 +48,15 @@ swapped true false x = refl
 swapped false true x = refl
 swapped false false x = refl
 
-rules_push : (before : List Item) (i : Item) → rules_in (before ++ i ∷ []) ≡ (if is_rule i.said then rules_in before + 1 else rules_in before)
+rules_push : (before : List Item) (i : Item) → rule_count (before ++ i ∷ []) ≡ (if is_rule i.said then rule_count before + 1 else rule_count before)
 rules_push [] i = refl
 rules_push (j ∷ before) i =
     ap (λ (n : ℕ). if is_rule j.said then n + 1 else n) (rules_push before i)
-    ∙ swapped (is_rule j.said) (is_rule i.said) (rules_in before)
+    ∙ swapped (is_rule j.said) (is_rule i.said) (rule_count before)
 
 -- what is told of these items
 abbrev counted : List Item → Told
-counted is = record (told (mentioned is) untold) { rules = rules_in is }
+counted is = record (told (mentioned is) untold) { rules = rule_count is }
 
 pub counted_push : (before : List Item) (i : Item) → counted (before ++ i ∷ []) ≡ behind (counted before) i.said
 counted_push before i =
@@ -64,7 +64,7 @@ counted_push before i =
     same_told _ _ _ _ _ _ _ _ _ _ _ _
     (ap (λ (l : List Thing). with_names [] (names_in predicate_in l)) all ∙ names_on predicate_in [] (mentioned before) (things_in i.said))
     (ap (λ (l : List Thing). with_names [] (names_in object_in l)) all ∙ names_on object_in [] (mentioned before) (things_in i.said))
-    (ap (λ (l : List Thing). with_names [] (names_in word_in l)) all ∙ names_on word_in [] (mentioned before) (things_in i.said))
+    (ap (λ (l : List Thing). with_names [] (names_in thing_words l)) all ∙ names_on thing_words [] (mentioned before) (things_in i.said))
     (ap (λ (l : List Thing). 0 + weight_of closures_at l) all ∙ weight_on closures_at 0 (mentioned before) (things_in i.said))
     (ap (λ (l : List Thing). 0 + weight_of selects_at l) all ∙ weight_on selects_at 0 (mentioned before) (things_in i.said))
     (rules_push before i)
@@ -84,16 +84,16 @@ named_all : (is : List Item) → told_names (counted is) ≡ names_of is
 named_all is =
     ap (λ (x : List (List ℕ)). named x (counted is).objects (counted is).words) (firsts_of (names_in predicate_in (mentioned is)))
     ∙ ap (λ (x : List (List ℕ)). named (names_of is).preds x (counted is).words) (firsts_of (names_in object_in (mentioned is)))
-    ∙ ap (λ (x : List (List ℕ)). named (names_of is).preds (names_of is).objects x) (firsts_of (names_in word_in (mentioned is)))
+    ∙ ap (λ (x : List (List ℕ)). named (names_of is).preds (names_of is).objects x) (firsts_of (names_in thing_words (mentioned is)))
   where
     named : List (List ℕ) → List (List ℕ) → List (List ℕ) → Named
     named p o w = record { preds = p; objects = o; words = w }
 
 many_same : (is : List Item) → has_many (counted is) ≡ are_many is
 many_same is =
-    ap (λ (d : Named). are_many_names d || (nat_lt 16000 (rules_in is) || (nat_lt 16000 (0 + weight_of closures_at (mentioned is)) || nat_lt 500 (0 + weight_of selects_at (mentioned is))))) (named_all is)
-    ∙ ap (λ (k : ℕ). are_many_names (names_of is) || (nat_lt 16000 (rules_in is) || (nat_lt 16000 k || nat_lt 500 (0 + weight_of selects_at (mentioned is))))) (omega arith)
-    ∙ ap (λ (k : ℕ). are_many_names (names_of is) || (nat_lt 16000 (rules_in is) || (nat_lt 16000 (weight_of closures_at (mentioned is)) || nat_lt 500 k))) (omega arith)
+    ap (λ (d : Named). are_many_names d || (nat_lt 16000 (rule_count is) || (nat_lt 16000 (0 + weight_of closures_at (mentioned is)) || nat_lt 500 (0 + weight_of selects_at (mentioned is))))) (named_all is)
+    ∙ ap (λ (k : ℕ). are_many_names (names_of is) || (nat_lt 16000 (rule_count is) || (nat_lt 16000 k || nat_lt 500 (0 + weight_of selects_at (mentioned is))))) (omega arith)
+    ∙ ap (λ (k : ℕ). are_many_names (names_of is) || (nat_lt 16000 (rule_count is) || (nat_lt 16000 (weight_of closures_at (mentioned is)) || nat_lt 500 k))) (omega arith)
 
 -- the first of these items at which a count passes
 abbrev pub passing_in : Told → List Item → Option Item

@@ -28,10 +28,10 @@ object_in (object n) = n ∷ []
 object_in t = []
 
 -- A word, or the words of a choice.
-abbrev pub word_in : Thing → List (List ℕ)
-word_in (word w) = w ∷ []
-word_in (word_choice ws) = ws
-word_in t = []
+abbrev pub thing_words : Thing → List (List ℕ)
+thing_words (word w) = w ∷ []
+thing_words (word_choice ws) = ws
+thing_words t = []
 
 -- Predicates, objects and words.
 pub record Named : Type 0 where
@@ -44,5 +44,5 @@ abbrev pub names_of : List Item → Named
 names_of is = record {
   preds = firsts (names_in predicate_in (mentioned is));
   objects = firsts (names_in object_in (mentioned is));
-  words = firsts (names_in word_in (mentioned is));
+  words = firsts (names_in thing_words (mentioned is));
 }

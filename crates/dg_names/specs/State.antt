@@ -5,7 +5,7 @@ use Rattle.indexmap.specs.IndexSet.{IndexSet}
 use Rattle.dg_base.specs.Tree.{Said, Item}
 use Rattle.dg_base.specs.Mentions.{Thing, things_in, names_in, weight_of}
 use Rattle.dg_base.specs.Walk.{Met}
-use Rattle.dg_names.specs.Named.{Named, predicate_in, object_in, word_in}
+use Rattle.dg_names.specs.Named.{Named, predicate_in, object_in, thing_words}
 use Rattle.dg_names.specs.Counts.{closures_at, selects_at, is_rule, are_many_names}
 use Rattle.dg_names.specs.Scopes as spec
 use Rattle.dg_names.specs.Scopes.{with_names, is_over, passes}
@@ -48,7 +48,7 @@ abbrev pub told : List Thing → Told → Told
 told ts t = record {
   preds = with_names t.preds (names_in predicate_in ts);
   objects = with_names t.objects (names_in object_in ts);
-  words = with_names t.words (names_in word_in ts);
+  words = with_names t.words (names_in thing_words ts);
   closures = t.closures + weight_of closures_at ts;
   selects = t.selects + weight_of selects_at ts;
   rules = t.rules;

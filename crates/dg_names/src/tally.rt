@@ -7,7 +7,7 @@ ghost use Rattle.dg_base.specs.Mentions.{query, names_in, weight_of};
 ghost use Rattle.dg_base.specs.Walk.{mention_view, thing_at, seen, things_at};
 ghost use Rattle.dg_names.specs.Counts.{closures_at, selects_at};
 ghost use Rattle.dg_names.specs.Named as spec;
-ghost use Rattle.dg_names.specs.Named.{predicate_in, object_in, word_in};
+ghost use Rattle.dg_names.specs.Named.{predicate_in, object_in, thing_words};
 ghost use Rattle.dg_names.specs.Scopes.{with_name, with_names};
 ghost use Rattle.dg_names.specs.State.{listed, told, tally_view};
 
@@ -62,7 +62,7 @@ fn tell_names(alloc: Global, sets: &mut Sets, mention: Mention<'_>) -> Result<()
     ensures preds { OnOk result (listed sets.new.preds ≡ with_names (listed sets.old.preds) (names_in predicate_in (thing_at (mention_view mention.entry)))) }
     ensures objects { OnOk result (listed sets.new.objects ≡
         with_names (listed sets.old.objects) (names_in object_in (thing_at (mention_view mention.entry)))) }
-    ensures words { OnOk result (listed sets.new.words ≡ with_names (listed sets.old.words) (names_in word_in (thing_at (mention_view mention.entry)))) }
+    ensures words { OnOk result (listed sets.new.words ≡ with_names (listed sets.old.words) (names_in thing_words (thing_at (mention_view mention.entry)))) }
 {
     match mention {
         Mention::Query(role, head) => add_predicate(alloc, &mut sets.preds, role, head),

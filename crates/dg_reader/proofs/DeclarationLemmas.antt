@@ -14,7 +14,7 @@ use Rattle.dg_reader.specs.Grammar.{Shape, topic_line, clause, plain_rule, negat
 use Rattle.dg_reader.specs.Heads.{is_reserved, is_unsigned, is_empty_body, declared_query, declares_query, keeps_declaration_rules, queries_have_values, keeps_access_rules, keeps_own_rules, keeps_rules, keeps_topic_rule, fault_of}
 use Rattle.dg_reader.specs.Profile as profile
 use Rattle.dg_reader.specs.Profile.{has_refused, has_topic}
-use Rattle.dg_reader.specs.Read.{declared, said_of, fault_in, is_topic, ReadTo}
+use Rattle.dg_reader.specs.Read.{declared, said_of, item_fault, is_topic, ReadTo}
 
 -- ---- one declaration
 
@@ -92,7 +92,7 @@ declaration_kept before ps b d h = here (declared_query ps) refl allows
 
 -- ---- all of them
 
-shape_kept : (before : Bool) (shape : Shape) → fault_in before shape ≡ None → IsDeclaration before (said_of shape)
+shape_kept : (before : Bool) (shape : Shape) → item_fault before shape ≡ None → IsDeclaration before (said_of shape)
 shape_kept before (topic_line n) h = tt
 shape_kept before (clause negated ps b) h = tt
 shape_kept before (clause access_rule ps b) h = tt

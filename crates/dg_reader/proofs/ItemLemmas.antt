@@ -13,7 +13,7 @@ use Rattle.dg_reader.specs.Grammar.{Shape, InItem, IsUnclosed, IsUnexpectedAt}
 use Rattle.dg_reader.specs.inside.Machine.{Outcome, done, unclosed, at_end, outcome_from, outcome}
 use Rattle.dg_reader.specs.inside.Items.{IsOpen, EndsAs}
 use Rattle.dg_reader.proofs.Laws.{Says, outcome_says}
-use Rattle.dg_reader.specs.Read.{toks, all_behind, begins_item, IsFront, is_topic, behind_topic, said_of, IsItemAt, ReadTo, IsFaultOf, line_at, IsRefusedAt, not_closed, not_expected, not_allowed, IsRefusedIn, IsRead, fault_in}
+use Rattle.dg_reader.specs.Read.{toks, all_behind, begins_item, IsFront, is_topic, behind_topic, said_of, IsItemAt, ReadTo, IsFaultOf, line_at, IsRefusedAt, not_closed, not_expected, not_allowed, IsRefusedIn, IsRead, item_fault}
 use Rattle.dg_base.specs.Faults.{IsFault}
 use Rattle.dg_reader.proofs.FaultLemmas.{fault_map}
 
@@ -40,7 +40,7 @@ front_all t ts h = record { split = ap (λ (l : List Seen). t ∷ l) (sym (appen
 in_column : (t : Seen) (ts : List Tok) (shape : Shape) → t.first ≡ true → InItem true ts shape → InItem t.first ts shape
 in_column t ts shape e h = subst (λ (b : Bool). InItem b ts shape) (sym e) h
 
-pub whole_item : (before : Bool) (ts : List Token) (d : Token) (shape : Shape) (item : Item) → 0 < length ts → all_behind (map seen (drop 1 ts)) ≡ true → (get_or ts 0 d).first ≡ true → EndsAs (map token_view ts) shape → fault_in before shape ≡ None → item ≡ record { line = (get_or ts 0 d).line; said = said_of shape } → IsItemAt before (map seen ts) item []
+pub whole_item : (before : Bool) (ts : List Token) (d : Token) (shape : Shape) (item : Item) → 0 < length ts → all_behind (map seen (drop 1 ts)) ≡ true → (get_or ts 0 d).first ≡ true → EndsAs (map token_view ts) shape → item_fault before shape ≡ None → item ≡ record { line = (get_or ts 0 d).line; said = said_of shape } → IsItemAt before (map seen ts) item []
 whole_item before [] d shape item some alone column h none is = absurd (omega arith)
 whole_item before (t ∷ ts) d shape item some alone column h none is = record {
   first = seen t;

@@ -14,7 +14,7 @@ use Rattle.dg_base.specs.Tree.{part_word, part_value, Parts, no_parts, part}
 use Rattle.dg_lex.specs.Spelled.{IsClean, IsText, IsSpelled}
 use Rattle.dg_lex.proofs.TextLemmas.{name_from, seam, one_utf8, moved, back_moved, special_small}
 use Rattle.dg_reader.specs.Tokens as tokens
-use Rattle.dg_reader.specs.Tokens.{slash, begins_otherwise, is_cut, word_parts}
+use Rattle.dg_reader.specs.Tokens.{slash, begins_otherwise, is_slash_cut, word_parts}
 
 -- ---- names of heads
 
@@ -79,20 +79,20 @@ not_nil : (ys : List ℕ) (y : ℕ) → ys ++ y ∷ [] ≡ [] → ⊥
 not_nil [] y e = cc
 not_nil (z ∷ ys) y e = cc
 
-pieces_named : (before : ℕ) (part text : List ℕ) → IsUtf8 (part ++ text) → All IsClean part → All IsClean text → (part ≡ [] → before ≡ slash) → (part ≡ [] → text ≢ []) → All IsName (tokens.parts_behind before part text)
+pieces_named : (before : ℕ) (part text : List ℕ) → IsUtf8 (part ++ text) → All IsClean part → All IsClean text → (part ≡ [] → before ≡ slash) → (part ≡ [] → text ≢ []) → All IsName (tokens.cut_parts before part text)
 pieces_named before piece [] u c d first some =
     All-cons IsName piece [] (name_from piece (record { text = record { utf8 = subst IsUtf8 (append-nil piece) u; clean = c }; some = λ e. some e refl })) (All-nil IsName)
 pieces_named before piece (x ∷ xs) u c d first some =
-    here (is_cut before x xs) refl (λ v s. pieces_named slash [] xs v (All-nil IsClean) (All-tail IsClean x xs d) (λ e. refl) s)
+    here (is_slash_cut before x xs) refl (λ v s. pieces_named slash [] xs v (All-nil IsClean) (All-tail IsClean x xs d) (λ e. refl) s)
     (pieces_named x (piece ++ x ∷ []) xs (moved piece x xs u) (All-append IsClean piece (x ∷ []) c (All-cons IsClean x [] (All-head IsClean x xs d) (All-nil IsClean))) (All-tail IsClean x xs d) (λ e. absurd (not_nil piece x e)) (λ e. absurd (not_nil piece x e)))
   where
-    here : (b : Bool) → is_cut before x xs ≡ b → (IsUtf8 xs → (◌≡◌ {A = List ℕ} [] [] → xs ≢ []) → All IsName (tokens.parts_behind slash [] xs)) → All IsName (tokens.parts_behind x (piece ++ x ∷ []) xs) → All IsName (if b then piece ∷ tokens.parts_behind slash [] xs else tokens.parts_behind x (piece ++ x ∷ []) xs)
+    here : (b : Bool) → is_slash_cut before x xs ≡ b → (IsUtf8 xs → (◌≡◌ {A = List ℕ} [] [] → xs ≢ []) → All IsName (tokens.cut_parts slash [] xs)) → All IsName (tokens.cut_parts x (piece ++ x ∷ []) xs) → All IsName (if b then piece ∷ tokens.cut_parts slash [] xs else tokens.cut_parts x (piece ++ x ∷ []) xs)
     here true q cuts goes =
         let each = and_parts (nat_eq x slash) (not (nat_eq before slash) && begins_otherwise xs) q in
         let rest = and_parts (not (nat_eq before slash)) (begins_otherwise xs) each.1 in
         let small : x < 128 = grind (arith, nat_tests, each.0) in
         let sides = seam piece x xs small u in
-        All-cons IsName piece (tokens.parts_behind slash [] xs)
+        All-cons IsName piece (tokens.cut_parts slash [] xs)
         (name_from piece (record { text = record { utf8 = sides.0; clean = c }; some = λ e. let same : nat_eq before slash ≡ true = ap (λ (n : ℕ). nat_eq n slash) (first e) in let no : true ≡ false = sym rest.0 ∙ ap not same in cc }))
         (cuts sides.1 (λ e f. let no : true ≡ false = sym rest.1 ∙ ap begins_otherwise f in cc))
     here false q cuts goes = goes

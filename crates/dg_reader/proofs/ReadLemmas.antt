@@ -11,7 +11,7 @@ use Rattle.dg_reader.specs.Tokens.{Tok}
 use Rattle.dg_reader.specs.Grammar.{Shape, InItem, HasShape}
 use Rattle.dg_reader.specs.Grammar.{IsUnclosed, IsUnexpected, IsUnexpectedAt}
 use Rattle.dg_reader.proofs.Laws.{shape_decided}
-use Rattle.dg_reader.specs.Read.{toks, all_behind, begins_item, IsFront, item_of, is_topic, behind_topic, IsItemAt, ReadTo, IsFaultOf, line_at, IsRefusedAt, not_closed, not_expected, not_allowed, IsRead, fault_in}
+use Rattle.dg_reader.specs.Read.{toks, all_behind, begins_item, IsFront, item_of, is_topic, behind_topic, IsItemAt, ReadTo, IsFaultOf, line_at, IsRefusedAt, not_closed, not_expected, not_allowed, IsRead, item_fault}
 
 -- ## Fronts
 
@@ -138,7 +138,7 @@ clash before ts i r s h (not_closed f o q front u e) =
 clash before ts i r s h (not_expected f o q front n u e) =
     whole_unexpected f.first (toks (f ∷ o)) n u [] (subst (λ (l : List Tok). HasShape f.first l) (sym (append-nil (toks (f ∷ o)))) (item_there ts h.first f h.others o r q h.front front (record { shape = h.shape; item = h.shaped })))
 clash before ts i r s h (not_allowed f o q front shape a e) =
-    no_fault (fault_in before h.shape) (fault_in before shape) e.kind (ap (fault_in before) (shape_one ts h.first f h.others o r q h.shape shape h.front front h.shaped a)) h.allowed e.fault
+    no_fault (item_fault before h.shape) (item_fault before shape) e.kind (ap (item_fault before) (shape_one ts h.first f h.others o r q h.shape shape h.front front h.shaped a)) h.allowed e.fault
   where
     no_fault : (x y : Option Kind) (k : Kind) → x ≡ y → x ≡ None → y ≡ Some k → ⊥
     no_fault x y k a b c = cc
@@ -152,7 +152,7 @@ shaped_stopped ts f g o p r q s h k a u = u [] (subst (λ (l : List Tok). HasSha
 
 faults_one : (before : Bool) (l m : ℕ) (s t : Shape) (a b : Refusal) → l ≡ m → s ≡ t → IsFaultOf before l s a → IsFaultOf before m t b → a ≡ b
 faults_one before l m s t a b lines shapes h k =
-    let kinds : Some h.kind ≡ Some k.kind = sym h.fault ∙ ap (fault_in before) shapes ∙ k.fault in
+    let kinds : Some h.kind ≡ Some k.kind = sym h.fault ∙ ap (item_fault before) shapes ∙ k.fault in
     cc
 
 at_one : (before : Bool) (ts : List Seen) (r s : Refusal) → IsRefusedAt before ts r → IsRefusedAt before ts s → r ≡ s

@@ -19,7 +19,7 @@ use Rattle.dg_reader.specs.Grammar.{Bare, now_word, if_word, then_word, elseif_w
 use Rattle.dg_reader.specs.Read.{toks, declared, said_of, IsItemAt, ReadTo}
 use Rattle.dg_base.specs.Readable.{IsReadable}
 use Rattle.dg_reader.specs.TokenView.{kind_view}
-use Rattle.dg_reader.specs.Tokens.{Tok, word, dict, object, var, anon, at, open_round, close_round, open_square, close_square, open_brace, close_brace, bar, star, tilde, are_digits, digits_value, number_of}
+use Rattle.dg_reader.specs.Tokens.{Tok, word, dict, object, var, anon, at, open_round, close_round, open_square, close_square, open_brace, close_brace, bar, star, tilde, are_digits, digits_value, digits_number}
 use Rattle.dg_reader.proofs.PartLemmas.{WordsSpelled, head_named, choice_named}
 
 -- ---- mentions
@@ -143,7 +143,7 @@ item_sign access_rule r = behind at r
 named : (w : List ℕ) (t u : Tok) → IsSpelledTok u ≡ IsSpelled w → IsSpelledTok t → t ≡ u → IsName w
 named w t u same s e = name_from w (subst (λ (A : Type 0). A) same (subst IsSpelledTok e s))
 
-in_range : (w : List ℕ) (n : ℕ) → number_of w ≡ Some n → n ≤ 16383
+in_range : (w : List ℕ) (n : ℕ) → digits_number w ≡ Some n → n ≤ 16383
 in_range w n h = here (nat_le (digits_value 0 w) 16383) refl h
   where
     here : (b : Bool) → nat_le (digits_value 0 w) 16383 ≡ b → (if b then Some (digits_value 0 w) else None) ≡ Some n → n ≤ 16383

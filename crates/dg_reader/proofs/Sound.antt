@@ -2,7 +2,7 @@
 use Rattle.std.proofs.Common.{◌≡◌, ℕ, List, [], ◌∷◌, ◌++◌, Bool, true, false, Option, Some, None, refl, sym, ◌∙◌, ap, subst}
 use Rattle.std.specs.Prelude.{if◌then◌else◌}
 use Rattle.dg_base.specs.Tree.{Part, part_word, part_value, Value, num, dict_word, object_name, current_topic, word_choice, Stmt, text, print, parts_of, stmts_of}
-use Rattle.dg_reader.specs.Tokens.{Tok, word, dict, object, open_round, open_square, star, are_digits, number_of, word_parts, are_several}
+use Rattle.dg_reader.specs.Tokens.{Tok, word, dict, object, open_round, open_square, star, are_digits, digits_number, word_parts, are_several}
 use Rattle.dg_reader.specs.Grammar.{Follow, OneAt, TokenAt, Place, of_head, of_nested, of_query, of_list, behind_bar, printed, has_choices, SpellsNumber, SpellsElement, SpellsWord, SpellsChoice, IsPrinted, ChangeSignAt, PartAt, PartsAt, ValueAt, StmtAt, StmtsAt, head_place, SignAt}
 use Rattle.dg_reader.specs.inside.Machine.{Owner, of_item, of_closure, Frame, start, start_of, whole_topic, in_head, in_nested, in_query, in_change, in_list, in_tail, in_list_end, behind_star, behind_tilde, behind_now, in_changes, behind_clear, in_body, Stack, wrapped, put_stmt, put_part, put_element, put_value, put_printed, put_number, word_part, element_of, word_element, word_value, put_word, put_star, put_object}
 use Rattle.dg_reader.proofs.More.{Leads}
@@ -196,10 +196,10 @@ dict_reads w st fits =
     (λ new r. instead st new (ValueAt (place_in st) (dict_word w)) (TokenAt (dict w)) (λ K. of_token (SpellsWord (place_in st) w) (dict w) K (dict_spells (place_in st) w)) r)
     (put_printed_reads (dict_word w) st fits tt)
 
-pub number_reads : (w : List ℕ) (st : Stack) → FitsStack st → are_digits w ≡ true → Each (put_number (number_of w) st) (Reads st (TokenAt (word w)))
-number_reads w st fits digits = here (number_of w) refl
+pub number_reads : (w : List ℕ) (st : Stack) → FitsStack st → are_digits w ≡ true → Each (put_number (digits_number w) st) (Reads st (TokenAt (word w)))
+number_reads w st fits digits = here (digits_number w) refl
   where
-    here : (o : Option ℕ) → number_of w ≡ o → Each (put_number o st) (Reads st (TokenAt (word w)))
+    here : (o : Option ℕ) → digits_number w ≡ o → Each (put_number o st) (Reads st (TokenAt (word w)))
     here None is = tt
     here (Some n) is =
         each_map (put_value (num n) st) _ _
@@ -208,7 +208,7 @@ number_reads w st fits digits = here (number_of w) refl
 
 word_part_reads : (w : List ℕ) (st : Stack) → FitsStack st → Each (word_part w st) (Reads st (TokenAt (word w)))
 word_part_reads w st fits =
-    each_if (are_digits w) (put_number (number_of w) st) (put_part (part_word w) st) (Reads st (TokenAt (word w)))
+    each_if (are_digits w) (put_number (digits_number w) st) (put_part (part_word w) st) (Reads st (TokenAt (word w)))
     (λ e. number_reads w st fits e)
     (λ e. each_map (put_part (part_word w) st) _ _ (λ new r. instead st new (PartAt (place_in st) (part_word w)) (TokenAt (word w)) (λ K ts a. (e, a)) r) (put_part_reads (part_word w) st fits))
 
@@ -224,12 +224,12 @@ element_spelled true w K e = here (are_several (word_parts w)) refl
 word_element_reads : (c : Bool) (w : List ℕ) (vs : List Value) (below : Stack) → FitsStack (in_list c vs ∷ below) → Each (word_element c w (in_list c vs ∷ below)) (Reads (in_list c vs ∷ below) (TokenAt (word w)))
 word_element_reads c w vs below fits =
     let st = in_list c vs ∷ below in
-    each_if (are_digits w) (put_number (number_of w) st) (put_element (element_of c w) st) (Reads st (TokenAt (word w)))
+    each_if (are_digits w) (put_number (digits_number w) st) (put_element (element_of c w) st) (Reads st (TokenAt (word w)))
     (λ e. number_reads w st fits e)
     (λ e. each_map (put_element (element_of c w) st) _ _ (λ new r. instead st new (ValueAt (of_list c) (element_of c w)) (TokenAt (word w)) (λ K. element_spelled c w K e) r) (put_element_reads (element_of c w) st fits))
 
 word_value_reads : (w : List ℕ) (st : Stack) → FitsStack st → Each (word_value w st) (Reads st (TokenAt (word w)))
-word_value_reads w st fits = each_if (are_digits w) (put_number (number_of w) st) None (Reads st (TokenAt (word w))) (λ e. number_reads w st fits e) (λ e. tt)
+word_value_reads w st fits = each_if (are_digits w) (put_number (digits_number w) st) None (Reads st (TokenAt (word w))) (λ e. number_reads w st fits e) (λ e. tt)
 
 pub word_reads : (w : List ℕ) (st : Stack) → FitsStack st → Each (put_word w st) (Reads st (TokenAt (word w)))
 word_reads w (in_list c vs ∷ below) fits = word_element_reads c w vs below fits

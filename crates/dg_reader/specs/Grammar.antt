@@ -5,7 +5,7 @@ use Rattle.std.specs.Str.{bytes_eq}
 use Rattle.dg_base.specs.Tree.{Part, part_word, part_value, Parts, no_parts, part, Value, num, dict_word, object_name, current_topic, anonymous, variable, plain_list, tailed_list, closure, nested, word_choice, Values, no_values, value, Stmt, text, print, ask, ask_all, ask_not, group, not_group, now, choice, choice_else, exhaust, stoppable, collect, accumulate, select, first_answer, Stmts, no_stmts, stmt, Body, no_branches, branch, Arms, no_arms, arm, Changes, no_changes, change}
 use Rattle.dg_base.specs.declared.program.Mode.{Mode}
 use Rattle.dg_base.specs.declared.program.Mode.TheVariants.{Stopping, Cycling, PurelyAtRandom, AtRandom, ThenAtRandom, ThenPurelyAtRandom}
-use Rattle.dg_reader.specs.Tokens.{Tok, word, dict, object, var, anon, at, open_round, close_round, open_square, close_square, open_brace, close_brace, bar, star, tilde, are_digits, number_of, word_parts, is_choice}
+use Rattle.dg_reader.specs.Tokens.{Tok, word, dict, object, var, anon, at, open_round, close_round, open_square, close_square, open_brace, close_brace, bar, star, tilde, are_digits, digits_number, word_parts, is_choice}
 
 -- ---- keywords
 
@@ -157,7 +157,7 @@ TakesQuery p = ⊥
 
 -- A word of digits spells this number.
 abbrev pub SpellsNumber : ℕ → Tok → Type 0
-SpellsNumber n (word w) = (are_digits w ≡ true) × (number_of w ≡ Some n)
+SpellsNumber n (word w) = (are_digits w ≡ true) × (digits_number w ≡ Some n)
 SpellsNumber n t = ⊥
 
 -- A word that isn't a choice, where choices may stand.

@@ -60,8 +60,8 @@ abbrev pub said_of : Shape → Said
 said_of shape = declared_or (signed_of shape)
 
 -- Why an item of this shape is refused, if it is.
-abbrev pub fault_in : Bool → Shape → Option Kind
-fault_in behind_topic shape = fault_of behind_topic (signed_of shape)
+abbrev pub item_fault : Bool → Shape → Option Kind
+item_fault behind_topic shape = fault_of behind_topic (signed_of shape)
 
 -- An item of this shape, on the line of its first token.
 abbrev pub item_of : Seen → Shape → Item
@@ -88,13 +88,13 @@ pub record IsItemAt (before : Bool) (ts : List Seen) (item : Item) (rest : List 
   pub front : IsFront ts first others rest
   pub shape : Shape
   pub shaped : InItem first.first (toks (first ∷ others)) shape
-  pub allowed : fault_in before shape ≡ None
+  pub allowed : item_fault before shape ≡ None
   pub is : item ≡ item_of first shape
 
 -- An item of this shape, on this line, is refused so.
 pub record IsFaultOf (before : Bool) (line : ℕ) (shape : Shape) (r : Refusal) : Type 0 where
   pub kind : Kind
-  pub fault : fault_in before shape ≡ Some kind
+  pub fault : item_fault before shape ≡ Some kind
   pub is : r ≡ record { kind = kind; line = line }
 
 -- the line of the token of this number among these

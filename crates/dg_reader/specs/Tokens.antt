@@ -31,8 +31,8 @@ digits_value high [] = high
 digits_value high (c ∷ cs) = digits_value (10 * high + (c - 48)) cs
 
 -- The number that a word of digits spells, where it isn't too great.
-abbrev pub number_of : List ℕ → Option ℕ
-number_of w = if nat_le (digits_value 0 w) 16383 then Some (digits_value 0 w) else None
+abbrev pub digits_number : List ℕ → Option ℕ
+digits_number w = if nat_le (digits_value 0 w) 16383 then Some (digits_value 0 w) else None
 
 abbrev pub slash : ℕ
 slash = 47
@@ -43,17 +43,17 @@ begins_otherwise [] = false
 begins_otherwise (c ∷ cs) = not (nat_eq c slash)
 
 -- Whether a character, between one before it and a text behind it, is a slash between two others.
-abbrev pub is_cut : ℕ → ℕ → List ℕ → Bool
-is_cut before c behind = nat_eq c slash && (not (nat_eq before slash) && begins_otherwise behind)
+abbrev pub is_slash_cut : ℕ → ℕ → List ℕ → Bool
+is_slash_cut before c behind = nat_eq c slash && (not (nat_eq before slash) && begins_otherwise behind)
 
 -- The parts of a text that stands behind this character and this begin of a part.
-abbrev pub parts_behind : ℕ → List ℕ → List ℕ → List (List ℕ)
-parts_behind before part [] = part ∷ []
-parts_behind before part (c ∷ cs) = if is_cut before c cs then part ∷ parts_behind slash [] cs else parts_behind c (part ++ c ∷ []) cs
+abbrev pub cut_parts : ℕ → List ℕ → List ℕ → List (List ℕ)
+cut_parts before part [] = part ∷ []
+cut_parts before part (c ∷ cs) = if is_slash_cut before c cs then part ∷ cut_parts slash [] cs else cut_parts c (part ++ c ∷ []) cs
 
 -- A word, cut at each slash that stands between two other characters.
 abbrev pub word_parts : List ℕ → List (List ℕ)
-word_parts w = parts_behind slash [] w
+word_parts w = cut_parts slash [] w
 
 -- Whether these are several.
 abbrev pub are_several : List (List ℕ) → Bool

@@ -1,7 +1,7 @@
 // One more part, value, statement or change of what stands open.
 ghost use Rattle.std.specs.Prelude.{◌≡◌, ◌∷◌, map, Some, Err};
 ghost use Rattle.dg_base.specs.TreeView.{part_view, value_view, stmt_view, head_view, branch_view};
-ghost use Rattle.dg_reader.specs.Tokens.{number_of};
+ghost use Rattle.dg_reader.specs.Tokens.{digits_number};
 ghost use Rattle.dg_reader.specs.inside.Machine as machine;
 ghost use Rattle.dg_reader.specs.declared.frames.Stop.TheVariants.{Unexpected};
 ghost use Rattle.dg_reader.specs.inside.Frames.{stack_view, frame_view, owner_view, wrapper_view, Moves};
@@ -181,7 +181,7 @@ pub fn put_printed(alloc: Global, stack: &mut Vec<Frame>, value: Value) -> Resul
 }
 
 fn put_number(stack: &mut Vec<Frame>, word: &[u8]) -> Result<(), Stop>
-    ensures { Moves (machine.put_number (number_of word.now) (stack_view stack.old.items)) result (stack_view stack.new.items) }
+    ensures { Moves (machine.put_number (digits_number word.now) (stack_view stack.old.items)) result (stack_view stack.new.items) }
 {
     match number(word) {
         Some(n) => put_value(stack, num(n)),

@@ -52,7 +52,7 @@ fn no_memory(said: ItemBody) -> Result<Item, ReadFault>
 
 // An item of this shape, where it has no fault.
 fn allowed(alloc: Global, before: bool, line: u32, shape: Shape) -> Result<Item, ReadFault>
-    ensures item { IfOk result (λ item. (spec.fault_in before (shape_view shape) ≡ None) × (item_view item ≡ record {
+    ensures item { IfOk result (λ item. (spec.item_fault before (shape_view shape) ≡ None) × (item_view item ≡ record {
       line = line;
       said = spec.said_of (shape_view shape);
     })) }

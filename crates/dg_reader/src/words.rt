@@ -3,7 +3,7 @@ ghost use Rattle.std.specs.Prelude.{◌≡◌, IfOk};
 ghost use Rattle.std.specs.Str.{bytes_eq};
 ghost use Rattle.dg_base.specs.TreeView.{value_view};
 ghost use Rattle.dg_lex.specs.Spelled.{without_escapes};
-ghost use Rattle.dg_reader.specs.Tokens.{are_digits, number_of, is_cut, word_parts};
+ghost use Rattle.dg_reader.specs.Tokens.{are_digits, digits_number, is_slash_cut, word_parts};
 ghost use Rattle.dg_reader.specs.inside.Machine.{element_of};
 
 use dg_base::{Items, Name, Value};
@@ -40,7 +40,7 @@ pub fn is_number(word: &[u8]) -> bool
 
 /// The value of a word of digits, where it isn't too great.
 pub fn number(word: &[u8]) -> Option<u16>
-    ensures { result ≡ number_of word.now }
+    ensures { result ≡ digits_number word.now }
 {
     let mut value: u32 = 0;
     for c in word {
@@ -61,7 +61,7 @@ pub fn is_text(word: &[u8], text: &[u8]) -> bool
 
 // Whether a word is cut at this character.
 fn cuts(before: u8, c: u8, behind: &[u8]) -> bool
-    ensures { result ≡ is_cut before c behind.now }
+    ensures { result ≡ is_slash_cut before c behind.now }
 {
     c == b'/' && before != b'/' && matches!(behind.first(), Some(next) if *next != b'/')
 }

@@ -16,7 +16,7 @@ use Rattle.dg_meaning.specs.Words.{letters_in_word, joined_letters}
 use Rattle.dg_meaning.specs.Choosing.{die}
 use Rattle.dg_meaning.specs.Moves.{goals_at, enter_if, is_excluded, call_cells, unless_excluded, first_alone, vars_of, rule_branch, rule_branches, rules_of, path_at, selects, gives_number, spaces, change_place, throws, splits, joins, takes_line, looked_up, whole_looks, effect}
 use Rattle.dg_meaning.specs.OneAnswer.{IsFree}
-use Rattle.dg_single.specs.Plain.{is_in, is_just, is_cut, is_plain_form, is_plain, has_just, has_cut, are_plain, rules_fit}
+use Rattle.dg_single.specs.Plain.{is_in_set, is_just, is_cut_goal, is_plain_form, is_plain, has_just, has_cut, are_plain, rules_fit}
 use Rattle.dg_single.specs.inside.Left.{all_plain, inside_plain}
 use Rattle.dg_single.proofs.SetLemmas.{and_left, and_right, or_cases}
 use Rattle.dg_single.specs.Singles.{IsClosed}
@@ -55,7 +55,7 @@ seals_just : (x : Goal-F Goal) (t : ℕ) → is_just x ≡ true → seals x t t
 seals_just Just t h = refl
 seals_just _ t h = absurd (cc (h))
 
-seals_cut : (x : Goal-F Goal) (t : ℕ) → is_cut x ≡ true → seals x t t
+seals_cut : (x : Goal-F Goal) (t : ℕ) → is_cut_goal x ≡ true → seals x t t
 seals_cut Just t h = refl
 seals_cut Fail t h = refl
 seals_cut _ t h = absurd (cc (h))
@@ -70,7 +70,7 @@ just_seals q env t (x ∷ gs) b h = elim (or_cases (is_just (out-Goal x)) (has_j
 
 cut_seals : (q : ℕ) (env : List Value) (t : ℕ) (gs : List Goal) (b : List Step) → has_cut gs ≡ true → SealedBy q t (goals_at env t gs ++ b)
 cut_seals q env t [] b h = absurd (cc (h))
-cut_seals q env t (x ∷ gs) b h = elim (or_cases (is_cut (out-Goal x)) (has_cut gs) h) [ inl e ↦ inl (seals_cut (out-Goal x) t e) | inr e ↦ inr (cut_seals q env t gs b e) ]
+cut_seals q env t (x ∷ gs) b h = elim (or_cases (is_cut_goal (out-Goal x)) (has_cut gs) h) [ inl e ↦ inl (seals_cut (out-Goal x) t e) | inr e ↦ inr (cut_seals q env t gs b e) ]
 
 module _ (q : ℕ) (S : List Bool) (rest : List Step) (o0 : Option ℕ) where
   -- a plain body in front
@@ -169,7 +169,7 @@ module _ (q : ℕ) (S : List Bool) (rest : List Step) (o0 : Option ℕ) where
           rules_ok pred ne args (r2 ∷ rules) (and_right (are_plain S rule.body && (false || has_cut rule.body)) (rules_fit S (r2 ∷ rules)) h),
         )
 
-    preds_ok : (pred : ℕ) (o : Option Pred) → slice_get g.program.preds pred ≡ o → (args : List Value) → is_in S pred ≡ true → BranchesOk Q (rule_branches g pred args true steps r (rules_of o))
+    preds_ok : (pred : ℕ) (o : Option Pred) → slice_get g.program.preds pred ≡ o → (args : List Value) → is_in_set S pred ≡ true → BranchesOk Q (rule_branches g pred args true steps r (rules_of o))
     preds_ok pred None e args h = tt
     preds_ok pred (Some p) e args h = rules_ok pred (λ is. let s : Some p ≡ None = sym e ∙ ap (slice_get g.program.preds) is ∙ none in absurd (cc (s))) args p.rules (closed pred p e h)
 

@@ -9,7 +9,7 @@ use Rattle.dg_meaning.specs.Path.{Step, Do, Answers, Cut, Refuse, Back, Keep, Le
 use Rattle.dg_meaning.specs.Search.{search}
 use Rattle.dg_meaning.specs.Context.{Around, InBranch, Holds, Older, Shielded, StopIn, StepsIn, PathIn}
 use Rattle.dg_meaning.specs.OneAnswer.{IsOlder, AreOlder, HasOneAnswer}
-use Rattle.dg_single.specs.Plain.{is_in, is_plain}
+use Rattle.dg_single.specs.Plain.{is_in_set, is_plain}
 use Rattle.dg_single.specs.Singles.{IsClosed}
 use Rattle.dg_single.proofs.Once.{search_hot}
 use denote.Hole.Carrier.{out}
@@ -45,11 +45,11 @@ inside k (Back ∷ steps) h = inside k steps h
 inside k (Keep u x env ∷ steps) h = inside k steps h
 inside k (Leave u o ∷ steps) h = (held k u h.0, (stops k o h.1, inside k steps h.2))
 
-asks_plain : (set : List Bool) (pred : ℕ) (terms : List Term) → is_in set pred ≡ true → is_plain set (Ask pred terms true) ≡ true
+asks_plain : (set : List Bool) (pred : ℕ) (terms : List Term) → is_in_set set pred ≡ true → is_plain set (Ask pred terms true) ≡ true
 unfolding out-Goal out
 asks_plain set pred terms h = h
 
-pub one_answer : (g : Game) (set : List Bool) (pred : ℕ) → IsClosed g.program.preds set → is_in set pred ≡ true → HasOneAnswer g pred
+pub one_answer : (g : Game) (set : List Bool) (pred : ℕ) → IsClosed g.program.preds set → is_in_set set pred ≡ true → HasOneAnswer g pred
 unfolding search
 one_answer g set pred closed h terms env t q steps r n w none free may =
     let k = r.next_tag in

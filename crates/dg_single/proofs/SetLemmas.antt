@@ -6,8 +6,8 @@ use Rattle.dg_base.specs.declared.program.Goal.{Goal, out-Goal, Row_of-Goal, end
 use Rattle.dg_base.specs.declared.program.Goal.TheOpen as part
 use Rattle.dg_base.specs.declared.program.Pred.{Pred}
 use Rattle.dg_base.specs.declared.program.Rule.{Rule}
-use Rattle.dg_single.specs.Plain.{is_in, is_plain_form, row_has_just, is_plain, is_plain_row, are_plain_rows, has_just, has_cut, are_plain, are_none, rules_fit}
-use Rattle.dg_single.specs.Singles.{IsWithin, HasAll}
+use Rattle.dg_single.specs.Plain.{is_in_set, is_plain_form, row_has_just, is_plain, is_plain_row, are_plain_rows, has_just, has_cut, are_plain, no_rules, rules_fit}
+use Rattle.dg_single.specs.Singles.{IsSubset, HasAll}
 use Rattle.dg_single.specs.inside.Left.{one_if, count_in, Sifted}
 
 -- ## Tests that hold
@@ -37,10 +37,10 @@ or_right false b h = h
 -- ## A larger set has more plain goals
 
 abbrev pub Sub : List Bool → List Bool → Type 0
-Sub s t = (p : ℕ) → is_in s p ≡ true → is_in t p ≡ true
+Sub s t = (p : ℕ) → is_in_set s p ≡ true → is_in_set t p ≡ true
 
 form_more : (s t : List Bool) → Sub s t → (x : part.Goal-F Goal) → is_plain_form s x ≡ true → is_plain_form t x ≡ true
-form_more s t sub (part.Ask pred args many) h = elim (or_cases (not many) (is_in s pred) h) [ inl e ↦ or_left (not many) (is_in t pred) e | inr e ↦ or_right (not many) (is_in t pred) (sub pred e) ]
+form_more s t sub (part.Ask pred args many) h = elim (or_cases (not many) (is_in_set s pred) h) [ inl e ↦ or_left (not many) (is_in_set t pred) e | inr e ↦ or_right (not many) (is_in_set t pred) (sub pred e) ]
 form_more s t sub (part.Either lists) h = h
 form_more s t sub part.Forever h = h
 form_more s t sub (part.Holds place args many) h = h
@@ -81,14 +81,14 @@ body_more s t sub (g ∷ gs) h =
 rules_more : (s t : List Bool) → Sub s t → (rules : List Rule) → rules_fit s rules ≡ true → rules_fit t rules ≡ true
 rules_more s t sub [] h = refl
 rules_more s t sub (rule ∷ rules) h =
-    let first = and_left (are_plain s rule.body && (are_none rules || has_cut rule.body)) (rules_fit s rules) h in
-    and_both (are_plain t rule.body && (are_none rules || has_cut rule.body)) (rules_fit t rules)
-    (and_both (are_plain t rule.body) (are_none rules || has_cut rule.body) (body_more s t sub rule.body (and_left (are_plain s rule.body) (are_none rules || has_cut rule.body) first)) (and_right (are_plain s rule.body) (are_none rules || has_cut rule.body) first))
-    (rules_more s t sub rules (and_right (are_plain s rule.body && (are_none rules || has_cut rule.body)) (rules_fit s rules) h))
+    let first = and_left (are_plain s rule.body && (no_rules rules || has_cut rule.body)) (rules_fit s rules) h in
+    and_both (are_plain t rule.body && (no_rules rules || has_cut rule.body)) (rules_fit t rules)
+    (and_both (are_plain t rule.body) (no_rules rules || has_cut rule.body) (body_more s t sub rule.body (and_left (are_plain s rule.body) (no_rules rules || has_cut rule.body) first)) (and_right (are_plain s rule.body) (no_rules rules || has_cut rule.body) first))
+    (rules_more s t sub rules (and_right (are_plain s rule.body && (no_rules rules || has_cut rule.body)) (rules_fit s rules) h))
 
 -- ## Taking out
 
-in_range : (set : List Bool) (p : ℕ) → is_in set p ≡ true → p < length set
+in_range : (set : List Bool) (p : ℕ) → is_in_set set p ≡ true → p < length set
 in_range [] p h = absurd (cc (h))
 in_range (b ∷ set) zero h = omega arith
 in_range (b ∷ set) (suc p) h = omega (arith, in_range set p h)
@@ -98,7 +98,7 @@ has_pred [] p lt = absurd (omega arith)
 has_pred (x ∷ preds) zero lt = (x, refl)
 has_pred (x ∷ preds) (suc p) lt = has_pred preds p (omega arith)
 
-within_sub : (preds : List Pred) (s t : List Bool) → length s ≡ length preds → IsWithin preds s t → Sub s t
+within_sub : (preds : List Pred) (s t : List Bool) → length s ≡ length preds → IsSubset preds s t → Sub s t
 within_sub preds s t e w p h = let x = has_pred preds p (omega (arith, in_range s p h, e)) in w p x.0 x.1 h
 
 length_without : (set : List Bool) (p : ℕ) → length (slice_set set p false) ≡ length set
@@ -106,14 +106,14 @@ length_without [] p = refl
 length_without (b ∷ set) zero = refl
 length_without (b ∷ set) (suc p) = ap suc (length_without set p)
 
-others_stay : (set : List Bool) (p k : ℕ) → (p ≡ k → ⊥) → is_in (slice_set set k false) p ≡ is_in set p
+others_stay : (set : List Bool) (p k : ℕ) → (p ≡ k → ⊥) → is_in_set (slice_set set k false) p ≡ is_in_set set p
 others_stay [] p k ne = refl
 others_stay (b ∷ set) zero zero ne = absurd (ne refl)
 others_stay (b ∷ set) (suc p) zero ne = refl
 others_stay (b ∷ set) zero (suc k) ne = refl
 others_stay (b ∷ set) (suc p) (suc k) ne = others_stay set p k (λ e. ne (ap suc e))
 
-fewer_without : (set : List Bool) (p : ℕ) → is_in set p ≡ true → count_in (slice_set set p false) < count_in set
+fewer_without : (set : List Bool) (p : ℕ) → is_in_set set p ≡ true → count_in (slice_set set p false) < count_in set
 fewer_without [] p h = absurd (cc (h))
 fewer_without (b ∷ set) zero h = let e = ap one_if h in omega (arith, e)
 fewer_without (b ∷ set) (suc p) h = omega (arith, fewer_without set p h)
@@ -124,7 +124,7 @@ still_all preds set k pred at unfit all s len closed p x get h =
     elim (cases_eq p k) [
       | inl e ↦
           let get' = ap (slice_get preds) (sym e) ∙ get in
-          let here : is_in s k ≡ true = ap (is_in s) (sym e) ∙ h in
+          let here : is_in_set s k ≡ true = ap (is_in_set s) (sym e) ∙ h in
           let fits = rules_more s set (within_sub preds s set len (all s len closed)) pred.rules (closed k pred at here) in
           absurd (cc (fits, unfit))
       | inr ne ↦ others_stay set p k ne ∙ all s len closed p x get h
@@ -135,7 +135,7 @@ pub record Sieving (preds : List Pred) (old new : List Bool) (k : ℕ) (changed 
   pub greatest : HasAll preds old → HasAll preds new
   pub fewer : changed ≡ true → count_in new < count_in old
   pub same : changed ≡ false → new ≡ old
-  pub closed : changed ≡ false → (p : ℕ) → (pred : Pred) → p < k → slice_get preds p ≡ Some pred → is_in new p ≡ true → rules_fit new pred.rules ≡ true
+  pub closed : changed ≡ false → (p : ℕ) → (pred : Pred) → p < k → slice_get preds p ≡ Some pred → is_in_set new p ≡ true → rules_fit new pred.rules ≡ true
 
 at_most : (preds : List Pred) (old new : List Bool) (k : ℕ) (changed : Bool) → Sieving preds old new k changed → count_in new ≤ count_in old
 at_most preds old new k true s = omega (arith, s.fewer refl)
@@ -165,7 +165,7 @@ sieving_on preds old set new k changed pred at s h =
             | inl here ↦
                 let same : Some x ≡ Some pred = sym get ∙ ap (slice_get preds) here ∙ at in
                 let is : x ≡ pred = cc (same) in
-                ap (λ (y : Pred). rules_fit set y.rules) is ∙ h.1 (ap (is_in set) (sym here) ∙ in_set)
+                ap (λ (y : Pred). rules_fit set y.rules) is ∙ h.1 (ap (is_in_set set) (sym here) ∙ in_set)
             | inr ne ↦ s.closed e p x (omega (arith, lt, ne)) get in_set
           ];
     })
@@ -182,7 +182,7 @@ sieving_step preds old set new k changed false pred rules lt e f s h = sieving_o
 pub all_in : (preds : List Pred) (n : ℕ) → n ≡ length preds → HasAll preds (replicate n true)
 all_in preds n e s len closed p pred get h = here p n (omega (arith, in_range s p h, len, e))
   where
-    here : (p n : ℕ) → p < n → is_in (replicate n true) p ≡ true
+    here : (p n : ℕ) → p < n → is_in_set (replicate n true) p ≡ true
     here p zero lt = absurd (omega arith)
     here zero (suc n) lt = refl
     here (suc p) (suc n) lt = here p n (omega arith)

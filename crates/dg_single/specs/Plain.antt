@@ -6,8 +6,8 @@ use Rattle.dg_base.specs.declared.program.Goal.TheOpen.{Goal-F, Ask, Holds, IsOb
 use Rattle.dg_base.specs.declared.program.Rule.{Rule}
 
 -- A predicate is in a set.
-abbrev pub is_in : List Bool → ℕ → Bool
-is_in set p = slice_index_or set p false
+abbrev pub is_in_set : List Bool → ℕ → Bool
+is_in_set set p = slice_index_or set p false
 
 -- It is a (just).
 abbrev pub is_just : Goal-F Goal → Bool
@@ -15,10 +15,10 @@ is_just Just = true
 is_just x = false
 
 -- It is a (just) or a (fail).
-abbrev pub is_cut : Goal-F Goal → Bool
-is_cut Just = true
-is_cut Fail = true
-is_cut x = false
+abbrev pub is_cut_goal : Goal-F Goal → Bool
+is_cut_goal Just = true
+is_cut_goal Fail = true
+is_cut_goal x = false
 
 -- A form of goal that is plain, its inner lists apart: none of `(or)`, `(repeat forever)`, a query for all answers of a place,
 -- of objects or of a closure, and one for all answers of a predicate that isn't in the set.
@@ -28,7 +28,7 @@ is_plain_form set Forever = false
 is_plain_form set (Holds place args many) = not many
 is_plain_form set (IsObject a many) = not many
 is_plain_form set (Query a b many) = not many
-is_plain_form set (Ask pred args many) = not many || is_in set pred
+is_plain_form set (Ask pred args many) = not many || is_in_set set pred
 is_plain_form set x = true
 
 -- A (just) stands in a list, at its top.
@@ -58,7 +58,7 @@ has_just goals = list_any (λ goal. is_just (out-Goal goal)) goals
 
 -- A (just) or (fail) stands there.
 abbrev pub has_cut : List Goal → Bool
-has_cut goals = list_any (λ goal. is_cut (out-Goal goal)) goals
+has_cut goals = list_any (λ goal. is_cut_goal (out-Goal goal)) goals
 
 -- A body is plain.
 abbrev pub are_plain : List Bool → List Goal → Bool
@@ -66,11 +66,11 @@ are_plain set [] = true
 are_plain set (goal ∷ goals) = are_plain set goals && (has_just goals || is_plain set goal)
 
 -- There is no rule.
-abbrev pub are_none : List Rule → Bool
-are_none [] = true
-are_none (rule ∷ rules) = false
+abbrev pub no_rules : List Rule → Bool
+no_rules [] = true
+no_rules (rule ∷ rules) = false
 
 -- The body of each rule is plain, and each but the last has a (just) or (fail) at its top.
 abbrev pub rules_fit : List Bool → List Rule → Bool
 rules_fit set [] = true
-rules_fit set (rule ∷ rules) = are_plain set rule.body && (are_none rules || has_cut rule.body) && rules_fit set rules
+rules_fit set (rule ∷ rules) = are_plain set rule.body && (no_rules rules || has_cut rule.body) && rules_fit set rules

@@ -14,7 +14,7 @@ fn is_just(goal: &Goal) -> bool
 }
 
 fn is_cut(goal: &Goal) -> bool
-    ensures { result ≡ spec.is_cut (out-Goal goal.now) }
+    ensures { result ≡ spec.is_cut_goal (out-Goal goal.now) }
 {
     matches!(goal, Goal::Just | Goal::Fail)
 }
@@ -33,7 +33,7 @@ pub fn has_cut(body: &[Goal]) -> bool
 
 // Whether a predicate is in a set.
 fn is_in(set: &[bool], pred: u16) -> bool
-    ensures { result ≡ spec.is_in set.now pred }
+    ensures { result ≡ spec.is_in_set set.now pred }
 {
     match set.get(usize::from(pred)) {
         Some(single) => *single,

@@ -10,7 +10,7 @@ use std::alloc::{AllocError, Global};
 
 // Whether a rule with others behind it fits a set.
 fn rule_fits(set: &[bool], rule: &Rule, others: &[Rule], alloc: Global) -> Result<bool, AllocError>
-    ensures { IfOk result (λ fits. fits ≡ (spec.are_plain set.now rule.now.body && (spec.are_none others.now || spec.has_cut rule.now.body))) }
+    ensures { IfOk result (λ fits. fits ≡ (spec.are_plain set.now rule.now.body && (spec.no_rules others.now || spec.has_cut rule.now.body))) }
 {
     let body = rule.body.as_slice();
     let cuts = others.is_empty() || has_cut(body);

@@ -25,7 +25,7 @@ use Rattle.z_model.specs.declared.end.Halt.TheVariants.{AtQuit}
 use Rattle.z_model.specs.Run.{ZState, zrun}
 use Rattle.z_model.specs.Story.{start_state, memory_of, story_run}
 use Rattle.z_asm.specs.Layout.{code_size}
-use Rattle.z_asm.specs.Story.{routines_from, end_of, IsTooLarge}
+use Rattle.z_asm.specs.Story.{routines_from, image_end, IsTooLarge}
 use Rattle.z_asm.proofs.Layouts.{packed_below}
 use Rattle.z_lang.specs.State.{State, Program}
 use Rattle.z_lang.specs.Acts.{with_output}
@@ -38,8 +38,8 @@ use Rattle.z_lang.proofs.Stretches.{ends_step}
 use Rattle.z_story.specs.Parts.{image_of}
 use Rattle.dg_story.specs.declared.support.TheConstants.{NEWLINE_ACTS, KEEP_LINE}
 use Rattle.dg_mid.specs.Step.{setting}
-use Rattle.dg_story.specs.Agrees.{story_limits, Fits, Agrees, IsWhole, IsLimitText, by_limit, of_limit}
-use Rattle.dg_story.specs.Built.{parts_of, keeps_within, IsStoryOf}
+use Rattle.dg_story.specs.Agrees.{story_limits, Fits, Agrees, EndsWhole, IsLimitText, by_limit, of_limit}
+use Rattle.dg_story.specs.Built.{story_parts, keeps_within, IsStoryOf}
 use Rattle.dg_story.specs.inside.Cells.{replaced, with_cell, state}
 use Rattle.dg_story.specs.Numbers.{numbers_of, block_number}
 use Rattle.dg_story.specs.Plain.{is_plain}
@@ -68,12 +68,12 @@ entry_fits None h = h
 entry_fits (Some pred) h = λ k d lt. ap length (h k d lt)
 
 -- addresses of routines are words
-words_of : (code : Code) (keeps : Bool) → (IsTooLarge (image_of (parts_of code keeps)) → ⊥) → (story dice : List ℕ) (is : IsStoryOf code keeps story) (k : ℕ) → (p code keeps story is dice).names.routine k < 65536
+words_of : (code : Code) (keeps : Bool) → (IsTooLarge (image_of (story_parts code keeps)) → ⊥) → (story dice : List ℕ) (is : IsStoryOf code keeps story) (k : ℕ) → (p code keeps story is dice).names.routine k < 65536
 words_of code keeps small story dice is k =
-    let image = image_of (parts_of code keeps) in
-    packed_below (routines_from image) (map code_size image.routines) k (⊎_elim (λ lt. absurd (small (inl lt))) (λ le. le) (cases_lt 524280 (end_of image)))
+    let image = image_of (story_parts code keeps) in
+    packed_below (routines_from image) (map code_size image.routines) k (⊎_elim (λ lt. absurd (small (inl lt))) (λ le. le) (cases_lt 524280 (image_end image)))
 
-module _ (program : CoreProgram) (code : Code) (sound : IsSound program) (plain : is_plain program ≡ true) (codes : Codes program code) (tidy : Tidy code) (searched : RunsAsSearched) (costs : CostsItsWork) (moves : MovesOn) (small : (keeps : Bool) → IsTooLarge (image_of (parts_of code keeps)) → ⊥) where
+module _ (program : CoreProgram) (code : Code) (sound : IsSound program) (plain : is_plain program ≡ true) (codes : Codes program code) (tidy : Tidy code) (searched : RunsAsSearched) (costs : CostsItsWork) (moves : MovesOn) (small : (keeps : Bool) → IsTooLarge (image_of (story_parts code keeps)) → ⊥) where
   rules : (pred : ℕ) → FitsHeads 0 (slice_get program.preds pred) → PlainRules program code (rules_at code pred)
   rules = pred_rules program code sound plain codes
 
@@ -209,11 +209,11 @@ module _ (program : CoreProgram) (code : Code) (sound : IsSound program) (plain 
       in_time = λ n. over here refl (omega arith) (inr (record { area = Keep; passed = keeps_most n; text = limited; quit = refl }));
     }
       where
-        whole_over : (end : ZEnd) (bytes : List ℕ) → ◌≡◌ {A = Turn ZEnd ℕ} (Over ends.Quit line) (Over end bytes) → IsWhole h typed end bytes
+        whole_over : (end : ZEnd) (bytes : List ℕ) → ◌≡◌ {A = Turn ZEnd ℕ} (Over ends.Quit line) (Over end bytes) → EndsWhole h typed end bytes
         whole_over end bytes e =
             let same : ends.Quit ≡ end = cc in
             let text : line ≡ bytes = cc in
-            subst (λ (x : ZEnd). IsWhole h typed x bytes) same (subst (IsWhole h typed ends.Quit) text (by_limit Keep limited))
+            subst (λ (x : ZEnd). EndsWhole h typed x bytes) same (subst (EndsWhole h typed ends.Quit) text (by_limit Keep limited))
 
     agrees_over : (steps : ℕ) → Fits h typed steps (zrun q.world steps (start_state story typed)).state.output (zrun q.world steps (start_state story typed)).end
     agrees_over steps = fits q.world closing (λ a y. y ≡ start_state story typed) turns_over h typed 0 tells_over (start_state story typed) refl steps

@@ -4,11 +4,11 @@ use Rattle.std.specs.Prelude.{◌==◌, if◌then◌else◌, slice_index, slice_
 use Rattle.std.proofs.lemmas.Bool.{lt-ltb, le-ltb, eq-eqb, ne_eqb, cases_eq}
 use Rattle.std.proofs.lemmas.List.{get_or-set_same, get_or-set_other}
 use Rattle.z_model.specs.declared.story.Layout.{Layout}
-use Rattle.z_model.specs.Memory.{word_of, is_writable, byte_in, word_in, with_byte, with_word}
+use Rattle.z_model.specs.Memory.{word_of, is_writable, byte_in, memory_word, with_byte, with_word}
 use Rattle.z_lang.specs.declared.act.Function.TheVariants as functions
 use Rattle.z_lang.specs.declared.act.Width.TheVariants as widths
 use Rattle.z_lang.specs.State.{global, with_global}
-use Rattle.z_lang.specs.Acts.{computed, written}
+use Rattle.z_lang.specs.Acts.{computed, memory_with}
 use Rattle.dg_story.specs.inside.Cells.{at_cell, cell, with_cell, replaced, Holds}
 
 -- ---- one word
@@ -62,7 +62,7 @@ with_global_is layout memory v x e = ap (λ (g : ℕ). slice_set (slice_set memo
 
 -- a word is read at an address with an index
 pub reads_cell : (layout : Layout) (memory : List ℕ) (cells : ℕ → ℕ) (x y k : ℕ) → Holds layout memory cells → (x + 2 * y) % 65536 ≡ at_cell k → at_cell k + 1 < layout.base → computed layout memory functions.Word x y ≡ Some (cells k)
-unfolding computed word_in byte_in
+unfolding computed memory_word byte_in
 reads_cell layout memory cells x y k h a lt =
     let b : (at_cell k + 1) % 65536 ≡ at_cell k + 1 = (let l = h.low in omega arith) in
     let base = h.base in
@@ -75,8 +75,8 @@ may : (layout : Layout) (a : ℕ) → 64 ≤ a → a < layout.base → is_writab
 may layout a low lt = rw (ne_eqb a 16 (λ (e : a ≡ 16). (omega arith)), ne_eqb a 17 (λ (e : a ≡ 17). (omega arith)), le-ltb a 64 low, lt-ltb a layout.base lt) refl
 
 -- a word is written
-pub writes_cell : (layout : Layout) (memory : List ℕ) (cells : ℕ → ℕ) (a i x k : ℕ) → Holds layout memory cells → (a + 2 * i) % 65536 ≡ at_cell k → at_cell k + 1 < layout.base → written layout memory widths.Word a i x ≡ some_list (with_cell memory k x)
-unfolding written with_word with_byte
+pub writes_cell : (layout : Layout) (memory : List ℕ) (cells : ℕ → ℕ) (a i x k : ℕ) → Holds layout memory cells → (a + 2 * i) % 65536 ≡ at_cell k → at_cell k + 1 < layout.base → memory_with layout memory widths.Word a i x ≡ some_list (with_cell memory k x)
+unfolding memory_with with_word with_byte
 writes_cell layout memory cells a i x k h p lt =
     let q : (at_cell k + 1) % 65536 ≡ at_cell k + 1 = (let l = h.low in omega arith) in
     rw (p, may layout (at_cell k) (omega arith) (omega arith), q, may layout (at_cell k + 1) (omega arith) lt) refl

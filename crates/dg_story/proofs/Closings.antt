@@ -14,9 +14,9 @@ use Rattle.z_lang.specs.declared.act.Act.{Act}
 use Rattle.z_lang.specs.declared.act.Act.TheVariants as acts
 use Rattle.z_lang.specs.State.{State, Program}
 use Rattle.z_lang.specs.Acts.{with_output}
-use Rattle.z_lang.specs.Runs.{Outcome, Runs, Stops, done, calls, quits}
+use Rattle.z_lang.specs.Runs.{ActsOutcome, ActsRun, Stops, done, calls, quits}
 use Rattle.dg_story.specs.declared.support.TheConstants.{NEWLINE_ACTS, DONE_ACTS}
-use Rattle.dg_story.specs.Texts.{letters_of, say, says, closing_acts}
+use Rattle.dg_story.specs.Texts.{characters_of, say, says, closing_acts}
 use Rattle.dg_story.specs.inside.Ends.{kept_end}
 use Rattle.dg_story.specs.inside.Cells.{Holds}
 use Rattle.dg_story.proofs.Rules.{says as prints_so}
@@ -31,14 +31,14 @@ some_end false e = absurd (omega arith)
 
 module _ (p : Program) (f w : ℕ) (some : 1 ≤ f) (base : p.world.layout.base ≡ 20670) (s : State) (cells : ℕ → ℕ) (h : Holds p.world.layout s.memory cells) (at : p.routine_at (p.names.routine 2) ≡ Some (record { locals = 0; body = NEWLINE_ACTS })) where
   -- A newline is printed behind a text.
-  pub calls_newline : (body more : List Act) (o : Outcome) (s' : State) (n : ℕ) (last : Option ℕ) → cells 6 ≡ kept_end last → Runs p f w body more (with_output s (newline_behind last)) o s' n →
+  pub calls_newline : (body more : List Act) (o : ActsOutcome) (s' : State) (n : ℕ) (last : Option ℕ) → cells 6 ≡ kept_end last → ActsRun p f w body more (with_output s (newline_behind last)) o s' n →
       LeadsOn p f w body (acts.Call None (atoms.Routine 2) args.Zero ∷ more) s o s' 4 n
   calls_newline body more o s' n None e rest =
       record {
         count = 3;
         few = omega arith;
         runs = calls {r = record { locals = 0; body = NEWLINE_ACTS }} refl refl at some (let q : 0 + 0 ≤ w = omega arith in q) (newline_none p 0 0 (record s { locals = [] }) cells h base e) refl
-            (subst (λ (out : List ℕ). Runs p f w body more (record s { output = out }) o s' n) (append-nil s.output) rest);
+            (subst (λ (out : List ℕ). ActsRun p f w body more (record s { output = out }) o s' n) (append-nil s.output) rest);
       }
   calls_newline body more o s' n (Some last) e rest =
       let ne : cells 6 ≢ 0 = λ q. some_end (opens last) (sym e ∙ q) in
@@ -60,14 +60,14 @@ module _ (p : Program) (f w : ℕ) (some : 1 ≤ f) (base : p.world.layout.base 
       let first : State = with_output s (newline_behind last) in
       let end : State = with_output s (newline_behind last ++ (line ++ 10 ∷ [])) in
       let rest : List Act = acts.Print prints.Code (atoms.Num 13) ∷ acts.Quit ∷ [] in
-      let letters : letters_of line ≡ cs = sym (ap letters_of is) ∙ letters_are cs all in
+      let letters : characters_of line ≡ cs = sym (ap characters_of is) ∙ letters_are cs all in
       let out : ((s.output ++ newline_behind last) ++ encode_utf8_all cs) ++ (10 ∷ []) ≡ s.output ++ (newline_behind last ++ (line ++ 10 ∷ [])) =
       ap (λ (t : List ℕ). ((s.output ++ newline_behind last) ++ t) ++ (10 ∷ [])) is ∙ append_assoc (s.output ++ newline_behind last) line (10 ∷ []) ∙ append_assoc s.output (newline_behind last) (line ++ 10 ∷ []) in
       let spoken : State = with_output first (encode_utf8_all cs) in
-      let ends : Runs p f w body (acts.Quit ∷ []) (with_output spoken (10 ∷ [])) (Stops AtQuit) end 1 = subst (λ (t : List ℕ). Runs p f w body (acts.Quit ∷ []) (with_output spoken (10 ∷ [])) (Stops AtQuit) (record s { output = t }) 1) out quits in
-      let newline : Runs p f w body rest spoken (Stops AtQuit) end 2 = done (prints_so p spoken prints.Code (atoms.Num 13) 13 (10 ∷ []) refl (newline_printed spoken.memory)) ends in
+      let ends : ActsRun p f w body (acts.Quit ∷ []) (with_output spoken (10 ∷ [])) (Stops AtQuit) end 1 = subst (λ (t : List ℕ). ActsRun p f w body (acts.Quit ∷ []) (with_output spoken (10 ∷ [])) (Stops AtQuit) (record s { output = t }) 1) out quits in
+      let newline : ActsRun p f w body rest spoken (Stops AtQuit) end 2 = done (prints_so p spoken prints.Code (atoms.Num 13) 13 (10 ∷ []) refl (newline_printed spoken.memory)) ends in
       let said = prints_all p f w body rest (Stops AtQuit) end 2 cs first all newline in
-      let said2 = subst (λ (l : List ℕ). Runs p f w body (map say l ++ rest) first (Stops AtQuit) end (length cs + 2)) (sym letters) said in
+      let said2 = subst (λ (l : List ℕ). ActsRun p f w body (map say l ++ rest) first (Stops AtQuit) end (length cs + 2)) (sym letters) said in
       calls_newline body (says line ++ rest) (Stops AtQuit) end (length cs + 2) last e said2
 
   -- So it is with a line of ASCII.

@@ -19,8 +19,8 @@ use Rattle.z_story.specs.Parts.{AreRoutines}
 use Rattle.dg_story.specs.declared.numbering.Numbers.{Numbers}
 use Rattle.dg_story.specs.declared.texts.Part.{Part}
 use Rattle.dg_story.specs.declared.texts.Part.TheVariants as part
-use Rattle.dg_story.specs.Texts.{begun, read_byte, with_letter, letters_from, say, says, letters_of, first_closes, end_with, end_of, separated, text_acts}
-use Rattle.dg_story.specs.Numbers.{op_size, ops_size, blocks_size, rules_count, block_starts, first_rule, pred_starts, numbers_of, number_or_fail, block_number, pred_number, routine_count}
+use Rattle.dg_story.specs.Texts.{first_byte, read_byte, with_letter, letters_from, say, says, characters_of, first_closes, end_with, text_end, separated, text_acts}
+use Rattle.dg_story.specs.Numbers.{routines_of_op, routines_of_ops, blocks_size, rules_count, block_starts, first_rule, pred_starts, numbers_of, number_or_fail, block_number, pred_number, routine_count}
 use Rattle.dg_story.specs.Instructions.{ask_acts, op_acts, op_way}
 use Rattle.dg_story.specs.Routines.{choosing, rules_routines, preds_routines, op_routines, ops_routines, blocks_routines}
 use Rattle.dg_story.proofs.Lines.{AreLines, lines_append, going_fits, pieces_fit, routines_append}
@@ -32,14 +32,14 @@ pub record AreBelow (numbers : Numbers) (count : ℕ) : Type 0 where
   pub block : (b : ℕ) → block_number numbers b < count
   pub pred : (p : ℕ) → pred_number numbers p < count
 
-pub ops_some : (ops : List Op) → 1 ≤ ops_size ops
+pub ops_some : (ops : List Op) → 1 ≤ routines_of_ops ops
 ops_some [] = omega arith
 ops_some (x ∷ ops) = omega (arith, ops_some ops)
 
 block_below : (k : ℕ) (blocks : List Block) (b count : ℕ) → 1 < count → k + blocks_size blocks ≤ count → number_or_fail (slice_get (block_starts k blocks) b) < count
 block_below k [] b count some le = some
 block_below k (block ∷ blocks) zero count some le = omega (arith, ops_some block.ops)
-block_below k (block ∷ blocks) (suc b) count some le = block_below (k + ops_size block.ops) blocks b count some (omega arith)
+block_below k (block ∷ blocks) (suc b) count some le = block_below (k + routines_of_ops block.ops) blocks b count some (omega arith)
 
 first_below : (k : ℕ) (rules : List RuleCode) (count : ℕ) → 1 < count → k + length rules ≤ count → first_rule k rules < count
 first_below k [] count some le = some
@@ -67,7 +67,7 @@ abbrev IsWord : Option ℕ → Type 0
 IsWord None = Unit {0}
 IsWord (Some n) = n < 65536
 
-begun_word : (byte : ℕ) (small : Bool) → nat_lt byte 128 ≡ small → IsWord (begun byte).letter
+begun_word : (byte : ℕ) (small : Bool) → nat_lt byte 128 ≡ small → IsWord (first_byte byte).letter
 begun_word byte true e = rw e (let lt = ltb-true byte 128 e in omega arith)
 begun_word byte false e = rw e tt
 
@@ -117,12 +117,12 @@ separated_lines c text many = by_closing (first_closes text)
     by_closing false = (record { fits = λ all behind. (tt, omega arith, tt); small = omega arith }, tt)
 
 pub letters_lines : (c : Counts) (text : List ℕ) → AreLines c (says text)
-letters_lines c text = says_lines c (letters_of text) (letters_words part.Nothing text)
+letters_lines c text = says_lines c (characters_of text) (letters_words part.Nothing text)
 
 text_lines : (c : Counts) (text : List ℕ) → 10 ≤ c.routines → AreLines c (text_acts text)
 text_lines c text many =
-    lines_append c (separated text) (says text ++ acts.Copy 22 (atoms.Num (end_of text)) ∷ []) (separated_lines c text many)
-    (lines_append c (says text) (acts.Copy 22 (atoms.Num (end_of text)) ∷ []) (letters_lines c text) (keeps_end c (end_of text) (end_small (last_of None text))))
+    lines_append c (separated text) (says text ++ acts.Copy 22 (atoms.Num (text_end text)) ∷ []) (separated_lines c text many)
+    (lines_append c (says text) (acts.Copy 22 (atoms.Num (text_end text)) ∷ []) (letters_lines c text) (keeps_end c (text_end text) (end_small (last_of None text))))
 
 -- ## Instructions
 
@@ -148,30 +148,30 @@ way_below numbers count behind op.Done many below lt = omega arith
 way_below numbers count behind x many below lt = omega arith
 
 -- An instruction has as many routines as it has pieces.
-pub size_is : (numbers : Numbers) (x : Op) → op_size x ≡ 1 + length (op_acts numbers x) / 1000
+pub size_is : (numbers : Numbers) (x : Op) → routines_of_op x ≡ 1 + length (op_acts numbers x) / 1000
 size_is numbers (op.Do (action.Text text)) = refl
 size_is numbers (op.Ask pred terms all next) = refl
 size_is numbers (op.LastAsk pred terms all) = refl
 size_is numbers (op.Enter vars head) = refl
 size_is numbers x = refl
 
-op_fits : (c : Counts) (numbers : Numbers) (k : ℕ) (x : Op) → 10 ≤ c.routines → AreBelow numbers c.routines → k + op_size x < c.routines → AreRoutines c (op_routines numbers k x)
+op_fits : (c : Counts) (numbers : Numbers) (k : ℕ) (x : Op) → 10 ≤ c.routines → AreBelow numbers c.routines → k + routines_of_op x < c.routines → AreRoutines c (op_routines numbers k x)
 op_fits c numbers k x many below lt =
     let body = op_acts numbers x in
-    pieces_fit c (length body / 1000) k body (op_way numbers (k + op_size x) x) (op_lines c numbers x many below) (omega arith) (omega (arith, size_is numbers x))
-    (way_below numbers c.routines (k + op_size x) x many below lt)
+    pieces_fit c (length body / 1000) k body (op_way numbers (k + routines_of_op x) x) (op_lines c numbers x many below) (omega arith) (omega (arith, size_is numbers x))
+    (way_below numbers c.routines (k + routines_of_op x) x many below lt)
 
-ops_fit : (c : Counts) (numbers : Numbers) (k : ℕ) (ops : List Op) → 10 ≤ c.routines → AreBelow numbers c.routines → k + ops_size ops ≤ c.routines → AreRoutines c (ops_routines numbers k ops)
+ops_fit : (c : Counts) (numbers : Numbers) (k : ℕ) (ops : List Op) → 10 ≤ c.routines → AreBelow numbers c.routines → k + routines_of_ops ops ≤ c.routines → AreRoutines c (ops_routines numbers k ops)
 ops_fit c numbers k [] many below le = (going_fits c [] 1 tt (omega arith) (omega arith), tt)
 ops_fit c numbers k (x ∷ ops) many below le =
-    routines_append c (op_routines numbers k x) (ops_routines numbers (k + op_size x) ops) (op_fits c numbers k x many below (omega (arith, ops_some ops)))
-    (ops_fit c numbers (k + op_size x) ops many below (omega arith))
+    routines_append c (op_routines numbers k x) (ops_routines numbers (k + routines_of_op x) ops) (op_fits c numbers k x many below (omega (arith, ops_some ops)))
+    (ops_fit c numbers (k + routines_of_op x) ops many below (omega arith))
 
 pub blocks_fit : (c : Counts) (numbers : Numbers) (k : ℕ) (blocks : List Block) → 10 ≤ c.routines → AreBelow numbers c.routines → k + blocks_size blocks ≤ c.routines → AreRoutines c (blocks_routines numbers k blocks)
 blocks_fit c numbers k [] many below le = tt
 blocks_fit c numbers k (block ∷ blocks) many below le =
-    routines_append c (ops_routines numbers k block.ops) (blocks_routines numbers (k + ops_size block.ops) blocks) (ops_fit c numbers k block.ops many below (omega arith))
-    (blocks_fit c numbers (k + ops_size block.ops) blocks many below (omega arith))
+    routines_append c (ops_routines numbers k block.ops) (blocks_routines numbers (k + routines_of_ops block.ops) blocks) (ops_fit c numbers k block.ops many below (omega arith))
+    (blocks_fit c numbers (k + routines_of_ops block.ops) blocks many below (omega arith))
 
 -- ## Rules
 

@@ -18,7 +18,7 @@ use Rattle.z_lang.specs.declared.act.Args.TheVariants as args
 use Rattle.z_lang.specs.declared.act.Atom.TheVariants as atoms
 use Rattle.z_lang.specs.State.{State}
 use Rattle.z_lang.specs.Acts.{with_output}
-use Rattle.z_lang.specs.Runs.{Runs as Leading, Stops, calls_last}
+use Rattle.z_lang.specs.Runs.{ActsRun as Leading, Stops, calls_last}
 use Rattle.z_lang.specs.Standing.{Context}
 use Rattle.dg_story.specs.declared.support.TheConstants.{FAIL_ACTS, NEWLINE_ACTS, ENTER_ACTS, CHOOSE_ACTS, DONE_ACTS, FAILED_LINE, HEAP_LINE}
 use Rattle.dg_story.specs.Numbers.{numbers_of, block_number}

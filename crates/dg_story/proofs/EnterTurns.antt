@@ -11,7 +11,7 @@ use Rattle.z_lang.specs.declared.act.Act.{Act}
 use Rattle.z_lang.specs.declared.act.Act.TheVariants as acts
 use Rattle.z_lang.specs.declared.act.Args.TheVariants as args
 use Rattle.z_lang.specs.declared.act.Atom.TheVariants as atoms
-use Rattle.z_lang.specs.Runs.{Runs as Leading, Returns, calls, returns}
+use Rattle.z_lang.specs.Runs.{ActsRun as Leading, Returns, calls, returns}
 use Rattle.z_lang.specs.Standing.{Context}
 use Rattle.dg_story.specs.declared.support.TheConstants.{ENTER_ACTS}
 use Rattle.dg_story.specs.Routines.{routine, going}

@@ -13,7 +13,7 @@ use Rattle.z_model.specs.Run.{ZGiven, ZState, ZRun, zrun}
 use Rattle.z_lang.specs.Turns.{Turning, printed_by}
 use Rattle.z_lang.specs.WholeRuns.{Within, IsOver, Shown, IsTurn}
 use Rattle.z_lang.proofs.Turns.{shows, suffices, ends_by}
-use Rattle.dg_story.specs.Agrees.{IsDone, IsCut, IsWhole, IsThere, IsAtLimit, Fits, body, enough_for}
+use Rattle.dg_story.specs.Agrees.{IsDone, IsCut, EndsWhole, IsThere, IsAtLimit, Fits, printed_body, enough_for}
 use Rattle.dg_story.specs.inside.Tells.{InTime, reached, over, Tells}
 
 as_begins : (xs ys : List ℕ) → base.Begins xs ys → Begins xs ys
@@ -27,19 +27,19 @@ not_done : (e : Ending) → e ≡ endings.StepLimit → IsDone e → ⊥
 not_done e p d = subst (λ (x : Ending). IsDone x) p d
 
 module _ {A : Type 0} (w : ZGiven) (t : Turning ZEnd A) (Rep : A → ZState → Type 0) (turns : (a : A) (z : ZState) → Rep a z → IsTurn w (λ e. e) t Rep a z) (g : Game) (typed : List ℕ) (a : A) (tells : Tells g typed t a) (z : ZState) (rep : Rep a z) where
-  shown_by : (r : ZRun) → Shown (λ e. e) t a r → ((r.end ≡ ends.StepLimit) × IsCut g typed r.state.output) ⊎ IsWhole g typed r.end r.state.output
+  shown_by : (r : ZRun) → Shown (λ e. e) t a r → ((r.end ≡ ends.StepLimit) × IsCut g typed r.state.output) ⊎ EndsWhole g typed r.end r.state.output
   shown_by r s = ⊎_elim within over_by s.is
     where
-      within : Within t s.b r → ((r.end ≡ ends.StepLimit) × IsCut g typed r.state.output) ⊎ IsWhole g typed r.end r.state.output
+      within : Within t s.b r → ((r.end ≡ ends.StepLimit) × IsCut g typed r.state.output) ⊎ EndsWhole g typed r.end r.state.output
       within h = inl (h.end, tells.between s.reached r.state.output (as_begins (t.out s.b) r.state.output h.least) (as_begins r.state.output (printed_by t (t.next s.b)) h.most))
 
-      over_by : IsOver (λ e. e) t s.b r → ((r.end ≡ ends.StepLimit) × IsCut g typed r.state.output) ⊎ IsWhole g typed r.end r.state.output
-      over_by h = inr (subst (λ (e : ZEnd). IsWhole g typed e r.state.output) (sym h.end_is) (subst (λ (bytes : List ℕ). IsWhole g typed h.end bytes) (sym h.output) (tells.whole s.reached h.end h.bytes h.next)))
+      over_by : IsOver (λ e. e) t s.b r → ((r.end ≡ ends.StepLimit) × IsCut g typed r.state.output) ⊎ EndsWhole g typed r.end r.state.output
+      over_by h = inr (subst (λ (e : ZEnd). EndsWhole g typed e r.state.output) (sym h.end_is) (subst (λ (bytes : List ℕ). EndsWhole g typed h.end bytes) (sym h.output) (tells.whole s.reached h.end h.bytes h.next)))
 
   enough_by : (steps n : ℕ) → enough_for g typed n ≤ steps → InTime g typed t a n → IsThere g typed n (zrun w steps z).state.output (zrun w steps z).end ⊎ IsAtLimit g typed n (zrun w steps z).state.output (zrun w steps z).end
   enough_by steps n le (reached {b = b} {spent = spent} r in_time going printed) =
       inl (record {
-        printed = begins_on (body g typed n) (t.out b) (zrun w steps z).state.output printed (as_begins (t.out b) (zrun w steps z).state.output (suffices w (λ e. e) t Rep turns steps z rep r (omega arith)));
+        printed = begins_on (printed_body g typed n) (t.out b) (zrun w steps z).state.output printed (as_begins (t.out b) (zrun w steps z).state.output (suffices w (λ e. e) t Rep turns steps z rep r (omega arith)));
         input = λ e. absurd (not_input (run g typed n).ending going e);
         done = λ d. absurd (not_done (run g typed n).ending going d);
       })

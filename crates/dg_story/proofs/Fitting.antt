@@ -17,10 +17,10 @@ use Rattle.dg_mid.specs.Weights.{text_weight, lists_in, goal_weight, goals_weigh
 use Rattle.z_asm.specs.Story as image
 use Rattle.z_story.specs.Parts.{image_of}
 use Rattle.dg_story.specs.Sizes.{text_size, lists_held, goal_size, goals_size, body_size, rules_size, preds_size, closures_size}
-use Rattle.dg_story.specs.Refusals.{refusal_of}
+use Rattle.dg_story.specs.Refusals.{build_refusal}
 use Rattle.dg_story.specs.Numbers.{numbers_of, rules_count, block_number, routine_count}
 use Rattle.dg_story.specs.Routines.{runtime, preds_routines, blocks_routines, all_routines}
-use Rattle.dg_story.specs.Built.{parts_of, rule_count, HasNoStory}
+use Rattle.dg_story.specs.Built.{story_parts, rule_count, HasNoStory}
 use Rattle.dg_story.proofs.RefusalLemmas.{story_fits}
 use Rattle.dg_story.proofs.Rooms.{rooms, rooms_append, end_within, blocks_room, preds_room, runtime_room, blocks_few}
 
@@ -83,7 +83,7 @@ rules_many program code codes = all_many code.preds program.preds (λ n. as_many
 
 -- ## The whole
 
-module _ (program : CoreProgram) (code : Code) (codes : Codes program code) (light : IsLight program code) (fits : refusal_of program ≡ None) where
+module _ (program : CoreProgram) (code : Code) (codes : Codes program code) (light : IsLight program code) (fits : build_refusal program ≡ None) where
   -- what the program counts suffices for its code and its rules
   counted : blocks_weight code.blocks + 16 * rules_count code.preds ≤ 440096
   counted =
@@ -108,10 +108,10 @@ module _ (program : CoreProgram) (code : Code) (codes : Codes program code) (lig
         blocks_room numbers (10 + rules_count code.preds) code.blocks,
       )
 
-  front_is : (keeps : Bool) → image.front_of (image_of (parts_of code keeps)) ≡ 20678
+  front_is : (keeps : Bool) → image.front_of (image_of (story_parts code keeps)) ≡ 20678
   front_is keeps = refl
 
-  small : (keeps : Bool) → image.IsTooLarge (image_of (parts_of code keeps)) → ⊥
+  small : (keeps : Bool) → image.IsTooLarge (image_of (story_parts code keeps)) → ⊥
   small keeps (inl far) = let e = end_within (all_routines code keeps) 20678 2585 (omega arith) in let r = all_rooms keeps in let f = front_is keeps in omega arith
   small keeps (inr far) = let f = front_is keeps in omega arith
 

@@ -4,7 +4,7 @@ use Rattle.z_lang.specs.declared.act.Atom.TheVariants as atoms
 use Rattle.z_lang.specs.declared.act.Function.TheVariants as functions
 use Rattle.z_lang.specs.declared.act.Comparison.TheVariants as comparisons
 use Rattle.z_lang.specs.State.{State, Program}
-use Rattle.z_lang.specs.Runs.{Runs, Returns, taken, passed, done, returns, behind}
+use Rattle.z_lang.specs.Runs.{ActsRun, Returns, taken, passed, done, returns, behind_label}
 use Rattle.dg_story.specs.declared.support.TheConstants.{FAIL_ACTS, LEAVE_ACTS}
 use Rattle.dg_story.specs.inside.Cells.{heap_at, with_cell, replaced, Holds, IsMapped, state}
 use Rattle.dg_story.proofs.Rules.{word, tested, computes, copies, IsPut, puts, local_1, put_1, reads_place}
@@ -19,14 +19,14 @@ module _ (p : Program) (map : IsMapped p) (f w : ℕ) (memory typed output : Lis
 
   -- ## Without a choice and without a frame
 
-  pub fails_last : cells 3 ≡ 0 → Runs p f w FAIL_ACTS FAIL_ACTS (st memory l) (Returns (p.names.routine 8)) (st memory l) 2
-  unfolding behind
+  pub fails_last : cells 3 ≡ 0 → ActsRun p f w FAIL_ACTS FAIL_ACTS (st memory l) (Returns (p.names.routine 8)) (st memory l) 2
+  unfolding behind_label
   fails_last e =
       taken (tested p (st memory l) comparisons.Equal (atoms.Var 19) (atoms.Num 0) true (cells 3) 0 true (reg p (st memory l) cells 19 (cells 3) h base (omega arith) (omega arith) refl) refl (same p (st memory l) (cells 3) 0 e)) refl
       (returns refl)
 
-  pub leaves_none : cells 2 ≡ 0 → Runs p f w LEAVE_ACTS LEAVE_ACTS (st memory l) (Returns (p.names.routine 1)) (st memory l) 2
-  unfolding behind
+  pub leaves_none : cells 2 ≡ 0 → ActsRun p f w LEAVE_ACTS LEAVE_ACTS (st memory l) (Returns (p.names.routine 1)) (st memory l) 2
+  unfolding behind_label
   leaves_none e =
       taken (tested p (st memory l) comparisons.Equal (atoms.Var 18) (atoms.Num 0) true (cells 2) 0 true (reg p (st memory l) cells 18 (cells 2) h base (omega arith) (omega arith) refl) refl (same p (st memory l) (cells 2) 0 e)) refl
       (returns refl)
@@ -96,7 +96,7 @@ module _ (p : Program) (map : IsMapped p) (f w : ℕ) (memory typed output : Lis
     pub failed_holds : Holds p.world.layout failed_memory failed_cells
     failed_holds = p5.holds
 
-    pub goes_back : Runs p f w FAIL_ACTS FAIL_ACTS (st memory l) (Returns way) (st failed_memory way) 8
+    pub goes_back : ActsRun p f w FAIL_ACTS FAIL_ACTS (st memory l) (Returns way) (st failed_memory way) 8
     goes_back =
         passed (tested p (st memory l) comparisons.Equal (atoms.Var 19) (atoms.Num 0) true (32768 + j) 0 false (reg p (st memory l) cells 19 (32768 + j) h base (omega arith) (omega arith) at) refl (other p (st memory l) (32768 + j) 0 (omega arith)))
         (done (computes p (st memory l) (st m1 l) 17 functions.Sub (atoms.Var 19) (atoms.Num 32768) (32768 + j) 32768 j (reg p (st memory l) cells 19 (32768 + j) h base (omega arith) (omega arith) at) refl (cell_is p j (omega arith) memory) p1.put_is)
@@ -139,7 +139,7 @@ module _ (p : Program) (map : IsMapped p) (f w : ℕ) (memory typed output : Lis
     pub left_holds : Holds p.world.layout left_memory left_cells
     left_holds = q2.holds
 
-    pub leaves : Runs p f w LEAVE_ACTS LEAVE_ACTS (st memory l) (Returns next) (st left_memory next) 5
+    pub leaves : ActsRun p f w LEAVE_ACTS LEAVE_ACTS (st memory l) (Returns next) (st left_memory next) 5
     leaves =
         passed (tested p (st memory l) comparisons.Equal (atoms.Var 18) (atoms.Num 0) true (32768 + j) 0 false (reg p (st memory l) cells 18 (32768 + j) h base (omega arith) (omega arith) at) refl (other p (st memory l) (32768 + j) 0 (omega arith)))
         (done (computes p (st memory l) (st memory next) 1 functions.Word (atoms.Table 1) (atoms.Var 18) (p.names.table 1) (32768 + j) next refl (reg p (st memory l) cells 18 (32768 + j) h base (omega arith) (omega arith) at)

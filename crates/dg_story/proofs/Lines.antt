@@ -6,7 +6,7 @@ use Rattle.z_lang.specs.declared.act.Act.{Act}
 use Rattle.z_lang.specs.declared.act.Act.TheVariants as acts
 use Rattle.z_lang.specs.declared.act.Atom.TheVariants as atoms
 use Rattle.z_lang.specs.declared.act.Routine.{Routine}
-use Rattle.z_lang.specs.Code.{code}
+use Rattle.z_lang.specs.Code.{ops_of_acts}
 use Rattle.z_lang.specs.Sizes.{act_bytes, body_bytes}
 use Rattle.z_lang.specs.Bodies.{FitsAct, AreFit}
 use Rattle.z_story.specs.Parts.{IsRoutine, AreRoutines}
@@ -37,7 +37,7 @@ lines_drop c (suc n) (x ∷ xs) a = lines_drop c n xs a.1
 
 lines_fit : (c : Counts) (all : List LOp) (xs : List Act) → AreLines c xs → AreFit c all xs
 lines_fit c all [] a = tt
-lines_fit c all (x ∷ xs) a = (a.0.fits all (code xs), lines_fit c all xs a.1)
+lines_fit c all (x ∷ xs) a = (a.0.fits all (ops_of_acts xs), lines_fit c all xs a.1)
 
 lines_bytes : (c : Counts) (xs : List Act) → AreLines c xs → body_bytes xs ≤ 6 * length xs
 lines_bytes c [] a = omega arith
@@ -48,7 +48,7 @@ lines_bytes c (x ∷ xs) a =
 -- Acts of one routine.
 pub straight : (c : Counts) (locals : ℕ) (body : List Act) → locals ≤ 15 → AreLines c body → length body ≤ 1001 → IsRoutine c (record { locals = locals; body = body })
 straight c locals body few a le =
-    record { few = few; short = omega (arith, lines_bytes c body a); fit = lines_fit c (code body) body a }
+    record { few = few; short = omega (arith, lines_bytes c body a); fit = lines_fit c (ops_of_acts body) body a }
 
 goes_on : (c : Counts) (way : ℕ) → way < c.routines → AreLines c (acts.Return (atoms.Routine way) ∷ [])
 goes_on c way lt = (record { fits = λ all behind. lt; small = omega arith }, tt)

@@ -6,12 +6,12 @@ use Rattle.z_lang.specs.State.{Program}
 use Rattle.z_lang.specs.declared.act.Routine.{Routine}
 use Rattle.z_story.specs.Does.{program}
 use Rattle.dg_story.specs.Routines.{all_routines}
-use Rattle.dg_story.specs.Built.{parts_of, IsStoryOf}
+use Rattle.dg_story.specs.Built.{story_parts, IsStoryOf}
 use Rattle.dg_story.specs.inside.Cells.{at_cell, heap_at, IsMapped}
 
 module _ (code : Code) (keeps : Bool) (story : List ℕ) (is : IsStoryOf code keeps story) (dice : List ℕ) where
   abbrev pub p : Program
-  p = program (parts_of code keeps) story dice
+  p = program (story_parts code keeps) story dice
 
   heap_is : (f : ℕ) → f < 4 → p.names.table f ≡ at_cell (heap_at + f)
   heap_is zero lt = refl

@@ -3,26 +3,26 @@ use Rattle.std.proofs.Common.{◌≡◌, ℕ, ◌+◌, ◌*◌, ◌≤◌, List,
 use Rattle.std.proofs.Math.Seq.{take-length}
 use Rattle.z_model.specs.Run.{ZState, zstep}
 use Rattle.z_model.specs.Story.{start_state, memory_of}
-use Rattle.z_code.specs.Targets.{Placed, label_from}
+use Rattle.z_code.specs.Targets.{OpsAt, label_from}
 use Rattle.z_lang.specs.declared.act.Act.{Act}
 use Rattle.z_lang.specs.declared.act.Atom.TheVariants as atoms
 use Rattle.z_lang.specs.declared.act.Routine.{Routine}
 use Rattle.z_lang.specs.State.{State, Program}
-use Rattle.z_lang.specs.Runs.{Outcome, Rests, Runs, rests, done}
-use Rattle.z_lang.specs.Code.{code as code_of}
+use Rattle.z_lang.specs.Runs.{ActsOutcome, Rests, ActsRun, rests, done}
+use Rattle.z_lang.specs.Code.{ops_of_acts as code_of}
 use Rattle.z_lang.specs.Leads.{Leads}
 use Rattle.z_lang.specs.Standing.{IsKept, Context, HasRoom, Follows, state_at}
 use Rattle.z_lang.proofs.Stretches.{leads_step}
 use Rattle.z_lang.proofs.Follows.{end_at, on}
 use Rattle.z_lang.proofs.Start.{opening, start_of_play, from_opening, begins}
 use Rattle.z_lang.proofs.Trampoline.{trampoline}
-use Rattle.z_asm.specs.Story.{first_of, first_ops, call_first}
+use Rattle.z_asm.specs.Story.{code_start, first_ops, call_first}
 use Rattle.z_story.specs.Parts.{image_of}
 use Rattle.dg_mid.specs.declared.code.Code.{Code}
 use Rattle.dg_story.specs.declared.support.TheConstants.{TRAMPOLINE}
 use Rattle.dg_story.specs.Numbers.{numbers_of, block_number}
 use Rattle.dg_story.specs.Routines.{routine, start_acts}
-use Rattle.dg_story.specs.Built.{parts_of, IsStoryOf}
+use Rattle.dg_story.specs.Built.{story_parts, IsStoryOf}
 use Rattle.dg_story.specs.inside.Cells.{with_cell, state}
 use Rattle.dg_story.proofs.Rules.{put_register, copies}
 use Rattle.dg_story.proofs.Mapped.{p, routine_is, globals_are}
@@ -32,7 +32,7 @@ module _ (code : Code) (keeps : Bool) (story : List ℕ) (is : IsStoryOf code ke
   q = p code keeps story is dice
 
   abbrev image_first : ℕ
-  image_first = first_of (image_of (parts_of code keeps))
+  image_first = code_start (image_of (story_parts code keeps))
 
   -- the packed address of the routine that asks the entry
   abbrev pub asks_entry : ℕ
@@ -71,7 +71,7 @@ module _ (code : Code) (keeps : Bool) (story : List ℕ) (is : IsStoryOf code ke
   labels = label_from (8 * q.names.routine 0 + 1) (code_of first.body)
 
   -- The first routine does what its acts mean.
-  pub first_follows : (n : ℕ) (o : Outcome) (s' : State) → Runs q 8 100 first.body first.body (state (memory_of story) [] typed 0 []) o s' n → Follows q story labels c o s' n at_first
+  pub first_follows : (n : ℕ) (o : ActsOutcome) (s' : State) → ActsRun q 8 100 first.body first.body (state (memory_of story) [] typed 0 []) o s' n → Follows q story labels c o s' n at_first
   first_follows n o s' runs = (is.does.does dice 0 first refl).comes c 8 100 n (state (memory_of story) [] typed 0 []) s' o starts_kept (room (memory_of story) typed [] 0) runs
 
 module _ (code : Code) (story : List ℕ) (is : IsStoryOf code true story) (dice typed : List ℕ) where
@@ -84,7 +84,7 @@ module _ (code : Code) (story : List ℕ) (is : IsStoryOf code true story) (dice
   abbrev begun_first : List Act
   begun_first = (first code true story is dice typed).body
 
-  sets_next : Runs r 8 100 begun_first begun_first (state (memory_of story) [] typed 0 []) (Rests TRAMPOLINE) (state (with_cell (memory_of story) 0 asked) [] typed 0 []) 1
+  sets_next : ActsRun r 8 100 begun_first begun_first (state (memory_of story) [] typed 0 []) (Rests TRAMPOLINE) (state (with_cell (memory_of story) 0 asked) [] typed 0 []) 1
   sets_next =
       done (copies r (state (memory_of story) [] typed 0 []) (state (with_cell (memory_of story) 0 asked) [] typed 0 []) 16 (atoms.Routine (block_number (numbers_of code) 1)) asked refl
       (put_register r (state (memory_of story) [] typed 0 []) 16 asked (globals_are code true story is dice) (omega arith) (omega arith)))
@@ -97,7 +97,7 @@ module _ (code : Code) (story : List ℕ) (is : IsStoryOf code true story) (dice
   abbrev pub pc : ℕ
   pc = follows.comes.pc
 
-  pub placed : Placed story r.names (labels code true story is dice typed) pc (code_of (trampoline 16))
+  pub placed : OpsAt story r.names (labels code true story is dice typed) pc (code_of (trampoline 16))
   placed = follows.comes.placed
 
   pub from : r.world.layout.base ≤ pc

@@ -8,7 +8,7 @@ use Rattle.dg_mid.specs.declared.code.RuleCode.{RuleCode}
 use Rattle.dg_mid.specs.declared.code.Code.{Code}
 use Rattle.z_lang.specs.declared.act.Routine.{Routine}
 use Rattle.dg_story.specs.declared.numbering.Numbers.{Numbers}
-use Rattle.dg_story.specs.Numbers.{op_size, ops_size, rules_count, block_starts, first_rule, pred_starts, numbers_of, number_or_fail, block_number, pred_number}
+use Rattle.dg_story.specs.Numbers.{routines_of_op, routines_of_ops, rules_count, block_starts, first_rule, pred_starts, numbers_of, number_or_fail, block_number, pred_number}
 use Rattle.dg_story.specs.Instructions.{op_acts, op_way}
 use Rattle.dg_story.specs.Routines.{going, runtime, rule_routine, rules_routines, preds_routines, pieces, op_routines, ops_routines, blocks_routines, all_routines}
 use Rattle.dg_story.specs.inside.From.{From}
@@ -51,12 +51,12 @@ blocks_at : (all : List Routine) (numbers : Numbers) (k : ℕ) (blocks : List Bl
     let n = number_or_fail (slice_get (block_starts k blocks) b) in From all n (ops_routines numbers n block.ops)
 blocks_at all numbers k [] b block h e = absurd (cc)
 blocks_at all numbers k (x ∷ blocks) zero block h e =
-    let first = from_front all k (ops_routines numbers k x.ops) (blocks_routines numbers (k + ops_size x.ops) blocks) h in
+    let first = from_front all k (ops_routines numbers k x.ops) (blocks_routines numbers (k + routines_of_ops x.ops) blocks) h in
     subst (λ (y : Block). From all k (ops_routines numbers k y.ops)) (some_block x block e) first
 blocks_at all numbers k (x ∷ blocks) (suc b) block h e =
-    let behind = from_behind all k (ops_routines numbers k x.ops) (blocks_routines numbers (k + ops_size x.ops) blocks) h in
-    let there = subst (λ (n : ℕ). From all (k + n) (blocks_routines numbers (k + ops_size x.ops) blocks)) (ops_many numbers k x.ops) behind in
-    blocks_at all numbers (k + ops_size x.ops) blocks b block there e
+    let behind = from_behind all k (ops_routines numbers k x.ops) (blocks_routines numbers (k + routines_of_ops x.ops) blocks) h in
+    let there = subst (λ (n : ℕ). From all (k + n) (blocks_routines numbers (k + routines_of_ops x.ops) blocks)) (ops_many numbers k x.ops) behind in
+    blocks_at all numbers (k + routines_of_ops x.ops) blocks b block there e
 
 -- ## Rules
 
@@ -104,16 +104,16 @@ module _ (code : Code) (keeps : Bool) where
   runtime_from = from_front all 0 (runtime keeps (block_number ns 1)) (preds_routines ns 10 code.preds ++ blocks_routines ns (10 + rules_count code.preds) code.blocks) (from_first all)
 
   -- An instruction that is one routine, and those behind it.
-  pub op_here : (k : ℕ) (x : Op) (ops : List Op) → op_size x ≡ 1 → length (op_acts ns x) / 1000 ≡ 0 → From all k (ops_routines ns k (x ∷ ops)) → slice_get all k ≡ Some (going (op_acts ns x) (op_way ns (k + 1) x))
+  pub op_here : (k : ℕ) (x : Op) (ops : List Op) → routines_of_op x ≡ 1 → length (op_acts ns x) / 1000 ≡ 0 → From all k (ops_routines ns k (x ∷ ops)) → slice_get all k ≡ Some (going (op_acts ns x) (op_way ns (k + 1) x))
   op_here k x ops one none h =
-      let first = from_front all k (op_routines ns k x) (ops_routines ns (k + op_size x) ops) h in
-      let alone = subst (λ (n : ℕ). From all k (pieces n k (op_acts ns x) (op_way ns (k + op_size x) x))) none first in
-      subst (λ (n : ℕ). slice_get all k ≡ Some (going (op_acts ns x) (op_way ns (k + n) x))) one (from_here all k (going (op_acts ns x) (op_way ns (k + op_size x) x)) [] alone)
+      let first = from_front all k (op_routines ns k x) (ops_routines ns (k + routines_of_op x) ops) h in
+      let alone = subst (λ (n : ℕ). From all k (pieces n k (op_acts ns x) (op_way ns (k + routines_of_op x) x))) none first in
+      subst (λ (n : ℕ). slice_get all k ≡ Some (going (op_acts ns x) (op_way ns (k + n) x))) one (from_here all k (going (op_acts ns x) (op_way ns (k + routines_of_op x) x)) [] alone)
 
-  pub ops_behind : (k : ℕ) (x : Op) (ops : List Op) → From all k (ops_routines ns k (x ∷ ops)) → From all (k + op_size x) (ops_routines ns (k + op_size x) ops)
+  pub ops_behind : (k : ℕ) (x : Op) (ops : List Op) → From all k (ops_routines ns k (x ∷ ops)) → From all (k + routines_of_op x) (ops_routines ns (k + routines_of_op x) ops)
   ops_behind k x ops h =
-      let behind = from_behind all k (op_routines ns k x) (ops_routines ns (k + op_size x) ops) h in
-      subst (λ (n : ℕ). From all (k + n) (ops_routines ns (k + op_size x) ops)) (op_many ns k x) behind
+      let behind = from_behind all k (op_routines ns k x) (ops_routines ns (k + routines_of_op x) ops) h in
+      subst (λ (n : ℕ). From all (k + n) (ops_routines ns (k + routines_of_op x) ops)) (op_many ns k x) behind
 
   -- A rule, and those behind it.
   pub rule_here : (k : ℕ) (r : RuleCode) (rs : List RuleCode) → From all k (rules_routines ns k (r ∷ rs)) → slice_get all k ≡ Some (rule_routine ns k r rs)

@@ -16,7 +16,7 @@ use Rattle.dg_mid.specs.declared.code.Op.TheVariants as op
 use Rattle.dg_mid.specs.declared.code.RuleCode.{RuleCode}
 use Rattle.dg_mid.specs.declared.code.Code.{Code}
 use Rattle.dg_mid.specs.Codes.{Returns, RuleStands, RulesStand}
-use Rattle.dg_story.specs.Plain.{are_none, is_plain_goal, are_plain_goals, is_plain_rule, rule_fits, rules_fit}
+use Rattle.dg_story.specs.Plain.{has_no_terms, is_plain_goal, are_plain_goals, is_plain_rule, rule_fits, are_plain_rules}
 use Rattle.dg_story.specs.inside.PlainCode.{PlainGoal, PlainGoals, PlainRule, PlainRules}
 
 -- ## Tests
@@ -31,7 +31,7 @@ pub both_true : (a b : Bool) → (a && b) ≡ true → (a ≡ true) × (b ≡ tr
 both_true true b e = (refl, e)
 both_true false b e = false_is e
 
-none_is : (terms : List Term) → are_none terms ≡ true → terms ≡ []
+none_is : (terms : List Term) → has_no_terms terms ≡ true → terms ≡ []
 none_is [] e = refl
 none_is (t ∷ ts) e = false_is e
 
@@ -44,7 +44,7 @@ not_true false e = refl
 plain_goal : (program : CoreProgram) (layer : form.Goal-F Goal) → is_plain_goal layer ≡ true → FitsProgram program layer → PlainGoal program layer
 plain_goal program (form.Text text) e fits = fits
 plain_goal program (form.Ask pred terms many) e fits =
-    let both = both_true (are_none terms) (not many) e in
+    let both = both_true (has_no_terms terms) (not many) e in
     let none = none_is terms both.0 in
     (none, not_true many both.1, subst (λ (ts : List Term). FitsHeads (length ts) (slice_get program.preds pred)) none fits)
 plain_goal program layer e fits = false_is e
@@ -71,13 +71,13 @@ plain_goals program vars (g ∷ gs) e all =
 plain_rule : (program : CoreProgram) (code : Code) (from_source : Bool) (c : RuleCode) (rule : Rule) → rule_fits from_source rule ≡ true → IsRuleOf program rule → rule.head ≡ [] → RuleStands code c rule → PlainRule program code c
 plain_rule program code from_source c rule fits sound none stands = by_source (not from_source) fits
   where
-    none_here : are_none rule.head ≡ true
-    none_here = ap are_none none
+    none_here : has_no_terms rule.head ≡ true
+    none_here = ap has_no_terms none
 
     plain : is_plain_rule rule ≡ true → PlainRule program code c
     plain e =
-        let first = both_true (rule.vars == 0) (are_none rule.head && are_plain_goals rule.body) e in
-        let second = both_true (are_none rule.head) (are_plain_goals rule.body) first.1 in
+        let first = both_true (rule.vars == 0) (has_no_terms rule.head && are_plain_goals rule.body) e in
+        let second = both_true (has_no_terms rule.head) (are_plain_goals rule.body) first.1 in
         let vars : rule.vars ≡ 0 = eqb-true rule.vars 0 first.0 in
         record {
           ops = stands.ops;
@@ -85,15 +85,15 @@ plain_rule program code from_source c rule fits sound none stands = by_source (n
           plain = record { goals = rule.body; end = Returns; stands = stands.body; plain = plain_goals program rule.vars rule.body second.1 sound.body; end_is = inl refl };
         }
 
-    by_source : (b : Bool) → ((b && not (are_none rule.head)) || is_plain_rule rule) ≡ true → PlainRule program code c
+    by_source : (b : Bool) → ((b && not (has_no_terms rule.head)) || is_plain_rule rule) ≡ true → PlainRule program code c
     by_source false e = plain e
     by_source true e = plain (subst (λ (x : Bool). (not x || is_plain_rule rule) ≡ true) none_here e)
 
-pub plain_rules : (program : CoreProgram) (code : Code) (from_source : Bool) (cs : List RuleCode) (rules : List Rule) → rules_fit from_source rules ≡ true → All (IsRuleOf program) rules → All (λ (rule : Rule). length rule.head ≡ 0) rules →
+pub plain_rules : (program : CoreProgram) (code : Code) (from_source : Bool) (cs : List RuleCode) (rules : List Rule) → are_plain_rules from_source rules ≡ true → All (IsRuleOf program) rules → All (λ (rule : Rule). length rule.head ≡ 0) rules →
     RulesStand code cs rules → PlainRules program code cs
 plain_rules program code from_source [] [] fits sound none stands = tt
 plain_rules program code from_source (c ∷ cs) (rule ∷ rules) fits sound none stands =
-    let both = both_true (rule_fits from_source rule) (rules_fit from_source rules) fits in
+    let both = both_true (rule_fits from_source rule) (are_plain_rules from_source rules) fits in
     let head = All-head (λ (r : Rule). length r.head ≡ 0) rule rules none in (
       plain_rule program code from_source c rule both.0 (All-head (IsRuleOf program) rule rules sound) (no_terms rule.head head) stands.0,
       plain_rules program code from_source cs rules both.1 (All-tail (IsRuleOf program) rule rules sound) (All-tail (λ (r : Rule). length r.head ≡ 0) rule rules none) stands.1,

@@ -10,24 +10,24 @@ use Rattle.dg_meaning.specs.Moves.{rules_of}
 use Rattle.dg_mid.specs.declared.code.Code.{Code}
 use Rattle.dg_mid.specs.Code.{rules_at}
 use Rattle.dg_mid.specs.Codes.{RulesStand, Codes}
-use Rattle.dg_story.specs.Plain.{rules_fit, preds_fit, is_plain}
+use Rattle.dg_story.specs.Plain.{are_plain_rules, preds_fit, is_plain}
 use Rattle.dg_story.specs.inside.PlainCode.{PlainRules}
 use Rattle.dg_story.proofs.PlainLemmas.{plain_rules, both_true}
 
 -- ## The rules of a predicate
 
 -- a predicate of a list that fits
-pred_fits : (preds : List Pred) (k : ℕ) (pred : Pred) → preds_fit preds ≡ true → slice_get preds k ≡ Some pred → rules_fit pred.from_source pred.rules ≡ true
+pred_fits : (preds : List Pred) (k : ℕ) (pred : Pred) → preds_fit preds ≡ true → slice_get preds k ≡ Some pred → are_plain_rules pred.from_source pred.rules ≡ true
 pred_fits [] k pred fits e = absurd (none e)
   where
     none : None ≡ Some pred → ⊥
     none q = cc
 pred_fits (p ∷ preds) zero pred fits e =
-    let both = both_true (rules_fit p.from_source p.rules) (preds_fit preds) fits in
+    let both = both_true (are_plain_rules p.from_source p.rules) (preds_fit preds) fits in
     let same : p ≡ pred = cc in
-    subst (λ (x : Pred). rules_fit x.from_source x.rules ≡ true) same both.0
+    subst (λ (x : Pred). are_plain_rules x.from_source x.rules ≡ true) same both.0
 pred_fits (p ∷ preds) (suc k) pred fits e =
-    let both = both_true (rules_fit p.from_source p.rules) (preds_fit preds) fits in
+    let both = both_true (are_plain_rules p.from_source p.rules) (preds_fit preds) fits in
     pred_fits preds k pred both.1 e
 
 pred_sound : (P : Pred → Type 0) (preds : List Pred) (k : ℕ) (pred : Pred) → All P preds → slice_get preds k ≡ Some pred → P pred

@@ -7,13 +7,13 @@ use Rattle.dg_mid.specs.State.{Frame, Choice, Mid, Status}
 use Rattle.z_model.specs.declared.end.ZEnd.TheVariants as ends
 use Rattle.z_model.specs.declared.end.Halt.TheVariants.{AtQuit}
 use Rattle.z_model.specs.Run.{ZState}
-use Rattle.z_code.specs.Targets.{Placed}
+use Rattle.z_code.specs.Targets.{OpsAt}
 use Rattle.z_lang.specs.declared.act.Routine.{Routine}
 use Rattle.z_lang.specs.State.{State}
-use Rattle.z_lang.specs.Runs.{Runs as Leading, Returns, Stops, entered, returns}
-use Rattle.z_lang.specs.Code.{code as code_of}
+use Rattle.z_lang.specs.Runs.{ActsRun as Leading, Returns, Stops, routine_entered, returns}
+use Rattle.z_lang.specs.Code.{ops_of_acts as code_of}
 use Rattle.z_lang.specs.Leads.{Leads, Ends}
-use Rattle.z_lang.specs.Standing.{Stands, IsKept, Context, HasRoom, state_at}
+use Rattle.z_lang.specs.Standing.{RoutinesStand, IsKept, Context, HasRoom, state_at}
 use Rattle.z_lang.proofs.Trampoline.{trampoline}
 use Rattle.z_lang.proofs.Stretches.{leads_then, ends_then}
 use Rattle.dg_story.specs.Routines.{going, all_routines}
@@ -28,8 +28,8 @@ use Rattle.dg_story.proofs.Staying.{SameBelow, alike, frames_stay, choices_stay}
 -- The story's routines stand in it, and its first one calls one after another.
 pub record Playing (t : Telling) (story : List ℕ) (c : Context) (pc : ℕ) : Type 0 where
   pub labels : ℕ → ℕ
-  pub stands : Stands t.p story
-  pub placed : Placed story t.p.names labels pc (code_of (trampoline 16))
+  pub stands : RoutinesStand t.p story
+  pub placed : OpsAt story t.p.names labels pc (code_of (trampoline 16))
   pub from : t.p.world.layout.base ≤ pc
   pub room : (m u o : List ℕ) (d : ℕ) → HasRoom c (state m [] u d o) 8 100
   pub map : IsMapped t.p
@@ -145,7 +145,7 @@ module _ (t : Telling) (story : List ℕ) (c : Context) (pc : ℕ) where
   module _ (plays : Playing t story c pc) where
     -- The routine that comes next returns another.
     pub moves : (output : List ℕ) (cells : ℕ → ℕ) (z : ZState) (l : Lands t story c pc output cells z) (k : ℕ) (r : Routine) → cells 0 ≡ at_number t k → slice_get (all_routines t.code t.keeps) k ≡ Some r → r.locals ≤ 15 →
-        (y n : ℕ) (output' memory' locals' : List ℕ) (cells' : ℕ → ℕ) → Leading t.p 7 80 r.body r.body (entered (state l.memory [] l.typed l.drawn output) r.locals (0, 0, 0)) (Returns y) (state memory' locals' l.typed l.drawn output') n →
+        (y n : ℕ) (output' memory' locals' : List ℕ) (cells' : ℕ → ℕ) → Leading t.p 7 80 r.body r.body (routine_entered (state l.memory [] l.typed l.drawn output) r.locals (0, 0, 0)) (Returns y) (state memory' locals' l.typed l.drawn output') n →
         Holds t.p.world.layout memory' cells' → y < 65536 → Moved t story c pc output' (replaced cells' 0 y) (n + 2) z
     moves output cells z l k r next at few y n output' memory' locals' cells' runs holds' small =
         let b = bounce t.p story plays.stands plays.labels pc plays.placed plays.from c plays.room plays.map.base l.memory l.typed output memory' l.typed output' locals' l.drawn l.drawn (at_number t k) y n cells cells' r l.kept l.holds next
@@ -166,7 +166,7 @@ module _ (t : Telling) (story : List ℕ) (c : Context) (pc : ℕ) where
 
     -- The routine that comes next ends the run.
     pub ends_run : (output : List ℕ) (cells : ℕ → ℕ) (z : ZState) (l : Lands t story c pc output cells z) (k : ℕ) (r : Routine) → cells 0 ≡ at_number t k → slice_get (all_routines t.code t.keeps) k ≡ Some r → r.locals ≤ 15 →
-        (n : ℕ) (s1 : State) (bytes : List ℕ) → s1.output ≡ bytes → Leading t.p 7 80 r.body r.body (entered (state l.memory [] l.typed l.drawn output) r.locals (0, 0, 0)) (Stops AtQuit) s1 n → Over t bytes (suc n) z
+        (n : ℕ) (s1 : State) (bytes : List ℕ) → s1.output ≡ bytes → Leading t.p 7 80 r.body r.body (routine_entered (state l.memory [] l.typed l.drawn output) r.locals (0, 0, 0)) (Stops AtQuit) s1 n → Over t bytes (suc n) z
     ends_run output cells z l k r next at few n s1 bytes is runs =
         let over = stop t.p story plays.stands plays.labels pc plays.placed plays.from c plays.room plays.map.base l.memory l.typed output l.drawn (at_number t k) n cells s1 AtQuit r l.kept l.holds next (plays.routines k r at) few runs in
         record {

@@ -23,7 +23,7 @@ use Rattle.dg_mid.proofs.Whole.{at_limit}
 use Rattle.z_model.specs.declared.end.ZEnd.{ZEnd}
 use Rattle.z_model.specs.declared.end.ZEnd.TheVariants as ends
 use Rattle.z_lang.specs.Turns.{Turn, To, Over as IsOverWith, printed_by}
-use Rattle.dg_story.specs.Agrees.{story_limits, IsDone, IsCut, of_body, of_transcript, of_limit, IsWhole, by_done, by_limit, IsLimitText, IsThere, IsAtLimit, body}
+use Rattle.dg_story.specs.Agrees.{story_limits, IsDone, IsCut, of_body, of_transcript, of_limit, EndsWhole, by_done, by_limit, IsLimitText, IsThere, IsAtLimit, printed_body}
 use Rattle.dg_story.specs.inside.Tells.{InTime, reached, over, Tells}
 use Rattle.dg_story.specs.inside.Represents.{Telling}
 use Rattle.dg_story.specs.inside.Stepping.{PlainEnd, StatusUnder}
@@ -102,7 +102,7 @@ module _ (g : Game) (t : Telling) (typed : List ℕ) (codes : Codes g.program t.
   -- ## Between
 
   -- a point's text begins that of a run
-  point_begins : (k : ℕ) → (IsOver (point k).now → ⊥) → Begins (render (point k).prints) (body g typed ((point k).goals + 0))
+  point_begins : (k : ℕ) → (IsOver (point k).now → ⊥) → Begins (render (point k).prints) (printed_body g typed ((point k).goals + 0))
   point_begins k on =
       let p = point k in
       let c = (is_at k).comes 0 in
@@ -139,30 +139,30 @@ module _ (g : Game) (t : Telling) (typed : List ℕ) (codes : Codes g.program t.
     -- what lies between two boundaries is a front of what some run writes
     cut_so : (k : ℕ) (now : Status) (bytes : List ℕ) → (point k).now ≡ now → Begins bytes (printed_by (turning g t typed) (turn_to (point k).prints now k)) → IsCut g typed bytes
     cut_so k (Ended e) bytes is h = ended_cut k e bytes is h
-    cut_so k (Runs m) bytes is h = of_body ((point k).goals + 0) (begins_on bytes (render (point k).prints) (body g typed ((point k).goals + 0)) h (point_begins k (λ o. subst IsOver is o)))
-    cut_so k (Enters call m) bytes is h = of_body ((point k).goals + 0) (begins_on bytes (render (point k).prints) (body g typed ((point k).goals + 0)) h (point_begins k (λ o. subst IsOver is o)))
-    cut_so k (Resumes way m) bytes is h = of_body ((point k).goals + 0) (begins_on bytes (render (point k).prints) (body g typed ((point k).goals + 0)) h (point_begins k (λ o. subst IsOver is o)))
-    cut_so k (Fails m) bytes is h = of_body ((point k).goals + 0) (begins_on bytes (render (point k).prints) (body g typed ((point k).goals + 0)) h (point_begins k (λ o. subst IsOver is o)))
+    cut_so k (Runs m) bytes is h = of_body ((point k).goals + 0) (begins_on bytes (render (point k).prints) (printed_body g typed ((point k).goals + 0)) h (point_begins k (λ o. subst IsOver is o)))
+    cut_so k (Enters call m) bytes is h = of_body ((point k).goals + 0) (begins_on bytes (render (point k).prints) (printed_body g typed ((point k).goals + 0)) h (point_begins k (λ o. subst IsOver is o)))
+    cut_so k (Resumes way m) bytes is h = of_body ((point k).goals + 0) (begins_on bytes (render (point k).prints) (printed_body g typed ((point k).goals + 0)) h (point_begins k (λ o. subst IsOver is o)))
+    cut_so k (Fails m) bytes is h = of_body ((point k).goals + 0) (begins_on bytes (render (point k).prints) (printed_body g typed ((point k).goals + 0)) h (point_begins k (λ o. subst IsOver is o)))
 
     -- ## Whole runs
 
-    ended_whole : (k : ℕ) (e : Ending) → (point k).now ≡ Ended e → IsWhole g typed ends.Quit (closed_text (point k).prints (line_of e))
+    ended_whole : (k : ℕ) (e : Ending) → (point k).now ≡ Ended e → EndsWhole g typed ends.Quit (closed_text (point k).prints (line_of e))
     ended_whole k e is = ⊎_elim by_end by_heap (end_cases e (plain_end k e is))
       where
-        by_end : IsDone e → IsWhole g typed ends.Quit (closed_text (point k).prints (line_of e))
+        by_end : IsDone e → EndsWhole g typed ends.Quit (closed_text (point k).prints (line_of e))
         by_end d = let s = done_so k e (point k).goals is d (omega arith) in by_done (point k).goals (subst IsDone (sym s.ending) d) s.whole
 
-        by_heap : e ≡ endings.HeapLimit → IsWhole g typed ends.Quit (closed_text (point k).prints (line_of e))
-        by_heap q = subst (λ (x : Ending). IsWhole g typed ends.Quit (closed_text (point k).prints (line_of x))) (sym q) (by_limit Heap (limit_so k (is ∙ ap Ended q)).text)
+        by_heap : e ≡ endings.HeapLimit → EndsWhole g typed ends.Quit (closed_text (point k).prints (line_of e))
+        by_heap q = subst (λ (x : Ending). EndsWhole g typed ends.Quit (closed_text (point k).prints (line_of x))) (sym q) (by_limit Heap (limit_so k (is ∙ ap Ended q)).text)
 
     no_over : (k : ℕ) (end : ZEnd) (bytes : List ℕ) → ◌≡◌ {A = Turn ZEnd ℕ} (To k) (IsOverWith end bytes) → ⊥
     no_over k end bytes e = cc
 
-    whole_so : (k : ℕ) (now : Status) (end : ZEnd) (bytes : List ℕ) → (point k).now ≡ now → turn_to (point k).prints now k ≡ IsOverWith end bytes → IsWhole g typed end bytes
+    whole_so : (k : ℕ) (now : Status) (end : ZEnd) (bytes : List ℕ) → (point k).now ≡ now → turn_to (point k).prints now k ≡ IsOverWith end bytes → EndsWhole g typed end bytes
     whole_so k (Ended e) end bytes is h =
         let q : ends.Quit ≡ end = cc in
         let b : closed_text (point k).prints (line_of e) ≡ bytes = cc in
-        subst (λ (x : ZEnd). IsWhole g typed x bytes) q (subst (IsWhole g typed ends.Quit) b (ended_whole k e is))
+        subst (λ (x : ZEnd). EndsWhole g typed x bytes) q (subst (EndsWhole g typed ends.Quit) b (ended_whole k e is))
     whole_so k (Runs m) end bytes is h = absurd (no_over k end bytes h)
     whole_so k (Enters call m) end bytes is h = absurd (no_over k end bytes h)
     whole_so k (Resumes way m) end bytes is h = absurd (no_over k end bytes h)
@@ -216,7 +216,7 @@ module _ (g : Game) (t : Telling) (typed : List ℕ) (codes : Codes g.program t.
           let r : run g typed n ≡ record { left = 0; world = l.world; ending = endings.StepLimit } = ap (run g typed) (sym all) ∙ l.is in
           let s = spends k n (omega arith) in
           let printed : prints (run g typed n).world.events ≡ p.prints = ap (λ (x : Run). prints x.world.events) r ∙ l.printed_is in
-          reached (reaches g t typed k on) (omega arith) (ap (λ (x : Run). x.ending) r) (subst (λ (ps : List Print). Begins (body g typed n) (render ps)) printed (begins_same (body g typed n)))
+          reached (reaches g t typed k on) (omega arith) (ap (λ (x : Run). x.ending) r) (subst (λ (ps : List Print). Begins (printed_body g typed n) (render ps)) printed (begins_same (printed_body g typed n)))
 
       there_so : (n k : ℕ) (e : Ending) → (point k).now ≡ Ended e → (point k).goals ≤ n → IsThere g typed n (closed_text (point k).prints (line_of e)) ends.Quit ⊎ IsAtLimit g typed n (closed_text (point k).prints (line_of e)) ends.Quit
       there_so n k e is le = ⊎_elim by_end by_heap (end_cases e (plain_end k e is))
@@ -225,7 +225,7 @@ module _ (g : Game) (t : Telling) (typed : List ℕ) (codes : Codes g.program t.
           by_end d =
               let s = done_so k e n is d le in
               inl (record {
-                printed = subst (Begins (body g typed n)) (sym s.whole) (record { behind = _; is = refl });
+                printed = subst (Begins (printed_body g typed n)) (sym s.whole) (record { behind = _; is = refl });
                 input = λ q. absurd (subst IsDone (sym s.ending ∙ q) d);
                 done = λ x. (s.whole, refl);
               })

@@ -9,7 +9,7 @@ use Rattle.dg_base.specs.declared.program.CoreProgram.{CoreProgram}
 use Rattle.dg_story.specs.declared.refusal.BuildRefusal.TheVariants.{NotBuiltYet, WorldTooLarge, WordsTooLarge, StoryTooLarge}
 use Rattle.dg_story.specs.Plain.{is_plain}
 use Rattle.dg_story.specs.Sizes.{world_size, words_size, rules_size, preds_size, story_size}
-use Rattle.dg_story.specs.Refusals.{refusal_of}
+use Rattle.dg_story.specs.Refusals.{build_refusal}
 use Rattle.dg_story.specs.Built.{rule_count}
 
 last_false : (a b c d : Bool) → (if not a then Some NotBuiltYet else (if b then Some WorldTooLarge else (if c then Some WordsTooLarge else (if d then Some StoryTooLarge else None)))) ≡ None → d ≡ false
@@ -19,7 +19,7 @@ last_false true false true d e = absurd (search rules)
 last_false true true c d e = absurd (search rules)
 last_false false b c d e = absurd (search rules)
 
-pub story_fits : (p : CoreProgram) → refusal_of p ≡ None → story_size p ≤ 440000
+pub story_fits : (p : CoreProgram) → build_refusal p ≡ None → story_size p ≤ 440000
 story_fits p e =
     ltb-false 440000 (story_size p) (last_false (is_plain p) (nat_lt 8000 (world_size p)) (nat_lt 20000 (words_size p.words)) (nat_lt 440000 (story_size p)) e)
 
@@ -28,7 +28,7 @@ first_true true b c d e = refl
 first_true false b c d e = absurd (search rules)
 
 -- All rules are plain, to which a run may come.
-pub rules_plain : (p : CoreProgram) → refusal_of p ≡ None → is_plain p ≡ true
+pub rules_plain : (p : CoreProgram) → build_refusal p ≡ None → is_plain p ≡ true
 rules_plain p e = first_true (is_plain p) (nat_lt 8000 (world_size p)) (nat_lt 20000 (words_size p.words)) (nat_lt 440000 (story_size p)) e
 
 rules_least : (rs : List Rule) → 100 * length rs ≤ rules_size rs
@@ -40,5 +40,5 @@ preds_least [] = omega arith
 preds_least (p ∷ ps) = omega (arith, rules_least p.rules, preds_least ps)
 
 -- There are few rules.
-pub rules_few : (p : CoreProgram) → refusal_of p ≡ None → rule_count p.preds ≤ 65535
+pub rules_few : (p : CoreProgram) → build_refusal p ≡ None → rule_count p.preds ≤ 65535
 rules_few p e = omega (arith, story_fits p e, preds_least p.preds)

@@ -17,12 +17,12 @@ use Rattle.z_lang.specs.declared.act.Atom.TheVariants as atoms
 use Rattle.z_lang.specs.declared.act.Routine.{Routine}
 use Rattle.z_lang.specs.Sizes.{body_bytes}
 use Rattle.z_lang.proofs.Sizes.{takes_bytes}
-use Rattle.z_story.specs.Parts.{code_of}
+use Rattle.z_story.specs.Parts.{routine_code}
 use Rattle.dg_story.specs.declared.numbering.Numbers.{Numbers}
 use Rattle.dg_story.specs.declared.texts.Part.{Part}
 use Rattle.dg_story.specs.declared.texts.Part.TheVariants as part
-use Rattle.dg_story.specs.Texts.{letters_from, letters_of, say, says, first_closes, end_of, separated, text_acts}
-use Rattle.dg_story.specs.Numbers.{op_size, ops_size, blocks_size, rules_count, block_number}
+use Rattle.dg_story.specs.Texts.{letters_from, characters_of, say, says, first_closes, text_end, separated, text_acts}
+use Rattle.dg_story.specs.Numbers.{routines_of_op, routines_of_ops, blocks_size, rules_count, block_number}
 use Rattle.dg_story.specs.Routines.{going, choosing, rules_routines, preds_routines, pieces, op_routines, ops_routines, blocks_routines, runtime}
 
 -- ## Characters
@@ -83,7 +83,7 @@ says_many [] = refl
 says_many (n ∷ ns) = omega (arith, says_many ns)
 
 abbrev keeps_end : List ℕ → List Act
-keeps_end text = acts.Copy 22 (atoms.Num (end_of text)) ∷ []
+keeps_end text = acts.Copy 22 (atoms.Num (text_end text)) ∷ []
 
 separated_bytes : (text : List ℕ) → body_bytes (separated text) ≤ 4
 separated_bytes text = by_closing (first_closes text)
@@ -107,14 +107,14 @@ text_bytes text =
       bytes_append (separated text) (says text ++ keeps_end text),
       bytes_append (says text) (keeps_end text),
       separated_bytes text,
-      says_bytes (letters_of text),
-      num_bytes (nat_lt (end_of text) 256),
+      says_bytes (characters_of text),
+      num_bytes (nat_lt (text_end text) 256),
     )
 
 pub text_many : (text : List ℕ) → length (text_acts text) ≤ 2 + characters text
 text_many text =
     let few = letters_few part.Nothing text in
-    omega (arith, length-append (separated text) (says text ++ keeps_end text), length-append (says text) (keeps_end text), separated_many text, says_many (letters_of text))
+    omega (arith, length-append (separated text) (says text ++ keeps_end text), length-append (says text) (keeps_end text), separated_many text, says_many (characters_of text))
 
 -- ## Room
 
@@ -137,14 +137,14 @@ aligned_eights : (n : ℕ) → aligned n ≡ 8 * (aligned n / 8)
 aligned_eights n = omega arith
 
 -- routines end behind so much room
-pub end_within : (rs : List Routine) (at q : ℕ) → at ≤ 8 * q → end_from at (map code_size (map code_of rs)) ≤ 8 * q + rooms rs
+pub end_within : (rs : List Routine) (at q : ℕ) → at ≤ 8 * q → end_from at (map code_size (map routine_code rs)) ≤ 8 * q + rooms rs
 end_within [] at q le = omega arith
 end_within (r ∷ rs) at q le =
     let size = (takes_bytes r.body).all in
     let n = aligned (1 + body_bytes r.body) / 8 in
     let e = aligned_eights (1 + body_bytes r.body) in
     let b = aligned_below at q le in
-    omega (arith, end_within rs (aligned at + code_size (code_of r)) (q + n) (omega arith))
+    omega (arith, end_within rs (aligned at + code_size (routine_code r)) (q + n) (omega arith))
 
 going_room : (body : List Act) (way : ℕ) → room (going body way) ≤ 11 + body_bytes body
 going_room body way = omega (arith, bytes_append body (acts.Return (atoms.Routine way) ∷ []))
@@ -158,7 +158,7 @@ pieces_room (suc further) number body way =
 op_room : (numbers : Numbers) (k : ℕ) (x : Op) → rooms (op_routines numbers k x) ≤ op_weight x
 op_room numbers k (op.Do (action.Text text)) =
     let body = text_acts text in
-    omega (arith, pieces_room (length body / 1000) k body (k + op_size (op.Do (action.Text text))), text_bytes text, text_many text)
+    omega (arith, pieces_room (length body / 1000) k body (k + routines_of_op (op.Do (action.Text text))), text_bytes text, text_many text)
 op_room numbers k (op.Ask pred terms all next) = omega arith
 op_room numbers k (op.LastAsk pred terms all) = omega arith
 op_room numbers k (op.Enter vars head) = omega arith
@@ -167,16 +167,16 @@ op_room numbers k x = omega arith
 ops_room : (numbers : Numbers) (k : ℕ) (ops : List Op) → rooms (ops_routines numbers k ops) ≤ 16 + ops_weight ops
 ops_room numbers k [] = omega arith
 ops_room numbers k (x ∷ ops) =
-    omega (arith, rooms_append (op_routines numbers k x) (ops_routines numbers (k + op_size x) ops), op_room numbers k x, ops_room numbers (k + op_size x) ops)
+    omega (arith, rooms_append (op_routines numbers k x) (ops_routines numbers (k + routines_of_op x) ops), op_room numbers k x, ops_room numbers (k + routines_of_op x) ops)
 
 pub blocks_room : (numbers : Numbers) (k : ℕ) (blocks : List Block) → rooms (blocks_routines numbers k blocks) ≤ blocks_weight blocks
 blocks_room numbers k [] = omega arith
 blocks_room numbers k (block ∷ blocks) =
     omega (
       arith,
-      rooms_append (ops_routines numbers k block.ops) (blocks_routines numbers (k + ops_size block.ops) blocks),
+      rooms_append (ops_routines numbers k block.ops) (blocks_routines numbers (k + routines_of_ops block.ops) blocks),
       ops_room numbers k block.ops,
-      blocks_room numbers (k + ops_size block.ops) blocks,
+      blocks_room numbers (k + routines_of_ops block.ops) blocks,
     )
 
 choosing_room : (next way : ℕ) (others : List RuleCode) → room (going (choosing next others) way) ≤ 16
@@ -198,11 +198,11 @@ runtime_room false first = omega arith
 
 -- ## Numbers
 
-op_few : (x : Op) → 16 * op_size x ≤ op_weight x
+op_few : (x : Op) → 16 * routines_of_op x ≤ op_weight x
 op_few (op.Do (action.Text text)) = omega (arith, text_many text)
 op_few x = omega arith
 
-ops_few : (ops : List Op) → 16 * ops_size ops ≤ 16 + ops_weight ops
+ops_few : (ops : List Op) → 16 * routines_of_ops ops ≤ 16 + ops_weight ops
 ops_few [] = omega arith
 ops_few (x ∷ ops) = omega (arith, op_few x, ops_few ops)
 

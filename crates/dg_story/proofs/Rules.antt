@@ -13,7 +13,7 @@ use Rattle.z_lang.specs.declared.act.Comparison.TheVariants as comparisons
 use Rattle.z_lang.specs.declared.act.Print.{Print}
 use Rattle.z_lang.specs.declared.act.Act.TheVariants as acts
 use Rattle.z_lang.specs.State.{State, Program, variable, value, put, with_local}
-use Rattle.z_lang.specs.Acts.{computed, written, printed, compared, does, answer_of, with_output}
+use Rattle.z_lang.specs.Acts.{computed, memory_with, print_output, comparison_answer, does, answer_of, with_output}
 use Rattle.dg_story.specs.inside.Cells.{heap_at, with_cell, replaced, Holds, IsMapped, state}
 use Rattle.dg_story.proofs.Cells.{holds_with, global_is, with_global_is, reads_cell, writes_cell, some_list}
 
@@ -28,7 +28,7 @@ some_state s = Some s
 
 -- ---- acts
 
-pub tested : (p : Program) (s : State) (c : Comparison) (a b : Atom) (answer : Bool) (x y : ℕ) (r : Bool) → value p s a ≡ word x → value p s b ≡ word y → compared p s c x y ≡ bool r → answer_of p s (record { comparison = c; first = a; second = b; answer = answer }) ≡ bool r
+pub tested : (p : Program) (s : State) (c : Comparison) (a b : Atom) (answer : Bool) (x y : ℕ) (r : Bool) → value p s a ≡ word x → value p s b ≡ word y → comparison_answer p s c x y ≡ bool r → answer_of p s (record { comparison = c; first = a; second = b; answer = answer }) ≡ bool r
 tested p s c a b answer x y r e f g = rw (e, f) g
 
 pub computes : (p : Program) (s s1 : State) (v : ℕ) (f : Function) (a b : Atom) (x y z : ℕ) → value p s a ≡ word x → value p s b ≡ word y → computed p.world.layout s.memory f x y ≡ word z → put p v z s ≡ some_state s1 → does p (acts.Compute v f a b) s ≡ some_state s1
@@ -37,10 +37,10 @@ computes p s s1 v f a b x y z e g h i = rw (e, g, h) i
 pub copies : (p : Program) (s s1 : State) (v : ℕ) (a : Atom) (x : ℕ) → value p s a ≡ word x → put p v x s ≡ some_state s1 → does p (acts.Copy v a) s ≡ some_state s1
 copies p s s1 v a x e i = rw e i
 
-pub writes : (p : Program) (s : State) (k : Width) (a b c : Atom) (x y z : ℕ) (memory : List ℕ) → value p s a ≡ word x → value p s b ≡ word y → value p s c ≡ word z → written p.world.layout s.memory k x y z ≡ Some memory → does p (acts.Write k a b c) s ≡ some_state (record s { memory = memory })
+pub writes : (p : Program) (s : State) (k : Width) (a b c : Atom) (x y z : ℕ) (memory : List ℕ) → value p s a ≡ word x → value p s b ≡ word y → value p s c ≡ word z → memory_with p.world.layout s.memory k x y z ≡ Some memory → does p (acts.Write k a b c) s ≡ some_state (record s { memory = memory })
 writes p s k a b c x y z memory e f g h = rw (e, f, g, h) refl
 
-pub says : (p : Program) (s : State) (k : Print) (a : Atom) (x : ℕ) (text : List ℕ) → value p s a ≡ word x → printed s.memory k x ≡ Some text → does p (acts.Print k a) s ≡ some_state (with_output s text)
+pub says : (p : Program) (s : State) (k : Print) (a : Atom) (x : ℕ) (text : List ℕ) → value p s a ≡ word x → print_output s.memory k x ≡ Some text → does p (acts.Print k a) s ≡ some_state (with_output s text)
 says p s k a x text e f = rw (e, f) refl
 
 -- ---- registers
@@ -93,7 +93,7 @@ reads_place p memory cells f j map h few lt =
     let b = map.base in
     reads_cell p.world.layout memory cells (p.names.table f) (32768 + j) (heap_at + f + j) h (omega arith) (omega arith)
 
-pub writes_place : (p : Program) (memory : List ℕ) (cells : ℕ → ℕ) (f j x : ℕ) → IsMapped p → Holds p.world.layout memory cells → f < 4 → f + j < 10000 → written p.world.layout memory widths.Word (p.names.table f) (32768 + j) x ≡ some_list (with_cell memory (heap_at + f + j) x)
+pub writes_place : (p : Program) (memory : List ℕ) (cells : ℕ → ℕ) (f j x : ℕ) → IsMapped p → Holds p.world.layout memory cells → f < 4 → f + j < 10000 → memory_with p.world.layout memory widths.Word (p.names.table f) (32768 + j) x ≡ some_list (with_cell memory (heap_at + f + j) x)
 writes_place p memory cells f j x map h few lt =
     let t = map.heap f few in
     let b = map.base in
@@ -102,7 +102,7 @@ writes_place p memory cells f j x map h few lt =
 -- ---- comparisons
 
 -- numbers below 32,768 compare as they are
-pub greater : (p : Program) (s : State) (x y : ℕ) → x < 32768 → y < 32768 → compared p s comparisons.Greater x y ≡ bool (nat_lt y x)
+pub greater : (p : Program) (s : State) (x y : ℕ) → x < 32768 → y < 32768 → comparison_answer p s comparisons.Greater x y ≡ bool (nat_lt y x)
 greater p s x y a b = rw (lt-ltb x 32768 a, lt-ltb y 32768 b) refl
 
 pub sum : (p : Program) (x n : ℕ) → x + n < 65536 → (memory : List ℕ) → computed p.world.layout memory functions.Add x n ≡ word (x + n)

@@ -4,7 +4,7 @@ use Rattle.std.specs.Prelude.{nat_lt}
 use Rattle.std.proofs.lemmas.Bool.{lt-ltb, le-ltb, eq-eqb, ne_eqb}
 use Rattle.z_model.specs.declared.end.Halt.TheVariants.{AtQuit}
 use lib.Utf8.{encode}
-use Rattle.z_model.specs.Zscii.{code_bytes}
+use Rattle.z_model.specs.Zscii.{code_utf8}
 use Rattle.z_lang.specs.declared.act.Atom.TheVariants as atoms
 use Rattle.z_lang.specs.declared.act.Function.TheVariants as functions
 use Rattle.z_lang.specs.declared.act.Width.TheVariants as widths
@@ -12,28 +12,28 @@ use Rattle.z_lang.specs.declared.act.Comparison.TheVariants as comparisons
 use Rattle.z_lang.specs.declared.act.Print.TheVariants as prints
 use Rattle.z_lang.specs.declared.act.Act.{Act}
 use Rattle.z_lang.specs.State.{State, Program, value}
-use Rattle.z_lang.specs.Acts.{computed, printed, compared, answer_of, with_output}
-use Rattle.z_lang.specs.Runs.{Outcome, Runs, Returns, Stops, at_label, taken, passed, done, calls_last, returns, behind}
+use Rattle.z_lang.specs.Acts.{computed, print_output, comparison_answer, answer_of, with_output}
+use Rattle.z_lang.specs.Runs.{ActsOutcome, ActsRun, Returns, Stops, at_label, taken, passed, done, calls_last, returns, behind_label}
 use Rattle.dg_story.specs.declared.support.TheConstants.{NEWLINE_ACTS, SEPARATE_ACTS, ENTER_ACTS, CHOOSE_ACTS}
 use Rattle.dg_story.specs.inside.Cells.{heap_at, with_cell, replaced, Holds, IsMapped, state}
 use Rattle.dg_story.proofs.Cells.{holds_with}
 use Rattle.dg_story.proofs.Rules.{word, bool, tested, computes, copies, writes, says, register, IsPut, puts, local_1, local_2, put_1, put_2, writes_place, greater, sum}
 
 -- a word is the one of that number, or another
-pub same : (p : Program) (s : State) (x y : ℕ) → x ≡ y → compared p s comparisons.Equal x y ≡ bool true
+pub same : (p : Program) (s : State) (x y : ℕ) → x ≡ y → comparison_answer p s comparisons.Equal x y ≡ bool true
 same p s x y e = rw (eq-eqb x y e) refl
 
-pub other : (p : Program) (s : State) (x y : ℕ) → x ≢ y → compared p s comparisons.Equal x y ≡ bool false
+pub other : (p : Program) (s : State) (x y : ℕ) → x ≢ y → comparison_answer p s comparisons.Equal x y ≡ bool false
 other p s x y ne = rw (ne_eqb x y ne) refl
 
 -- ## Spaces and newlines
 
-pub newline_printed : (memory : List ℕ) → printed memory prints.Code 13 ≡ Some (10 ∷ [])
-unfolding printed code_bytes encode
+pub newline_printed : (memory : List ℕ) → print_output memory prints.Code 13 ≡ Some (10 ∷ [])
+unfolding print_output code_utf8 encode
 newline_printed memory = refl
 
-space_printed : (memory : List ℕ) → printed memory prints.Code 32 ≡ Some (32 ∷ [])
-unfolding printed code_bytes encode
+space_printed : (memory : List ℕ) → print_output memory prints.Code 32 ≡ Some (32 ∷ [])
+unfolding print_output code_utf8 encode
 space_printed memory = refl
 
 module _ (p : Program) (f w : ℕ) (s : State) (cells : ℕ → ℕ) (h : Holds p.world.layout s.memory cells) (base : p.world.layout.base ≡ 20670) where
@@ -41,23 +41,23 @@ module _ (p : Program) (f w : ℕ) (s : State) (cells : ℕ → ℕ) (h : Holds 
   last_is = register p s cells 22 h (omega arith) (omega arith) base
 
   -- nothing was printed
-  pub newline_none : cells 6 ≡ 0 → Runs p f w NEWLINE_ACTS NEWLINE_ACTS s (Returns 0) s 2
-  unfolding behind
+  pub newline_none : cells 6 ≡ 0 → ActsRun p f w NEWLINE_ACTS NEWLINE_ACTS s (Returns 0) s 2
+  unfolding behind_label
   newline_none e = taken (tested p s comparisons.Equal (atoms.Var 22) (atoms.Num 0) true (cells 6) 0 true last_is refl (same p s (cells 6) 0 e)) refl (returns refl)
 
   -- something was printed
-  pub newline_some : cells 6 ≢ 0 → Runs p f w NEWLINE_ACTS NEWLINE_ACTS s (Returns 0) (with_output s (10 ∷ [])) 3
+  pub newline_some : cells 6 ≢ 0 → ActsRun p f w NEWLINE_ACTS NEWLINE_ACTS s (Returns 0) (with_output s (10 ∷ [])) 3
   newline_some ne =
       passed (tested p s comparisons.Equal (atoms.Var 22) (atoms.Num 0) true (cells 6) 0 false last_is refl (other p s (cells 6) 0 ne))
       (done (says p s prints.Code (atoms.Num 13) 13 (10 ∷ []) refl (newline_printed s.memory)) (at_label (returns refl)))
 
   -- no space comes in front
-  pub separate_none : cells 6 ≢ 2 → Runs p f w SEPARATE_ACTS SEPARATE_ACTS s (Returns 0) s 2
-  unfolding behind
+  pub separate_none : cells 6 ≢ 2 → ActsRun p f w SEPARATE_ACTS SEPARATE_ACTS s (Returns 0) s 2
+  unfolding behind_label
   separate_none ne = taken (tested p s comparisons.Equal (atoms.Var 22) (atoms.Num 2) false (cells 6) 2 false last_is refl (other p s (cells 6) 2 ne)) refl (returns refl)
 
   -- a space does
-  pub separate_some : cells 6 ≡ 2 → Runs p f w SEPARATE_ACTS SEPARATE_ACTS s (Returns 0) (with_output s (32 ∷ [])) 3
+  pub separate_some : cells 6 ≡ 2 → ActsRun p f w SEPARATE_ACTS SEPARATE_ACTS s (Returns 0) (with_output s (32 ∷ [])) 3
   separate_some e =
       passed (tested p s comparisons.Equal (atoms.Var 22) (atoms.Num 2) false (cells 6) 2 true last_is refl (same p s (cells 6) 2 e))
       (done (says p s prints.Code (atoms.Num 32) 32 (32 ∷ []) refl (space_printed s.memory)) (at_label (returns refl)))
@@ -99,7 +99,7 @@ module _ (p : Program) (map : IsMapped p) (f w : ℕ) (memory typed output : Lis
   first = puts p (st memory (32768 + j)) cells 17 (j + 6) h base (omega arith) (omega arith) (omega arith)
 
   -- up to the test
-  enters_by : (o : Outcome) (s' : State) (n : ℕ) → Runs p f w ENTER_ACTS (drop 2 ENTER_ACTS) (st m1 (32768 + j)) o s' n → Runs p f w ENTER_ACTS ENTER_ACTS (st memory l) o s' (suc (suc n))
+  enters_by : (o : ActsOutcome) (s' : State) (n : ℕ) → ActsRun p f w ENTER_ACTS (drop 2 ENTER_ACTS) (st m1 (32768 + j)) o s' n → ActsRun p f w ENTER_ACTS ENTER_ACTS (st memory l) o s' (suc (suc n))
   enters_by o s' n rest =
       done (computes p (st memory l) (st memory (32768 + j)) 1 functions.Add (atoms.Var 17) (atoms.Num 32768) j 32768 (32768 + j) (reg p (st memory l) cells 17 j h base (omega arith) (omega arith) taken_is) refl (place_is p j (omega arith) memory)
       (put_1 p memory l (32768 + j) [] typed drawn output))
@@ -160,7 +160,7 @@ module _ (p : Program) (map : IsMapped p) (f w : ℕ) (memory typed output : Lis
     entered_holds = last.holds
 
     -- a frame is taken
-    pub enters : Runs p f w ENTER_ACTS ENTER_ACTS (st memory l) (Returns 0) (st entered_memory (32768 + j)) 8
+    pub enters : ActsRun p f w ENTER_ACTS ENTER_ACTS (st memory l) (Returns 0) (st entered_memory (32768 + j)) 8
     enters =
         enters_by (Returns 0) (st entered_memory (32768 + j)) 6
         (passed (test_is false (le-ltb 10000 (j + 6) room))
@@ -175,8 +175,8 @@ module _ (p : Program) (map : IsMapped p) (f w : ℕ) (memory typed output : Lis
 
   -- The limit is met, where the routine of its closing ends the run.
   pub enters_not : 10000 < j + 6 → (body : List Act) (f' w' n : ℕ) (s' : State) → p.routine_at (p.names.routine 9) ≡ Some (record { locals = 0; body = body }) → f' < f → w' ≤ w →
-      Runs p f' w' body body (state m1 [] typed drawn output) (Stops AtQuit) s' n → Runs p f w ENTER_ACTS ENTER_ACTS (st memory l) (Stops AtQuit) s' (suc (suc (suc (suc n))))
-  unfolding behind
+      ActsRun p f' w' body body (state m1 [] typed drawn output) (Stops AtQuit) s' n → ActsRun p f w ENTER_ACTS ENTER_ACTS (st memory l) (Stops AtQuit) s' (suc (suc (suc (suc n))))
+  unfolding behind_label
   enters_not lt body f' w' n s' at few_f few_w runs =
       enters_by (Stops AtQuit) s' (suc (suc n)) (taken (test_is true (lt-ltb 10000 (j + 6) lt)) refl (calls_last {r = record { locals = 0; body = body }} refl refl at few_f (let q : 0 + w' ≤ w = omega arith in q) runs))
 
@@ -199,7 +199,7 @@ module _ (p : Program) (map : IsMapped p) (f w : ℕ) (memory typed output : Lis
   cfirst = puts p (ct memory (32768 + j)) cells 17 (j + 10) h cbase (omega arith) (omega arith) (omega arith)
 
   -- up to the test
-  chooses_by : (o : Outcome) (s' : State) (n : ℕ) → Runs p f w CHOOSE_ACTS (drop 2 CHOOSE_ACTS) (ct n1 (32768 + j)) o s' n → Runs p f w CHOOSE_ACTS CHOOSE_ACTS (ct memory l) o s' (suc (suc n))
+  chooses_by : (o : ActsOutcome) (s' : State) (n : ℕ) → ActsRun p f w CHOOSE_ACTS (drop 2 CHOOSE_ACTS) (ct n1 (32768 + j)) o s' n → ActsRun p f w CHOOSE_ACTS CHOOSE_ACTS (ct memory l) o s' (suc (suc n))
   chooses_by o s' n rest =
       done (computes p (ct memory l) (ct memory (32768 + j)) 2 functions.Add (atoms.Var 17) (atoms.Num 32768) j 32768 (32768 + j) (reg p (ct memory l) cells 17 j h cbase (omega arith) (omega arith) taken_is) refl (place_is p j (omega arith) memory)
       (put_2 p memory r l (32768 + j) [] typed drawn output))
@@ -269,7 +269,7 @@ module _ (p : Program) (map : IsMapped p) (f w : ℕ) (memory typed output : Lis
     chosen_holds = clast.holds
 
     -- a choice is taken
-    pub chooses : Runs p f w CHOOSE_ACTS CHOOSE_ACTS (ct memory l) (Returns 0) (ct chosen_memory (32768 + j)) 9
+    pub chooses : ActsRun p f w CHOOSE_ACTS CHOOSE_ACTS (ct memory l) (Returns 0) (ct chosen_memory (32768 + j)) 9
     chooses =
         chooses_by (Returns 0) (ct chosen_memory (32768 + j)) 7
         (passed (ctest_is false (le-ltb 10000 (j + 10) room))
@@ -286,7 +286,7 @@ module _ (p : Program) (map : IsMapped p) (f w : ℕ) (memory typed output : Lis
 
   -- The limit is met, where the routine of its closing ends the run.
   pub chooses_not : 10000 < j + 10 → (body : List Act) (f' w' n : ℕ) (s' : State) → p.routine_at (p.names.routine 9) ≡ Some (record { locals = 0; body = body }) → f' < f → w' ≤ w →
-      Runs p f' w' body body (state n1 [] typed drawn output) (Stops AtQuit) s' n → Runs p f w CHOOSE_ACTS CHOOSE_ACTS (ct memory l) (Stops AtQuit) s' (suc (suc (suc (suc n))))
-  unfolding behind
+      ActsRun p f' w' body body (state n1 [] typed drawn output) (Stops AtQuit) s' n → ActsRun p f w CHOOSE_ACTS CHOOSE_ACTS (ct memory l) (Stops AtQuit) s' (suc (suc (suc (suc n))))
+  unfolding behind_label
   chooses_not lt body f' w' n s' at few_f few_w runs =
       chooses_by (Stops AtQuit) s' (suc (suc n)) (taken (ctest_is true (lt-ltb 10000 (j + 10) lt)) refl (calls_last {r = record { locals = 0; body = body }} refl refl at few_f (let q : 0 + w' ≤ w = omega arith in q) runs))

@@ -11,10 +11,10 @@ use Rattle.z_story.specs.declared.building.Parts.{Parts}
 use Rattle.z_story.specs.Parts.{AreRoutines, AreParts, image_of}
 use Rattle.z_story.specs.Does.{StoryDoes}
 use Rattle.dg_story.specs.declared.numbering.Numbers.{Numbers}
-use Rattle.dg_story.specs.Numbers.{op_size, ops_size, blocks_size, rules_count, numbers_of, block_number, routine_count}
+use Rattle.dg_story.specs.Numbers.{routines_of_op, routines_of_ops, blocks_size, rules_count, numbers_of, block_number, routine_count}
 use Rattle.dg_story.specs.Instructions.{op_acts, op_way}
 use Rattle.dg_story.specs.Routines.{pieces, op_routines, ops_routines, blocks_routines, rules_routines, preds_routines, runtime, all_routines}
-use Rattle.dg_story.specs.Built.{parts_of, IsStoryOf}
+use Rattle.dg_story.specs.Built.{story_parts, IsStoryOf}
 use Rattle.dg_story.proofs.Lines.{routines_append}
 use Rattle.dg_story.proofs.CodeFits.{numbers_below, size_is, blocks_fit, preds_fit}
 use Rattle.dg_story.proofs.SupportFits.{counts, runtime_fits}
@@ -25,22 +25,22 @@ pieces_many : (further number : ℕ) (body : List Act) (way : ℕ) → length (p
 pieces_many zero number body way = refl
 pieces_many (suc further) number body way = ap suc (pieces_many further (number + 1) (drop 1000 body) way)
 
-pub op_many : (numbers : Numbers) (k : ℕ) (x : Op) → length (op_routines numbers k x) ≡ op_size x
-op_many numbers k x = omega (arith, pieces_many (length (op_acts numbers x) / 1000) k (op_acts numbers x) (op_way numbers (k + op_size x) x), size_is numbers x)
+pub op_many : (numbers : Numbers) (k : ℕ) (x : Op) → length (op_routines numbers k x) ≡ routines_of_op x
+op_many numbers k x = omega (arith, pieces_many (length (op_acts numbers x) / 1000) k (op_acts numbers x) (op_way numbers (k + routines_of_op x) x), size_is numbers x)
 
-pub ops_many : (numbers : Numbers) (k : ℕ) (ops : List Op) → length (ops_routines numbers k ops) ≡ ops_size ops
+pub ops_many : (numbers : Numbers) (k : ℕ) (ops : List Op) → length (ops_routines numbers k ops) ≡ routines_of_ops ops
 ops_many numbers k [] = refl
 ops_many numbers k (x ∷ ops) =
-    omega (arith, length-append (op_routines numbers k x) (ops_routines numbers (k + op_size x) ops), op_many numbers k x, ops_many numbers (k + op_size x) ops)
+    omega (arith, length-append (op_routines numbers k x) (ops_routines numbers (k + routines_of_op x) ops), op_many numbers k x, ops_many numbers (k + routines_of_op x) ops)
 
 pub blocks_many : (numbers : Numbers) (k : ℕ) (blocks : List Block) → length (blocks_routines numbers k blocks) ≡ blocks_size blocks
 blocks_many numbers k [] = refl
 blocks_many numbers k (block ∷ blocks) =
     omega (
       arith,
-      length-append (ops_routines numbers k block.ops) (blocks_routines numbers (k + ops_size block.ops) blocks),
+      length-append (ops_routines numbers k block.ops) (blocks_routines numbers (k + routines_of_ops block.ops) blocks),
       ops_many numbers k block.ops,
-      blocks_many numbers (k + ops_size block.ops) blocks,
+      blocks_many numbers (k + routines_of_ops block.ops) blocks,
     )
 
 pub rules_many : (numbers : Numbers) (k : ℕ) (rules : List RuleCode) → length (rules_routines numbers k rules) ≡ length rules
@@ -84,7 +84,7 @@ all_fit code keeps =
     (preds_fit c numbers 10 code.preds (omega arith) below (omega arith))
     (blocks_fit c numbers (10 + rules_count code.preds) code.blocks (omega arith) below (omega arith)))
 
-pub are_parts : (code : Code) (keeps : Bool) → AreParts (parts_of code keeps)
+pub are_parts : (code : Code) (keeps : Bool) → AreParts (story_parts code keeps)
 are_parts code keeps =
     let many = all_many code keeps in
     record {
@@ -94,7 +94,7 @@ are_parts code keeps =
     }
 
 -- what is built of the parts is the story of the code
-pub is_story : (code : Code) (keeps : Bool) (parts : Parts) (story : List ℕ) → parts ≡ parts_of code keeps → story ≡ image.story_of (image_of parts) → IsAssembled (image_of parts) story → StoryDoes parts story → IsStoryOf code keeps story
+pub is_story : (code : Code) (keeps : Bool) (parts : Parts) (story : List ℕ) → parts ≡ story_parts code keeps → story ≡ image.story_of (image_of parts) → IsAssembled (image_of parts) story → StoryDoes parts story → IsStoryOf code keeps story
 is_story code keeps parts story e bytes assembled does = record {
   bytes = bytes ∙ ap (λ (p : Parts). image.story_of (image_of p)) e;
   assembled = subst (λ (p : Parts). IsAssembled (image_of p) story) e assembled;

@@ -12,10 +12,10 @@ use Rattle.z_lang.specs.declared.act.Atom.TheVariants as atoms
 use Rattle.z_lang.specs.declared.act.Print.TheVariants as prints
 use Rattle.z_lang.specs.declared.act.Act.{Act}
 use Rattle.z_lang.specs.State.{State, Program}
-use Rattle.z_lang.specs.Acts.{printed, with_output}
-use Rattle.z_lang.specs.Runs.{Outcome, Runs, done}
+use Rattle.z_lang.specs.Acts.{print_output, with_output}
+use Rattle.z_lang.specs.Runs.{ActsOutcome, ActsRun, done}
 use Rattle.dg_story.specs.declared.texts.Part.TheVariants as part
-use Rattle.dg_story.specs.Texts.{letters_from, letters_of, say}
+use Rattle.dg_story.specs.Texts.{letters_from, characters_of, say}
 use Rattle.dg_story.proofs.Rules.{says}
 
 -- ## Characters
@@ -64,7 +64,7 @@ reads c rest lt = ⊎_elim low high (cases_lt c 128)
     high h = ⊎_elim (middle h) top (cases_lt c 2048)
 
 -- The letters of a text are its characters.
-pub letters_are : (cs : List ℕ) → All IsPrintable cs → letters_of (encode_utf8_all cs) ≡ cs
+pub letters_are : (cs : List ℕ) → All IsPrintable cs → characters_of (encode_utf8_all cs) ≡ cs
 letters_are [] all = refl
 letters_are (c ∷ cs) all =
     let is = All-head IsPrintable c cs all in
@@ -81,20 +81,20 @@ character c is = ⊎_elim below above (scalar_cases c is.scalar)
     above : ((57344 ≤ c) × (c < 1114112)) → is_character c ≡ true
     above h = let from = is.from in let a = h.0 in rw (lt-ltb 31 c (omega arith), ne_eqb c 127 is.no_delete, lt-ltb 55295 c (omega arith), le-ltb c 57344 a) refl
 
-said : (memory : List ℕ) (c : ℕ) → IsPrintable c → printed memory prints.Unicode c ≡ Some (encode_utf8 c)
-unfolding printed
+said : (memory : List ℕ) (c : ℕ) → IsPrintable c → print_output memory prints.Unicode c ≡ Some (encode_utf8 c)
+unfolding print_output
 said memory c is = rw (character c is) refl
 
 -- Characters are printed one by one, and then more.
-pub prints_all : (p : Program) (f w : ℕ) (body more : List Act) (o : Outcome) (s' : State) (n : ℕ) (cs : List ℕ) (s : State) → All IsPrintable cs → Runs p f w body more (with_output s (encode_utf8_all cs)) o s' n →
-    Runs p f w body (map say cs ++ more) s o s' (length cs + n)
+pub prints_all : (p : Program) (f w : ℕ) (body more : List Act) (o : ActsOutcome) (s' : State) (n : ℕ) (cs : List ℕ) (s : State) → All IsPrintable cs → ActsRun p f w body more (with_output s (encode_utf8_all cs)) o s' n →
+    ActsRun p f w body (map say cs ++ more) s o s' (length cs + n)
 prints_all p f w body more o s' n [] s all rest =
     let e : n ≡ length {A = ℕ} [] + n = omega arith in
-    subst (λ (k : ℕ). Runs p f w body more s o s' k) e (subst (λ (out : List ℕ). Runs p f w body more (record s { output = out }) o s' n) (append-nil s.output) rest)
+    subst (λ (k : ℕ). ActsRun p f w body more s o s' k) e (subst (λ (out : List ℕ). ActsRun p f w body more (record s { output = out }) o s' n) (append-nil s.output) rest)
 prints_all p f w body more o s' n (c ∷ cs) s all rest =
     let is = All-head IsPrintable c cs all in
     let next : State = with_output s (encode_utf8 c) in
-    let moved = subst (λ (out : List ℕ). Runs p f w body more (record s { output = out }) o s' n) (sym (append_assoc s.output (encode_utf8 c) (encode_utf8_all cs))) rest in
+    let moved = subst (λ (out : List ℕ). ActsRun p f w body more (record s { output = out }) o s' n) (sym (append_assoc s.output (encode_utf8 c) (encode_utf8_all cs))) rest in
     let later = prints_all p f w body more o s' n cs next (All-tail IsPrintable c cs all) moved in
-    subst (λ (k : ℕ). Runs p f w body (map say (c ∷ cs) ++ more) s o s' k) (let e : suc (length cs + n) ≡ length (c ∷ cs) + n = omega arith in e)
+    subst (λ (k : ℕ). ActsRun p f w body (map say (c ∷ cs) ++ more) s o s' k) (let e : suc (length cs + n) ≡ length (c ∷ cs) + n = omega arith in e)
     (done (says p s prints.Unicode (atoms.Num c) c (encode_utf8 c) refl (said s.memory c is)) later)

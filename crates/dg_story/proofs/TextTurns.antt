@@ -18,12 +18,12 @@ use Rattle.z_lang.specs.declared.act.Args.TheVariants as args
 use Rattle.z_lang.specs.declared.act.Atom.TheVariants as atoms
 use Rattle.z_lang.specs.State.{State, Program}
 use Rattle.z_lang.specs.Acts.{with_output}
-use Rattle.z_lang.specs.Runs.{Runs as Leading, Outcome, Returns, done, returns}
+use Rattle.z_lang.specs.Runs.{ActsRun as Leading, ActsOutcome, Returns, done, returns}
 use Rattle.z_lang.specs.Standing.{Context}
 use Rattle.dg_story.specs.declared.support.TheConstants.{SEPARATE_ACTS}
-use Rattle.dg_story.specs.Numbers.{numbers_of, op_size}
+use Rattle.dg_story.specs.Numbers.{numbers_of, routines_of_op}
 use Rattle.dg_story.specs.declared.texts.Part.TheVariants as part
-use Rattle.dg_story.specs.Texts.{letters_of, say, says, end_with, end_of, text_acts}
+use Rattle.dg_story.specs.Texts.{characters_of, say, says, end_with, text_end, text_acts}
 use Rattle.dg_story.specs.Routines.{routine, going, pieces, op_routines, ops_routines, all_routines}
 use Rattle.dg_story.specs.inside.Cells.{with_cell, replaced, Holds, state}
 use Rattle.dg_story.specs.inside.Ends.{kept_end}
@@ -57,7 +57,7 @@ set_cells (Some k) cells = replaced cells 6 k
 
 -- An act prints this, whatever comes behind it, where the text before it ended so.
 record Printing (p : Program) (f w last : ℕ) (act : Act) (out : List ℕ) (most : ℕ) : Type 0 where
-  runs : (body more : List Act) (s s' : State) (o : Outcome) (n : ℕ) (cells : ℕ → ℕ) → Holds p.world.layout s.memory cells → cells 6 ≡ last → Leading p f w body more (with_output s out) o s' n → LeadsOn p f w body (act ∷ more) s o s' most n
+  runs : (body more : List Act) (s s' : State) (o : ActsOutcome) (n : ℕ) (cells : ℕ → ℕ) → Holds p.world.layout s.memory cells → cells 6 ≡ last → Leading p f w body more (with_output s out) o s' n → LeadsOn p f w body (act ∷ more) s o s' most n
 
 -- Acts print this, in so many instructions at most, and set LAST at their end or don't.
 data Acting (p : Program) (f w last : ℕ) : List Act → List ℕ → Option ℕ → ℕ → Type 0 where
@@ -109,7 +109,7 @@ cut_acting (suc m) (printing act more out outs all e k n total q r pr a) =
 
 module _ (p : Program) (f w : ℕ) (base : p.world.layout.base ≡ 20670) where
   -- what they lead to
-  acting_runs : {last n : ℕ} {xs : List Act} {out : List ℕ} {e : Option ℕ} → Acting p f w last xs out e n → (body more : List Act) (s s' : State) (o : Outcome) (k : ℕ) (cells : ℕ → ℕ) → Holds p.world.layout s.memory cells → cells 6 ≡ last →
+  acting_runs : {last n : ℕ} {xs : List Act} {out : List ℕ} {e : Option ℕ} → Acting p f w last xs out e n → (body more : List Act) (s s' : State) (o : ActsOutcome) (k : ℕ) (cells : ℕ → ℕ) → Holds p.world.layout s.memory cells → cells 6 ≡ last →
       Leading p f w body more (record s { memory = set_memory e s.memory; output = s.output ++ out }) o s' k → LeadsOn p f w body (xs ++ more) s o s' n k
   acting_runs finished body more s s' o k cells h is rest =
       let q : k ≡ 0 + k = omega arith in
@@ -229,7 +229,7 @@ module _ (p : Program) (f w : ℕ) (some : 1 ≤ f) (base : p.world.layout.base 
   space_prints : (before : Option ℕ) → last ≡ kept_end before → (first : ℕ) → closes first ≡ false → Printing p f w last (acts.Call None (atoms.Routine 3) args.Zero) (separator [] before first) 4
   space_prints before is first q = record { runs = λ body more s s' o n cells h e rest. calls_separate p f w some base s cells h body more o s' n at before (e ∙ is) first q rest }
 
-  end_small : (t : List ℕ) → end_of t < 65536
+  end_small : (t : List ℕ) → text_end t < 65536
   end_small t = with_small (last_of None t)
     where
       by_open : (b : Bool) → end_code b < 65536
@@ -242,18 +242,18 @@ module _ (p : Program) (f w : ℕ) (some : 1 ≤ f) (base : p.world.layout.base 
 
   -- The acts of a text print it behind what was printed, and set LAST.
   text_acting : (before : Option ℕ) → last ≡ kept_end before → (cs : List ℕ) (first : ℕ) (text : List ℕ) → All IsPrintable cs → encode_utf8_all cs ≡ first ∷ text →
-      ActsIn p f w last (text_acts (first ∷ text)) (separator [] before first ++ (first ∷ text)) (Some (end_of (first ∷ text))) (length cs + 5)
+      ActsIn p f w last (text_acts (first ∷ text)) (separator [] before first ++ (first ∷ text)) (Some (text_end (first ∷ text))) (length cs + 5)
   text_acting before is cs first text all e = by_closing (closes first) refl
     where
       whole : List ℕ
       whole = first ∷ text
 
       k : ℕ
-      k = end_of whole
+      k = text_end whole
 
       said : Acting p f w last (says whole ++ acts.Copy 22 (atoms.Num k) ∷ []) whole (Some k) (length cs + 1)
       said =
-          let letters : letters_of whole ≡ cs = sym (ap letters_of e) ∙ letters_are cs all in
+          let letters : characters_of whole ≡ cs = sym (ap characters_of e) ∙ letters_are cs all in
           subst (λ (l : List ℕ). Acting p f w last (map say l ++ acts.Copy 22 (atoms.Num k) ∷ []) whole (Some k) (length cs + 1)) (sym letters)
           (subst (λ (l : List ℕ). Acting p f w last (map say cs ++ acts.Copy 22 (atoms.Num k) ∷ []) l (Some k) (length cs + 1)) e (says_acting k (end_small whole) cs all))
 
@@ -295,7 +295,7 @@ ends_some : (a : ℕ) (text : List ℕ) → kept_end (last_of (Some a) text) ≡
 ends_some a [] = refl
 ends_some a (b ∷ text) = ends_some b text
 
-end_kept : (prints : List Print) (first : ℕ) (text : List ℕ) → (met_from nothing_met prints).gap ≡ [] → end_of (first ∷ text) ≡ kept_end (met_from nothing_met (prints ++ Piece (first ∷ text) ∷ [])).last
+end_kept : (prints : List Print) (first : ℕ) (text : List ℕ) → (met_from nothing_met prints).gap ≡ [] → text_end (first ∷ text) ≡ kept_end (met_from nothing_met (prints ++ Piece (first ∷ text) ∷ [])).last
 end_kept prints first text e =
     let m = met_from nothing_met prints in
     sym (ends_some first text) ∙ sym (ap (λ (x : Met). kept_end x.last) (met_more nothing_met prints (Piece (first ∷ text) ∷ []) ∙ piece_met m (first ∷ text) e))
@@ -316,11 +316,11 @@ module _ (t : Telling) (story : List ℕ) (c : Context) (pc : ℕ) (plays : Play
       let ops = ops_at t cells m (op.Do (action.Text (first ∷ text)) ∷ rest) e here in
       let acting = text_acting t.p 7 80 (omega arith) plays.map.base (plays.routines 3 (routine 0 SEPARATE_ACTS) refl) (cells 6) before mid.last cs first text all is in
       let further = length (text_acts (first ∷ text)) / 1000 in
-      let way = n + op_size x in
-      let told = pieces_move t story c pc plays further (render prints) (separator [] before first ++ (first ∷ text)) cells z n way (cells 6) acting.n (text_acts (first ∷ text)) (Some (end_of (first ∷ text))) r.lands here.next refl
+      let way = n + routines_of_op x in
+      let told = pieces_move t story c pc plays further (render prints) (separator [] before first ++ (first ∷ text)) cells z n way (cells 6) acting.n (text_acts (first ∷ text)) (Some (text_end (first ∷ text))) r.lands here.next refl
       (from_front (all_routines t.code t.keeps) n (op_routines ns n x) (ops_routines ns way rest) ops) acting.acting in
       let many = text_many (first ∷ text) in
-      let letters : length cs ≡ length (letters_of (first ∷ text)) = ap length (sym (sym (ap letters_of is) ∙ letters_are cs all)) in
+      let letters : length cs ≡ length (characters_of (first ∷ text)) = ap length (sym (sym (ap characters_of is) ∙ letters_are cs all)) in
       let short = letters_few part.Nothing (first ∷ text) in
       let few = acting.few in
       let new = told.new in
@@ -335,5 +335,5 @@ module _ (t : Telling) (story : List ℕ) (c : Context) (pc : ℕ) (plays : Play
   -- A text is printed.
   pub turn_text : (prints : List Print) (m m' : Mid) (text : List ℕ) (rest : List Op) (z : ZState) → m.ops ≡ op.Do (action.Text text) ∷ rest → IsName text → (met_from nothing_met prints).gap ≡ [] → SameMid m m' → m'.ops ≡ rest →
       Represented t story c pc prints (Runs m) z → Comes t story c pc (prints ++ Piece text ∷ []) (Runs m') (4 * characters text + 14) z
-  turn_text prints m m' [] rest z e name gap same ops_are r = absurd (name.some (sym (letters_are name.characters name.printable) ∙ sym (ap letters_of name.encoded)))
+  turn_text prints m m' [] rest z e name gap same ops_are r = absurd (name.some (sym (letters_are name.characters name.printable) ∙ sym (ap characters_of name.encoded)))
   turn_text prints m m' (first ∷ text) rest z e name gap same ops_are r = text_turns prints m m' name.characters first text rest z e name.printable (sym name.encoded) gap same ops_are r

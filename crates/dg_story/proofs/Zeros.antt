@@ -6,11 +6,11 @@ use Rattle.std.proofs.lemmas.List.{length-replicate}
 use Rattle.z_model.specs.Story.{memory_of}
 use Rattle.z_code.specs.Targets.{label_from, ops_bytes}
 use Rattle.z_asm.specs.declared.image.Image.{Image}
-use Rattle.z_asm.specs.Story.{story_of, header_of, bytes_behind, dictionary, names_of, first_of, first_ops, all_strings, all_routines, end_of}
+use Rattle.z_asm.specs.Story.{story_of, header_of, bytes_behind, dictionary, image_names, code_start, first_ops, all_strings, image_routines, image_end}
 use Rattle.z_asm.specs.Layout.{aligned, table_bytes}
 use Rattle.z_story.specs.Parts.{image_of}
 use Rattle.dg_mid.specs.declared.code.Code.{Code}
-use Rattle.dg_story.specs.Built.{heap_tables, parts_of, IsStoryOf}
+use Rattle.dg_story.specs.Built.{heap_tables, story_parts, IsStoryOf}
 use Rattle.dg_story.specs.inside.Cells.{Holds}
 use Rattle.dg_story.proofs.Mapped.{p, mapped, globals_are}
 
@@ -47,7 +47,7 @@ heap_zero =
 
 module _ (code : Code) (keeps : Bool) (story : List ℕ) (is : IsStoryOf code keeps story) (dice : List ℕ) where
   abbrev header : List ℕ
-  header = header_of (image_of (parts_of code keeps))
+  header = header_of (image_of (story_parts code keeps))
 
   abbrev zeros : List ℕ
   zeros = replicate 606 0 ++ table_bytes true heap_tables
@@ -66,7 +66,7 @@ module _ (code : Code) (keeps : Bool) (story : List ℕ) (is : IsStoryOf code ke
   split : (a b c d : List ℕ) → (a ++ (b ++ c)) ++ d ≡ (a ++ b) ++ (c ++ d)
   split a b c d = append_assoc a (b ++ c) d ∙ ap (λ (l : List ℕ). a ++ l) (append_assoc b c d) ∙ sym (append_assoc a b (c ++ d))
 
-  story_is : story ≡ header ++ bytes_behind (image_of (parts_of code keeps))
+  story_is : story ≡ header ++ bytes_behind (image_of (story_parts code keeps))
   unfolding story_of
   story_is = is.bytes
 
@@ -74,18 +74,18 @@ module _ (code : Code) (keeps : Bool) (story : List ℕ) (is : IsStoryOf code ke
   memory_is = ap (λ (n : ℕ). take n story) is.assembled.header.length ∙ take-length story
 
   abbrev built : Image
-  built = image_of (parts_of code keeps)
+  built = image_of (story_parts code keeps)
 
   -- what stands behind the zeros
   abbrev others : List ℕ
   others =
-      (table_bytes false heap_tables ++ (dictionary ++ ops_bytes (names_of built) (label_from (first_of built) first_ops) (first_of built) first_ops))
-      ++ (all_strings built ++ (all_routines built ++ replicate (aligned (end_of built) - end_of built) 0))
+      (table_bytes false heap_tables ++ (dictionary ++ ops_bytes (image_names built) (label_from (code_start built) first_ops) (code_start built) first_ops))
+      ++ (all_strings built ++ (image_routines built ++ replicate (aligned (image_end built) - image_end built) 0))
 
   behind_is : bytes_behind built ≡ zeros ++ others
   behind_is =
-      split (replicate 606 0) (table_bytes true heap_tables) (table_bytes false heap_tables ++ (dictionary ++ ops_bytes (names_of built) (label_from (first_of built) first_ops) (first_of built) first_ops))
-      (all_strings built ++ (all_routines built ++ replicate (aligned (end_of built) - end_of built) 0))
+      split (replicate 606 0) (table_bytes true heap_tables) (table_bytes false heap_tables ++ (dictionary ++ ops_bytes (image_names built) (label_from (code_start built) first_ops) (code_start built) first_ops))
+      (all_strings built ++ (image_routines built ++ replicate (aligned (image_end built) - image_end built) 0))
 
   -- a byte that may be written
   byte_is : (a : ℕ) → a < 20606 → get_or story (64 + a) 0 ≡ 0

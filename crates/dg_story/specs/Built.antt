@@ -27,20 +27,20 @@ abbrev pub heap_tables : List Table
 heap_tables = table_of 2 ∷ table_of 2 ∷ table_of 2 ∷ table_of 19994 ∷ []
 
 -- The parts of the story of some code. What starts keep is within its limit, or the run ends at once.
-abbrev pub parts_of : Code → Bool → Parts
-parts_of code keeps = record { tables = heap_tables; strings = []; routines = all_routines code keeps }
+abbrev pub story_parts : Code → Bool → Parts
+story_parts code keeps = record { tables = heap_tables; strings = []; routines = all_routines code keeps }
 
 -- ## The story
 
 -- The story of some code: its bytes are those of the parts, each routine stands in it and does what its acts mean, and the player takes it.
 pub record IsStoryOf (code : Code) (keeps : Bool) (story : List ℕ) : Type 0 where
-  pub bytes : story ≡ image.story_of (image_of (parts_of code keeps))
-  pub assembled : IsAssembled (image_of (parts_of code keeps)) story
-  pub does : StoryDoes (parts_of code keeps) story
+  pub bytes : story ≡ image.story_of (image_of (story_parts code keeps))
+  pub assembled : IsAssembled (image_of (story_parts code keeps)) story
+  pub does : StoryDoes (story_parts code keeps) story
 
 -- The code has no story: it has more routines than there are numbers, or more bytes than a story may have.
 abbrev pub HasNoStory : Code → Bool → Type 0
-HasNoStory code keeps = (65535 < routine_count code) ⊎ image.IsTooLarge (image_of (parts_of code keeps))
+HasNoStory code keeps = (65535 < routine_count code) ⊎ image.IsTooLarge (image_of (story_parts code keeps))
 
 -- What starts keep is within the limit of a story.
 abbrev pub keeps_within : CoreProgram → Bool

@@ -19,18 +19,18 @@ too_large = Refused StoryTooLarge
 -- ## Sizes
 
 -- How many routines an instruction has: one, and for a text one more for each 1,000 acts.
-abbrev pub op_size : Op → ℕ
-op_size (op.Do (action.Text text)) = 1 + length (text_acts text) / 1000
-op_size x = 1
+abbrev pub routines_of_op : Op → ℕ
+routines_of_op (op.Do (action.Text text)) = 1 + length (text_acts text) / 1000
+routines_of_op x = 1
 
 -- How many a block has: those of its instructions, and one that fails behind them.
-abbrev pub ops_size : List Op → ℕ
-ops_size [] = 1
-ops_size (x ∷ ops) = op_size x + ops_size ops
+abbrev pub routines_of_ops : List Op → ℕ
+routines_of_ops [] = 1
+routines_of_ops (x ∷ ops) = routines_of_op x + routines_of_ops ops
 
 abbrev pub blocks_size : List Block → ℕ
 blocks_size [] = 0
-blocks_size (block ∷ blocks) = ops_size block.ops + blocks_size blocks
+blocks_size (block ∷ blocks) = routines_of_ops block.ops + blocks_size blocks
 
 -- How many rules there are.
 abbrev pub rules_count : List (List RuleCode) → ℕ
@@ -46,7 +46,7 @@ routine_count code = 10 + rules_count code.preds + blocks_size code.blocks
 -- The first routine of each block, where the first of all has this number.
 abbrev pub block_starts : ℕ → List Block → List ℕ
 block_starts number [] = []
-block_starts number (block ∷ blocks) = number ∷ block_starts (number + ops_size block.ops) blocks
+block_starts number (block ∷ blocks) = number ∷ block_starts (number + routines_of_ops block.ops) blocks
 
 -- The routine of the first of some rules, where it has this number; without a rule it is the one that fails.
 abbrev pub first_rule : ℕ → List RuleCode → ℕ

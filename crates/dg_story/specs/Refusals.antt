@@ -7,8 +7,8 @@ use Rattle.dg_story.specs.Plain.{is_plain}
 use Rattle.dg_story.specs.Sizes.{world_size, words_size, story_size}
 
 -- The first of these that holds: a rule isn't plain, the world, the words or the whole are too large.
-abbrev pub refusal_of : CoreProgram → Option BuildRefusal
-refusal_of program =
+abbrev pub build_refusal : CoreProgram → Option BuildRefusal
+build_refusal program =
     if not (is_plain program) then Some NotBuiltYet
     else (if nat_lt 8000 (world_size program) then Some WorldTooLarge
     else (if nat_lt 20000 (words_size program.words) then Some WordsTooLarge

@@ -12,7 +12,7 @@ use Rattle.z_lang.specs.declared.act.Routine.{Routine}
 use Rattle.dg_story.specs.declared.numbering.Numbers.{Numbers}
 use Rattle.dg_story.specs.declared.support.TheConstants.{TRAMPOLINE, FAIL_ACTS, NEWLINE_ACTS, SEPARATE_ACTS, ENTER_ACTS, CHOOSE_ACTS, LEAVE_ACTS, DONE_ACTS, FAILED_LINE, HEAP_LINE, KEEP_LINE}
 use Rattle.dg_story.specs.Texts as texts
-use Rattle.dg_story.specs.Numbers.{numbers_of, op_size, ops_size, rules_count, block_number}
+use Rattle.dg_story.specs.Numbers.{numbers_of, routines_of_op, routines_of_ops, rules_count, block_number}
 use Rattle.dg_story.specs.Instructions.{op_acts, op_way}
 
 abbrev pub routine : ℕ → List Act → Routine
@@ -65,16 +65,16 @@ pieces (suc further) number body way = going (take 1000 body) (number + 1) ∷ p
 
 -- The routines of an instruction, of which the first has this number.
 abbrev pub op_routines : Numbers → ℕ → Op → List Routine
-op_routines numbers number x = let body = op_acts numbers x in pieces (length body / 1000) number body (op_way numbers (number + op_size x) x)
+op_routines numbers number x = let body = op_acts numbers x in pieces (length body / 1000) number body (op_way numbers (number + routines_of_op x) x)
 
 -- The routines of a block: those of its instructions, and one that fails.
 abbrev pub ops_routines : Numbers → ℕ → List Op → List Routine
 ops_routines numbers number [] = going [] 1 ∷ []
-ops_routines numbers number (x ∷ ops) = op_routines numbers number x ++ ops_routines numbers (number + op_size x) ops
+ops_routines numbers number (x ∷ ops) = op_routines numbers number x ++ ops_routines numbers (number + routines_of_op x) ops
 
 abbrev pub blocks_routines : Numbers → ℕ → List Block → List Routine
 blocks_routines numbers number [] = []
-blocks_routines numbers number (block ∷ blocks) = ops_routines numbers number block.ops ++ blocks_routines numbers (number + ops_size block.ops) blocks
+blocks_routines numbers number (block ∷ blocks) = ops_routines numbers number block.ops ++ blocks_routines numbers (number + routines_of_ops block.ops) blocks
 
 -- ## All
 

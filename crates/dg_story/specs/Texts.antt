@@ -17,14 +17,14 @@ abbrev pub part_of : ℕ → Part
 part_of lead = if nat_lt lead 192 then part.Nothing else (if nat_lt lead 224 then part.Last (lead % 32) else part.Two lead)
 
 -- A first byte: a character, or a part of one.
-abbrev pub begun : ℕ → Read
-begun byte =
+abbrev pub first_byte : ℕ → Read
+first_byte byte =
     if nat_lt byte 128 then record { letter = Some byte; part = part.Nothing }
     else record { letter = None; part = part_of byte }
 
 -- A byte behind what is read of its character.
 abbrev pub read_byte : Part → ℕ → Read
-read_byte part.Nothing byte = begun byte
+read_byte part.Nothing byte = first_byte byte
 read_byte (part.Last high) byte = record { letter = Some (high % 1024 * 64 + byte % 64); part = part.Nothing }
 read_byte (part.Two lead) byte = record { letter = None; part = part.Last (lead % 16 * 64 + byte % 64) }
 
@@ -39,8 +39,8 @@ letters_from part [] = []
 letters_from part (byte ∷ bytes) = let got = read_byte part byte in with_letter got.letter (letters_from got.part bytes)
 
 -- The characters of a text.
-abbrev pub letters_of : List ℕ → List ℕ
-letters_of text = letters_from part.Nothing text
+abbrev pub characters_of : List ℕ → List ℕ
+characters_of text = letters_from part.Nothing text
 
 -- ## Acts
 
@@ -50,7 +50,7 @@ say letter = acts.Print prints.Unicode (atoms.Num letter)
 
 -- A text is printed.
 abbrev pub says : List ℕ → List Act
-says text = map say (letters_of text)
+says text = map say (characters_of text)
 
 -- The first character of a text closes.
 abbrev pub first_closes : List ℕ → Bool
@@ -63,8 +63,8 @@ end_with None = 2
 end_with (Some last) = if opens last then 1 else 2
 
 -- How a text ends.
-abbrev pub end_of : List ℕ → ℕ
-end_of text = end_with (last_of None text)
+abbrev pub text_end : List ℕ → ℕ
+text_end text = end_with (last_of None text)
 
 -- A space comes in front, where the text doesn't begin with a character that closes.
 abbrev pub separated : List ℕ → List Act
@@ -72,7 +72,7 @@ separated text = if first_closes text then [] else acts.Call None (atoms.Routine
 
 -- A text is printed behind what was printed, and how it ends is kept.
 abbrev pub text_acts : List ℕ → List Act
-text_acts text = separated text ++ (says text ++ acts.Copy 22 (atoms.Num (end_of text)) ∷ [])
+text_acts text = separated text ++ (says text ++ acts.Copy 22 (atoms.Num (text_end text)) ∷ [])
 
 -- A run ends with a line.
 abbrev pub closing_acts : List ℕ → List Act

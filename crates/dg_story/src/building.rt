@@ -2,7 +2,7 @@
 ghost use Rattle.std.specs.Prelude.{◌≡◌, ◌≤◌, None, IfOk, IsErrOf};
 ghost use Rattle.dg_base.specs.Sound.{IsSound};
 ghost use Rattle.dg_story.specs.Agrees.{Agrees};
-ghost use Rattle.dg_story.specs.Refusals.{refusal_of};
+ghost use Rattle.dg_story.specs.Refusals.{build_refusal};
 ghost use Rattle.dg_story.specs.Numbers.{too_large};
 ghost use Rattle.dg_story.specs.Built as spec;
 
@@ -51,7 +51,7 @@ fn heap_tables(alloc: Global) -> Result<Items<Table>, AllocError>
 }
 
 fn parts_of(alloc: Global, code: &Code, keeps: bool) -> Result<Parts, BuildFault>
-    ensures ok { IfOk result (λ parts. parts ≡ spec.parts_of code.now keeps) }
+    ensures ok { IfOk result (λ parts. parts ≡ spec.story_parts code.now keeps) }
     ensures large { IsErrOf result too_large → spec.HasNoStory code.now keeps }
 {
     let numbers = numbers_of(alloc, code)?;
@@ -98,7 +98,7 @@ fn rule_count(preds: &[Pred]) -> u32
 /// The story of a program that isn't refused.
 pub fn build_story(alloc: Global, program: CoreProgram) -> Result<Built, BuildFault>
     requires sound { IsSound program }
-    requires fits { refusal_of program ≡ None }
+    requires fits { build_refusal program ≡ None }
     ensures built { IfOk result (λ built. spec.IsBuilt program built) }
     ensures agrees { IfOk result (λ built. Agrees built.story.items program) }
     ensures fits { IsErrOf result too_large → ⊥ }

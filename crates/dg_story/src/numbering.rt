@@ -46,7 +46,7 @@ impl Numbers {
 
 /// How many routines an instruction has.
 pub fn op_size(alloc: Global, op: &Op) -> Result<usize, AllocError>
-    ensures { IfOk result (λ size. size ≡ spec.op_size op.now) }
+    ensures { IfOk result (λ size. size ≡ spec.routines_of_op op.now) }
 {
     match op {
         Op::Do(Action::Text(text)) => Ok(1 + text_acts(alloc, text.as_slice())?.len() / PIECE),
@@ -67,8 +67,8 @@ fn number_behind(number: u16, size: usize) -> Result<u16, BuildFault>
 
 // The number behind the routines of a block, which begins with this one.
 fn behind_block(alloc: Global, number: u16, ops: &[Op]) -> Result<u16, BuildFault>
-    ensures ok { IfOk result (λ behind. behind ≡ number + spec.ops_size ops.now) }
-    ensures large { IsErrOf result spec.too_large → 65535 < number + spec.ops_size ops.now }
+    ensures ok { IfOk result (λ behind. behind ≡ number + spec.routines_of_ops ops.now) }
+    ensures large { IsErrOf result spec.too_large → 65535 < number + spec.routines_of_ops ops.now }
 {
     let mut next = number;
     for op in ops {

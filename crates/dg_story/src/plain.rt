@@ -6,7 +6,7 @@ ghost use Rattle.dg_story.specs.Plain as spec;
 use dg_base::{CoreProgram, Goal, Pred, Rule, Term};
 
 fn are_none(terms: &[Term]) -> bool
-    ensures { result ≡ spec.are_none terms.now }
+    ensures { result ≡ spec.has_no_terms terms.now }
 {
     match terms {
         [] => true,
@@ -48,7 +48,7 @@ fn rule_fits(from_source: bool, rule: &Rule) -> bool
 }
 
 fn rules_fit(from_source: bool, rules: &[Rule]) -> bool
-    ensures { result ≡ spec.rules_fit from_source rules.now }
+    ensures { result ≡ spec.are_plain_rules from_source rules.now }
 {
     for rule in rules {
         if !rule_fits(from_source, rule) {

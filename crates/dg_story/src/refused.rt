@@ -1,7 +1,7 @@
 // Which programs have no story.
 ghost use Rattle.std.specs.Prelude.{◌≡◌, None, Some, IfOk, IsErrOf};
 ghost use Rattle.dg_base.specs.Sound.{IsSound};
-ghost use Rattle.dg_story.specs.Refusals.{refusal_of};
+ghost use Rattle.dg_story.specs.Refusals.{build_refusal};
 
 use crate::counting::{check_story, words_fit, world_fits};
 use crate::plain::is_plain;
@@ -18,8 +18,8 @@ fn refused(refusal: BuildRefusal) -> BuildFault
 /// Refuses a program that has no story: it isn't plain, or its world, its words or the whole of it are too large.
 pub fn check(alloc: Global, program: &CoreProgram) -> Result<(), BuildFault>
     requires { IsSound program.now }
-    ensures fits { IfOk result (λ _. refusal_of program.now ≡ None) }
-    ensures refused { (r : BuildRefusal) → IsErrOf result (BuildFault.Refused r) → refusal_of program.now ≡ Some r }
+    ensures fits { IfOk result (λ _. build_refusal program.now ≡ None) }
+    ensures refused { (r : BuildRefusal) → IsErrOf result (BuildFault.Refused r) → build_refusal program.now ≡ Some r }
 {
     if !is_plain(program) {
         return Err(refused(BuildRefusal::NotBuiltYet));

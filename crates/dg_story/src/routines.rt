@@ -1,6 +1,6 @@
 // The routines of a story.
 ghost use Rattle.std.specs.Prelude.{◌≡◌, ◌+◌, ◌/◌, ◌≤◌, ◌<◌, ◌++◌, ◌∷◌, [], IfOk, OnOk, length};
-ghost use Rattle.dg_story.specs.Numbers.{numbers_of, op_size, ops_size, blocks_size, rules_count, routine_count};
+ghost use Rattle.dg_story.specs.Numbers.{numbers_of, routines_of_op, routines_of_ops, blocks_size, rules_count, routine_count};
 ghost use Rattle.dg_story.specs.Routines as spec;
 
 use crate::instructions::{op_acts, op_way};
@@ -66,8 +66,8 @@ impl Routines {
     // The routines of an instruction, of which the first has this number.
     #[tactic(auto, using(crate::proofs::CodeFits::size_is))]
     fn put_op(&mut self, numbers: &Numbers, number: u16, op: &Op) -> Result<u16, AllocError>
-        requires { number + op_size op.now ≤ 65535 }
-        ensures ok { IfOk result (λ behind. behind ≡ number + op_size op.now) }
+        requires { number + routines_of_op op.now ≤ 65535 }
+        ensures ok { IfOk result (λ behind. behind ≡ number + routines_of_op op.now) }
         ensures put { OnOk result (self.new.all ≡ self.old.all ++ spec.op_routines numbers.now number op.now) }
     {
         let acts = op_acts(self.alloc, numbers, op)?;
@@ -79,8 +79,8 @@ impl Routines {
 
     // The routines of a block, of which the first has this number.
     fn put_ops(&mut self, numbers: &Numbers, number: u16, ops: &[Op]) -> Result<u16, AllocError>
-        requires { number + ops_size ops.now ≤ 65535 }
-        ensures ok { IfOk result (λ behind. behind ≡ number + ops_size ops.now) }
+        requires { number + routines_of_ops ops.now ≤ 65535 }
+        ensures ok { IfOk result (λ behind. behind ≡ number + routines_of_ops ops.now) }
         ensures put { OnOk result (self.new.all ≡ self.old.all ++ spec.ops_routines numbers.now number ops.now) }
     {
         let mut next = number;

@@ -54,7 +54,7 @@ fn part_of(lead: u8) -> Part
 
 // A first byte.
 fn begin(byte: u8) -> Read
-    ensures { result ≡ spec.begun byte }
+    ensures { result ≡ spec.first_byte byte }
 {
     if byte < 128 {
         return Read {
@@ -126,7 +126,7 @@ fn end_with(last: u8) -> u16
 
 // How a text ends.
 fn end_of(text: &[u8]) -> u16
-    ensures { result ≡ spec.end_of text.now }
+    ensures { result ≡ spec.text_end text.now }
 {
     match text {
         [] => 2,

@@ -1,6 +1,6 @@
 // Stories that are built of acts, and played.
 ghost use Rattle.std.specs.Prelude.{◌≡◌, ◌<◌, IfOk};
-ghost use Rattle.z_lang.specs.Code.{code};
+ghost use Rattle.z_lang.specs.Code.{ops_of_acts};
 ghost use Rattle.z_lang.specs.Bodies.{AreFit};
 ghost use Rattle.z_lang.specs.Sizes.{body_bytes};
 ghost use Rattle.z_story.specs.Parts.{AreParts};
@@ -25,9 +25,9 @@ fn routine_of(alloc: Global, locals: u8, body: &[Act]) -> Result<Routine, AllocE
 
 // A buffer of 20 characters, a text, and two routines, of which the second has two locals.
 fn parts_of(alloc: Global, main: &[Act], other: &[Act]) -> Result<Parts, AllocError>
-    requires main { AreFit (record { routines = 2; tables = 1; texts = 1 }) (code main.now) main.now }
+    requires main { AreFit (record { routines = 2; tables = 1; texts = 1 }) (ops_of_acts main.now) main.now }
     requires main_short { body_bytes main.now < 8000 }
-    requires other { AreFit (record { routines = 2; tables = 1; texts = 1 }) (code other.now) other.now }
+    requires other { AreFit (record { routines = 2; tables = 1; texts = 1 }) (ops_of_acts other.now) other.now }
     requires other_short { body_bytes other.now < 8000 }
     ensures { IfOk result (λ parts. AreParts parts) }
 {
@@ -60,9 +60,9 @@ fn played(
     other: &[Act],
     text: &str,
 ) -> Result<(), Fail>
-    requires main { AreFit (record { routines = 2; tables = 1; texts = 1 }) (code main.now) main.now }
+    requires main { AreFit (record { routines = 2; tables = 1; texts = 1 }) (ops_of_acts main.now) main.now }
     requires main_short { body_bytes main.now < 8000 }
-    requires other { AreFit (record { routines = 2; tables = 1; texts = 1 }) (code other.now) other.now }
+    requires other { AreFit (record { routines = 2; tables = 1; texts = 1 }) (ops_of_acts other.now) other.now }
     requires other_short { body_bytes other.now < 8000 }
 {
     let parts = parts_of(alloc, main, other)?;

@@ -12,7 +12,7 @@ use Rattle.dg_meaning.specs.Transcript.{no_memory_line}
 use Rattle.dg_single.specs.Singles.{AreSingles}
 use Rattle.dg_meaning.specs.Engines.{ForTyped}
 use Rattle.dg_machine.specs.Program.{IsUntouched}
-use Rattle.z_model.specs.Story.{refusal_of}
+use Rattle.z_model.specs.Story.{story_refusal}
 use Rattle.z_model.specs.declared.story.StoryRefusal.{StoryRefusal}
 use Rattle.z_model.specs.declared.story.StoryRefusal.TheVariants.{BadLength}
 use Rattle.dialog_tool.specs.Command.{Command, debug, play, run, build, singles, make, Task, source_named}
@@ -21,7 +21,7 @@ use Rattle.dialog_tool.specs.Lines.{Says, usage_line, refusal_line, story_line, 
 use Rattle.dialog_tool.specs.Report.{report}
 use Rattle.dg_compile.specs.Source.{Compiles, refusal_at}
 use Rattle.dialog_tool.specs.Answers
-use Rattle.dialog_tool.specs.Answers.{Keeps, Prints, Reads, Runs, Does, ComesTo, lost, refused, program, lost_story, no_story, no_memory, does}
+use Rattle.dialog_tool.specs.Answers.{Keeps, Prints, Reads, RunsSource, Does, ComesTo, lost, refused, program, lost_story, no_story, no_memory, does}
 use Rattle.dialog_tool.proofs.Never.{never}
 
 -- ## What is told
@@ -109,7 +109,7 @@ nothing_here c =
 -- a source that the words name is read first
 pub reading : (c : Call) (o : Outside) (result : ℕ) (command : Option Command) (name : List ℕ) → source_named command ≡ Some name → ((P : Core → Type 0) → Reads c o name P result) → Does c o command result
 reading c o result None name e r = cc
-reading c o result (Some (debug t)) name e r = subst (λ (n : List ℕ). Reads c o n (λ p. Runs c o t p result) result) (let same : name ≡ t.name = cc in same) (r (λ p. Runs c o t p result))
+reading c o result (Some (debug t)) name e r = subst (λ (n : List ℕ). Reads c o n (λ p. RunsSource c o t p result) result) (let same : name ≡ t.name = cc in same) (r (λ p. RunsSource c o t p result))
 reading c o result (Some (play t)) name e r = cc
 reading c o result (Some (run t)) name e r = subst (λ (n : List ℕ). Reads c o n (λ p. Answers.Builds c o t p result) result) (let same : name ≡ t.name = cc in same) (r (λ p. Answers.Builds c o t p result))
 reading c o result (Some (build n to)) name e r = subst (λ (m : List ℕ). Reads c o m (λ p. Answers.HasNone c n p result) result) (let same : name ≡ n = cc in same) (r (λ p. Answers.HasNone c n p result))
@@ -155,10 +155,10 @@ with_program c command name file result p P words f is reads typed told d =
 
 -- a program was run, on typed bytes as they are told
 pub run_comes : (c : Call) (t : Task) (file : List ℕ) (result : ℕ) (p : Core) (P : List ℕ → Type 0) → c.command ≡ Some (debug t) → IsFetched c.shelf c.shelf_after t.name file → Compiles file (Ok p)
-    → ((typed : List ℕ) (contents : List ℕ → Option (List ℕ)) → P typed → Runs c (outside contents typed) t p result) → ForTyped c.input.left P → Answers.Answers c result
+    → ((typed : List ℕ) (contents : List ℕ → Option (List ℕ)) → P typed → RunsSource c (outside contents typed) t p result) → ForTyped c.input.left P → Answers.Answers c result
 run_comes c t file result p P words f is runs h =
     let s = some_typed c.input.left P h in
-    with_program c (debug t) t.name file result p (λ o q. Runs c o t q result) words f is (λ o d. d) s.0 s.1 (λ contents. runs s.0 contents s.2)
+    with_program c (debug t) t.name file result p (λ o q. RunsSource c o t q result) words f is (λ o d. d) s.0 s.1 (λ contents. runs s.0 contents s.2)
 
 -- ## The report on a source
 
@@ -206,15 +206,15 @@ story_lost c t result words kept rose missing same says =
     answers c n.0 result n.1 (by_words c n.0 result (Some (play t)) words kept (lost_story (record { rose = rose; missing = missing }) (prints c 5 (file_fault_line t.name) result same says)))
 
 -- the file is no story
-pub story_refused : (c : Call) (t : Task) (file : List ℕ) (result : ℕ) (r : StoryRefusal) → c.command ≡ Some (play t) → IsFetched c.shelf c.shelf_after t.name file → refusal_of file ≡ Some r → c.input_after ≡ c.input
+pub story_refused : (c : Call) (t : Task) (file : List ℕ) (result : ℕ) (r : StoryRefusal) → c.command ≡ Some (play t) → IsFetched c.shelf c.shelf_after t.name file → story_refusal file ≡ Some r → c.input_after ≡ c.input
     → Says 4 (story_line t.name r) c.out c.out_after result → Answers.Answers c result
 story_refused c t file result r words f is same says =
     let h = file_here c t.name file f in
     let o = outside_of c t.name file h in
-    answers c o result (found_file c t.name file h) (by_words c o result (Some (play t)) words h.kept (no_story r (subst (λ (l : List ℕ). refusal_of l ≡ Some r) h.is is) (prints c 4 (story_line t.name r) result same says)))
+    answers c o result (found_file c t.name file h) (by_words c o result (Some (play t)) words h.kept (no_story r (subst (λ (l : List ℕ). story_refusal l ≡ Some r) h.is is) (prints c 4 (story_line t.name r) result same says)))
 
-long_story : (file : List ℕ) → 524288 < length file → refusal_of file ≡ Some BadLength
-unfolding refusal_of
+long_story : (file : List ℕ) → 524288 < length file → story_refusal file ≡ Some BadLength
+unfolding story_refusal
 long_story file more = let test : nat_lt 524288 (length file) ≡ true = grind (arith, nat_tests) in rw test refl
 
 -- the file is too long for a story
@@ -224,4 +224,4 @@ story_long c t result words kept more same says =
     let long = long_here c t.name 524288 kept more in
     let o = outside_of c t.name long.0 long.2 in
     answers c o result (found_file c t.name long.0 long.2)
-    (by_words c o result (Some (play t)) words kept (no_story BadLength (subst (λ (l : List ℕ). refusal_of l ≡ Some BadLength) long.2.is (long_story long.0 long.1)) (prints c 4 (story_line t.name BadLength) result same says)))
+    (by_words c o result (Some (play t)) words kept (no_story BadLength (subst (λ (l : List ℕ). story_refusal l ≡ Some BadLength) long.2.is (long_story long.0 long.1)) (prints c 4 (story_line t.name BadLength) result same says)))

@@ -7,7 +7,7 @@ use Rattle.dg_base.specs.Streams.{SourceView}
 use Rattle.dg_base.specs.Written.{SinkView}
 use Rattle.dg_base.specs.declared.program.CoreProgram.{CoreProgram as Core}
 use Rattle.dg_story.specs.Refusals as story
-use Rattle.z_model.specs.Story.{refusal_of}
+use Rattle.z_model.specs.Story.{story_refusal}
 use Rattle.dialog_tool.specs.Answers
 use Rattle.dialog_tool.specs.Answers.{Reads, HasStory, HasNone, Builds, no_story_of, plays, IsStored, stores}
 use Rattle.dialog_tool.specs.inside.Building.{HasNoStory, none, no_room}
@@ -68,8 +68,8 @@ none_to_run c t file result p words f is same (no_room says) = no_memory_left c 
 -- ## A story
 
 -- a story that was built is taken by the player
-pub is_taken : (p : Core) (bytes : List ℕ) → HasStory p bytes → refusal_of bytes ≡ None
-is_taken p bytes h = subst (λ (l : List ℕ). refusal_of l ≡ None) h.bytes_are h.is.story.assembled.header.accepted
+pub is_taken : (p : Core) (bytes : List ℕ) → HasStory p bytes → story_refusal bytes ≡ None
+is_taken p bytes h = subst (λ (l : List ℕ). story_refusal l ≡ None) h.bytes_are h.is.story.assembled.header.accepted
 
 -- the story of a program was played
 pub built_plays : (c : Call) (t : Task) (file : List ℕ) (result : ℕ) (p : Core) (bytes : List ℕ) → c.command ≡ Some (run t) → IsFetched c.shelf c.shelf_after t.name file → Compiles file (Ok p) → HasStory p bytes

@@ -7,14 +7,14 @@ use Rattle.dg_base.specs.declared.run.Ending.TheVariants.{Done, Quit, Failed, St
 use Rattle.dg_make.specs.Made.{made_source}
 use Rattle.dg_story.specs.Refusals as build
 use Rattle.dg_story.specs.declared.refusal.BuildRefusal.{BuildRefusal}
-use Rattle.z_model.specs.Story.{refusal_of}
+use Rattle.z_model.specs.Story.{story_refusal}
 use Rattle.z_model.specs.declared.story.StoryRefusal.{StoryRefusal}
 use Rattle.dialog_tool.specs.Command.{debug, play, run, build, singles, make, Command, Task, source_named}
 use Rattle.dialog_tool.specs.Call.{Call, Outside, IsAsTold, file_at, file_of}
 use Rattle.dialog_tool.specs.Lines.{Says, said, unsaid}
-use Rattle.dialog_tool.specs.Playing.{status_of_end, run_of, played, unread, unwritten}
+use Rattle.dialog_tool.specs.Playing.{status_of_end, story_run, played, unread, unwritten}
 use Rattle.dg_compile.specs.Source.{Compiles}
-use Rattle.dialog_tool.specs.Answers.{Answers, Comes, Decides, Prints, Reads, lost, refused, program, Runs, ran, input_lost, out_lost, Lists, Makes, reports, overflows, refuses, Loads, lost_story, no_story, story, Builds, no_story_of, plays, HasNone, IsStored, held, not_held, no_room_for_it, Stores, Does, ComesTo, no_memory, does, stores, status_of}
+use Rattle.dialog_tool.specs.Answers.{Answers, Comes, Decides, Prints, Reads, lost, refused, program, RunsSource, ran, input_lost, out_lost, Lists, Makes, reports, overflows, refuses, Loads, lost_story, no_story, story, Builds, no_story_of, plays, HasNone, IsStored, held, not_held, no_room_for_it, Stores, Does, ComesTo, no_memory, does, stores, status_of}
 
 -- a source has one answer
 abbrev IsOne : Type 0
@@ -98,7 +98,7 @@ ended {result = result} e is = which (status_ends e)
     which (inl zero) = inl (is ∙ zero)
     which (inr three) = inr (inl (is ∙ three))
 
-run_ended : (c : Call) (o : Outside) (t : Task) (p : Core) (result : ℕ) → (result ≡ 5) ⊎ Runs c o t p result → (result ≡ 0) ⊎ Comes 3 result
+run_ended : (c : Call) (o : Outside) (t : Task) (p : Core) (result : ℕ) → (result ≡ 5) ⊎ RunsSource c o t p result → (result ≡ 0) ⊎ Comes 3 result
 run_ended c o t p result (inl e) = inr (early e)
 run_ended c o t p result (inr (ran outcome e shown)) = ended outcome.ending e
 run_ended c o t p result (inr (input_lost e rose h)) = inr (early e)
@@ -126,22 +126,22 @@ made_badly one c n status result text r h p (refuses q k e d) = subst (λ (s : �
 
 -- ## Stories
 
-no_story_there : (c : Call) (o : Outside) (t : Task) (result : ℕ) (r : StoryRefusal) → refusal_of (file_of o t) ≡ Some r → Loads c o t result → Comes 4 result
+no_story_there : (c : Call) (o : Outside) (t : Task) (result : ℕ) (r : StoryRefusal) → story_refusal (file_of o t) ≡ Some r → Loads c o t result → Comes 4 result
 no_story_there c o t result r h (lost_story l p) = early (five c _ result p)
 no_story_there c o t result r h (no_story q k p) = printed c 4 _ result p
 no_story_there c o t result r h (story k p) = let no = sym h ∙ k in cc
 
-played_so : (c : Call) (o : Outside) (t : Task) (result : ℕ) → refusal_of (file_of o t) ≡ None → Loads c o t result → Comes (status_of_end (run_of c o t (file_of o t)).end) result
+played_so : (c : Call) (o : Outside) (t : Task) (result : ℕ) → story_refusal (file_of o t) ≡ None → Loads c o t result → Comes (status_of_end (story_run c o t (file_of o t)).end) result
 played_so c o t result h (lost_story l p) = early (five c _ result p)
 played_so c o t result h (no_story q k p) = let no = sym h ∙ k in cc
 played_so c o t result h (story k (played end e p)) = inl (e ∙ ap status_of_end p.plays.ends)
 played_so c o t result h (story k (unread e rose p)) = early e
 played_so c o t result h (story k (unwritten e rose p)) = early e
 
-not_both : {A : Type 0} (p : Core) (r : BuildRefusal) → build.refusal_of p ≡ None → build.refusal_of p ≡ Some r → A
+not_both : {A : Type 0} (p : Core) (r : BuildRefusal) → build.build_refusal p ≡ None → build.build_refusal p ≡ Some r → A
 not_both p r h k = let no = sym h ∙ k in cc
 
-no_story_to_run : (c : Call) (o : Outside) (t : Task) (p : Core) (result : ℕ) (r : BuildRefusal) → build.refusal_of p ≡ Some r → (result ≡ 5) ⊎ Builds c o t p result → Comes 7 result
+no_story_to_run : (c : Call) (o : Outside) (t : Task) (p : Core) (result : ℕ) (r : BuildRefusal) → build.build_refusal p ≡ Some r → (result ≡ 5) ⊎ Builds c o t p result → Comes 7 result
 no_story_to_run c o t p result r h (inl e) = early e
 no_story_to_run c o t p result r h (inr (no_story_of q k q')) = printed c 7 _ result q'
 no_story_to_run c o t p result r h (inr (plays bytes s k d)) = not_both p r s.fits h
@@ -150,7 +150,7 @@ no_story_to_store : (c : Call) (name : List ℕ) (p : Core) (result : ℕ) → (
 no_story_to_store c name p result (inl e) = early e
 no_story_to_store c name p result (inr n) = printed c 7 _ result n.prints
 
-a_story_to_store : (c : Call) (name : List ℕ) (p : Core) (result : ℕ) → build.refusal_of p ≡ None → (result ≡ 5) ⊎ HasNone c name p result → Comes 0 result
+a_story_to_store : (c : Call) (name : List ℕ) (p : Core) (result : ℕ) → build.build_refusal p ≡ None → (result ≡ 5) ⊎ HasNone c name p result → Comes 0 result
 a_story_to_store c name p result h (inl e) = early e
 a_story_to_store c name p result h (inr n) = not_both p n.refusal h n.refused
 
@@ -200,11 +200,11 @@ decided c result one a =
           (λ n m e s. not_stored p r none n (found o told n (λ l. Compiles l (Ok p)) (subst (λ (l : List ℕ). Compiles (file_at o l) (Ok p)) (let same : name ≡ n = cc in same) h)) m s);
       runs_none = λ o told t words p h r none.
           by (Some (run t)) _ words inr (λ d. no_story_to_run c a.outside t p result r none (read_well one c a.outside t.name _ result p (found o told t.name (λ l. Compiles l (Ok p)) h) d)) (λ name to e s. cc);
-      no_story = λ o told t words r h. by (Some (play t)) _ words inr (no_story_there c a.outside t result r (found o told t.name (λ l. refusal_of l ≡ Some r) h)) (λ name to e s. cc);
+      no_story = λ o told t words r h. by (Some (play t)) _ words inr (no_story_there c a.outside t result r (found o told t.name (λ l. story_refusal l ≡ Some r) h)) (λ name to e s. cc);
       plays = λ o told typed t words h.
           let same = outside_is a.outside o (here_it_is c.shelf.contents a.outside o told a.found.contents) (as_told c.input.left o.typed a.outside.typed typed a.found.typed) in
-          by (Some (play t)) _ words inr (λ d. subst (λ (p : Outside). Comes (status_of_end (run_of c p t (file_of p t)).end) result) (sym same)
-          (played_so c a.outside t result (subst (λ (p : Outside). refusal_of (file_of p t) ≡ None) same h) d)) (λ name to e s. cc);
+          by (Some (play t)) _ words inr (λ d. subst (λ (p : Outside). Comes (status_of_end (story_run c p t (file_of p t)).end) result) (sym same)
+          (played_so c a.outside t result (subst (λ (p : Outside). story_refusal (file_of p t) ≡ None) same h) d)) (λ name to e s. cc);
     }
   where
     stored_anyway : (o : Outside) → c.shelf.contents ≡ Some o.contents → (name : List ℕ) → source_named c.command ≡ Some name → (r : Refusal) → Compiles (file_at o name) (Err r)
@@ -215,7 +215,7 @@ decided c result one a =
         (subst (λ (contents : List ℕ → Option (List ℕ)). Compiles (file_at (outside contents o.typed) n) (Err r)) (here_it_is c.shelf.contents a.outside o told a.found.contents)
         (subst (λ (l : List ℕ). Compiles (file_at o l) (Err r)) same h))
 
-    not_stored : (p : Core) (r : BuildRefusal) → build.refusal_of p ≡ Some r → (n : List ℕ) → Compiles (file_at a.outside n) (Ok p) → (m : List ℕ) → Stores c a.outside n m result → Comes 7 result
+    not_stored : (p : Core) (r : BuildRefusal) → build.build_refusal p ≡ Some r → (n : List ℕ) → Compiles (file_at a.outside n) (Ok p) → (m : List ℕ) → Stores c a.outside n m result → Comes 7 result
     not_stored p r none n h m s =
         let is = one (file_at a.outside n) (Ok s.program) (Ok p) s.compiles h in
-        not_both p r (subst (λ (q : Core). build.refusal_of q ≡ None) (let same : s.program ≡ p = cc in same) s.story.fits) none
+        not_both p r (subst (λ (q : Core). build.build_refusal q ≡ None) (let same : s.program ≡ p = cc in same) s.story.fits) none

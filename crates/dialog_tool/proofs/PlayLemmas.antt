@@ -7,13 +7,13 @@ use Rattle.dg_base.specs.declared.run.Fault.{Fault}
 use Rattle.dg_base.specs.declared.run.Fault.TheVariants.{Read, Write}
 use Rattle.z_model.specs.declared.end.ZEnd.{ZEnd}
 use Rattle.z_model.specs.Run.{ZGiven, ZState}
-use Rattle.z_model.specs.Story.{refusal_of, given_of, start_state}
+use Rattle.z_model.specs.Story.{story_refusal, given_of, start_state}
 use Rattle.z_play.specs.Played.{Plays, PlaysSome}
 use Rattle.z_play.specs.Ready.{IsLoaded}
 use Rattle.z_play.specs.Laws.{PrintsBreakOff, RestsBreakOff}
 use Rattle.dialog_tool.specs.Command.{play, Task}
 use Rattle.dialog_tool.specs.Call.{Call, Outside, IsAsTold, IsFetched, dice_for}
-use Rattle.dialog_tool.specs.Playing.{status_of_end, story_of, start_of, TaskPlays, whole, cut_off, LostOut, PlaysStory, played, unread, unwritten, HasPlayed}
+use Rattle.dialog_tool.specs.Playing.{status_of_end, story_given, story_start, TaskPlays, whole, cut_off, LostOut, PlaysStory, played, unread, unwritten, HasPlayed}
 use Rattle.dialog_tool.specs.Answers
 use Rattle.dialog_tool.proofs.AnswerLemmas.{file_here, outside, answers, by_words}
 use Rattle.dialog_tool.proofs.Never.{never}
@@ -78,8 +78,8 @@ task_plays answer c t file p contents = record { left = p.left; told = p.told; p
 lost_out : PrintsBreakOff → RestsBreakOff → (c : Call) (o : Outside) (t : Task) (bytes : List ℕ) → TaskPlays (Err Write) c o t bytes → LostOut c o t bytes
 lost_out prints rests c o t bytes p = here p.plays
   where
-    here : Plays (Err Write) (story_of c t bytes) (start_of o bytes) t.steps (Some p.left) c.out c.out_after → LostOut c o t bytes
-    here (inl s) = record { text = _; may_tell = whole refl; broke = prints (story_of c t bytes) (start_of o bytes) t.steps (Some p.left) c.out c.out_after s; played = p }
+    here : Plays (Err Write) (story_given c t bytes) (story_start o bytes) t.steps (Some p.left) c.out c.out_after → LostOut c o t bytes
+    here (inl s) = record { text = _; may_tell = whole refl; broke = prints (story_given c t bytes) (story_start o bytes) t.steps (Some p.left) c.out c.out_after s; played = p }
     here (inr (inl s)) = record { text = _; may_tell = whole refl; broke = rests c.out c.out_after _ _ s.cut; played = p }
     here (inr (inr s)) = record { text = _; may_tell = cut_off s.m s.rest s.stopped refl; broke = rests c.out c.out_after _ _ s.cut; played = p }
 
@@ -99,10 +99,10 @@ play_unwritten prints rests c t file result e rose r =
     record { typed = p.typed; told = p.as_told; plays = λ contents. unwritten e rose (lost_out prints rests c (outside contents p.typed) t file (task_plays (Err Write) c t file p contents)) }
 
 -- the file is a story and was played
-pub play_comes : (c : Call) (t : Task) (file : List ℕ) (result : ℕ) → c.command ≡ Some (play t) → IsFetched c.shelf c.shelf_after t.name file → refusal_of file ≡ None → HasPlayed c t file result → Answers.Answers c result
+pub play_comes : (c : Call) (t : Task) (file : List ℕ) (result : ℕ) → c.command ≡ Some (play t) → IsFetched c.shelf c.shelf_after t.name file → story_refusal file ≡ None → HasPlayed c t file result → Answers.Answers c result
 play_comes c t file result words f accepted p =
     let h = file_here c t.name file f in
     let o = outside h.contents p.typed in
     answers c o result (record { contents = h.told; typed = p.told })
     (by_words c o result (Some (play t)) words h.kept
-    (Answers.story (subst (λ (l : List ℕ). refusal_of l ≡ None) h.is accepted) (subst (λ (l : List ℕ). PlaysStory c o t l result) h.is (p.plays h.contents))))
+    (Answers.story (subst (λ (l : List ℕ). story_refusal l ≡ None) h.is accepted) (subst (λ (l : List ℕ). PlaysStory c o t l result) h.is (p.plays h.contents))))

@@ -18,13 +18,13 @@ use Rattle.dg_story.specs.Built.{IsBuilt}
 use Rattle.dg_story.specs.Refusals as build
 use Rattle.dg_story.specs.declared.building.Built.{Built}
 use Rattle.dg_story.specs.declared.refusal.BuildRefusal.{BuildRefusal}
-use Rattle.z_model.specs.Story.{refusal_of}
+use Rattle.z_model.specs.Story.{story_refusal}
 use Rattle.z_model.specs.declared.story.StoryRefusal.{StoryRefusal}
 use Rattle.dialog_tool.specs.Command.{Command, debug, play, run, build, singles, make, Task, limits_of, source_named}
 use Rattle.dialog_tool.specs.Call.{Call, Outside, Finds, file_at, file_of, dice_for}
 use Rattle.dialog_tool.specs.Lines.{Says, usage_line, refusal_line, story_line, build_line, file_fault_line}
 use Rattle.dialog_tool.specs.Making.{made_limits, most_output, made_report, too_long_line}
-use Rattle.dialog_tool.specs.Playing.{run_of, status_of_end, PlaysStory}
+use Rattle.dialog_tool.specs.Playing.{story_run, status_of_end, PlaysStory}
 use Rattle.dialog_tool.specs.Report.{report}
 use Rattle.dg_compile.specs.Source.{Compiles}
 
@@ -77,12 +77,12 @@ game_of c t p = game p (dice_for c t)
 
 -- A program is run: at 0 and 3 out took a text that shows a run of it on the typed bytes; at 5 the input failed, and out took the text up to
 -- there with its closing, or out failed within a text that it may be writing.
-pub data Runs (c : Call) (o : Outside) (t : Task) (p : Core) (result : ℕ) : Type 0 where
+pub data RunsSource (c : Call) (o : Outside) (t : Task) (p : Core) (result : ℕ) : Type 0 where
   ran : (outcome : Outcome) → result ≡ status_of outcome.ending
-      → HasShown (game_of c t p) o.typed (limits_of t) outcome (left_told c.input c.input_after) c.out c.out_after → Runs c o t p result
+      → HasShown (game_of c t p) o.typed (limits_of t) outcome (left_told c.input c.input_after) c.out c.out_after → RunsSource c o t p result
   input_lost : result ≡ 5 → Rose c.input.faults c.input_after.faults
-      → HasLostInput (game_of c t p) o.typed (limits_of t) c.input_after.left c.out c.out_after → Runs c o t p result
-  out_lost : result ≡ 5 → HasLostOutput (game_of c t p) o.typed (limits_of t) c.out c.out_after → Runs c o t p result
+      → HasLostInput (game_of c t p) o.typed (limits_of t) c.input_after.left c.out c.out_after → RunsSource c o t p result
+  out_lost : result ≡ 5 → HasLostOutput (game_of c t p) o.typed (limits_of t) c.out c.out_after → RunsSource c o t p result
 
 -- The predicates of a program are listed, at 0: out took the report, by which those of the set are single.
 pub record Lists (c : Call) (p : Core) (result : ℕ) : Type 0 where
@@ -114,12 +114,12 @@ pub record Reports (c : Call) (n : ℕ) (result : ℕ) : Type 0 where
 -- A file is loaded: it is lost, at 5, or it is no story, at 4, or it is a story and played.
 pub data Loads (c : Call) (o : Outside) (t : Task) (result : ℕ) : Type 0 where
   lost_story : LostFile c t.name → Prints c 5 (file_fault_line t.name) result → Loads c o t result
-  no_story : (r : StoryRefusal) → refusal_of (file_of o t) ≡ Some r → Prints c 4 (story_line t.name r) result → Loads c o t result
-  story : refusal_of (file_of o t) ≡ None → PlaysStory c o t (file_of o t) result → Loads c o t result
+  no_story : (r : StoryRefusal) → story_refusal (file_of o t) ≡ Some r → Prints c 4 (story_line t.name r) result → Loads c o t result
+  story : story_refusal (file_of o t) ≡ None → PlaysStory c o t (file_of o t) result → Loads c o t result
 
 -- This is the story of a program that isn't refused, and it agrees with the program: what it writes fits what the program's runs write.
 pub record HasStory (p : Core) (bytes : List ℕ) : Type 0 where
-  pub fits : build.refusal_of p ≡ None
+  pub fits : build.build_refusal p ≡ None
   pub built : Built
   pub is : IsBuilt p built
   pub bytes_are : built.story.items ≡ bytes
@@ -127,13 +127,13 @@ pub record HasStory (p : Core) (bytes : List ℕ) : Type 0 where
 
 -- A program is built in memory: it has no story, at 7, or its story, which the player takes, is played.
 pub data Builds (c : Call) (o : Outside) (t : Task) (p : Core) (result : ℕ) : Type 0 where
-  no_story_of : (r : BuildRefusal) → build.refusal_of p ≡ Some r → Prints c 7 (build_line t.name r) result → Builds c o t p result
-  plays : (bytes : List ℕ) → HasStory p bytes → refusal_of bytes ≡ None → PlaysStory c o t bytes result → Builds c o t p result
+  no_story_of : (r : BuildRefusal) → build.build_refusal p ≡ Some r → Prints c 7 (build_line t.name r) result → Builds c o t p result
+  plays : (bytes : List ℕ) → HasStory p bytes → story_refusal bytes ≡ None → PlaysStory c o t bytes result → Builds c o t p result
 
 -- A program that is to be stored has no story, at 7.
 pub record HasNone (c : Call) (name : List ℕ) (p : Core) (result : ℕ) : Type 0 where
   pub refusal : BuildRefusal
-  pub refused : build.refusal_of p ≡ Some refusal
+  pub refused : build.build_refusal p ≡ Some refusal
   pub prints : Prints c 7 (build_line name refusal) result
 
 -- ---- the call
@@ -141,7 +141,7 @@ pub record HasNone (c : Call) (name : List ℕ) (p : Core) (result : ℕ) : Type
 -- What a call of this command comes to, where the shelf keeps what it holds.
 abbrev pub Does : Call → Outside → Option Command → ℕ → Type 0
 Does c o None result = Prints c 2 usage_line result × (c.shelf_after ≡ c.shelf)
-Does c o (Some (debug t)) result = Reads c o t.name (λ p. Runs c o t p result) result
+Does c o (Some (debug t)) result = Reads c o t.name (λ p. RunsSource c o t p result) result
 Does c o (Some (play t)) result = Loads c o t result
 Does c o (Some (run t)) result = Reads c o t.name (λ p. Builds c o t p result) result
 Does c o (Some (build name to)) result = Reads c o name (λ p. HasNone c name p result) result
@@ -191,12 +191,12 @@ pub record Decides (c : Call) (result : ℕ) : Type 0 where
   pub makes : (n : ℕ) → c.command ≡ Some (make n) → (p : Core) → Compiles (made_source n) (Ok p) → (result ≡ 0) ⊎ Comes 3 result
   pub makes_badly : (n : ℕ) → c.command ≡ Some (make n) → (r : Refusal) → Compiles (made_source n) (Err r) → Comes 1 result
   pub builds : (o : Outside) → c.shelf.contents ≡ Some o.contents → (name to : List ℕ) → c.command ≡ Some (build name to)
-      → (p : Core) → Compiles (file_at o name) (Ok p) → build.refusal_of p ≡ None → Comes 0 result
+      → (p : Core) → Compiles (file_at o name) (Ok p) → build.build_refusal p ≡ None → Comes 0 result
   pub builds_none : (o : Outside) → c.shelf.contents ≡ Some o.contents → (name to : List ℕ) → c.command ≡ Some (build name to)
-      → (p : Core) → Compiles (file_at o name) (Ok p) → (r : BuildRefusal) → build.refusal_of p ≡ Some r → Comes 7 result
+      → (p : Core) → Compiles (file_at o name) (Ok p) → (r : BuildRefusal) → build.build_refusal p ≡ Some r → Comes 7 result
   pub runs_none : (o : Outside) → c.shelf.contents ≡ Some o.contents → (t : Task) → c.command ≡ Some (run t)
-      → (p : Core) → Compiles (file_of o t) (Ok p) → (r : BuildRefusal) → build.refusal_of p ≡ Some r → Comes 7 result
+      → (p : Core) → Compiles (file_of o t) (Ok p) → (r : BuildRefusal) → build.build_refusal p ≡ Some r → Comes 7 result
   pub no_story : (o : Outside) → c.shelf.contents ≡ Some o.contents → (t : Task) → c.command ≡ Some (play t)
-      → (r : StoryRefusal) → refusal_of (file_of o t) ≡ Some r → Comes 4 result
+      → (r : StoryRefusal) → story_refusal (file_of o t) ≡ Some r → Comes 4 result
   pub plays : (o : Outside) → c.shelf.contents ≡ Some o.contents → c.input.left ≡ Some o.typed → (t : Task) → c.command ≡ Some (play t)
-      → refusal_of (file_of o t) ≡ None → Comes (status_of_end (run_of c o t (file_of o t)).end) result
+      → story_refusal (file_of o t) ≡ None → Comes (status_of_end (story_run c o t (file_of o t)).end) result

@@ -3,7 +3,7 @@ use Rattle.std.specs.Prelude.{◌≡◌, ◌≤◌, ℕ, List, Option, Some, Non
 use Rattle.dg_base.specs.Shelves.{ShelfView, held, WhereTold, KeepsAll}
 use Rattle.dg_base.specs.Streams.{SourceView}
 use Rattle.dg_base.specs.Written.{SinkView}
-use Rattle.dialog_tool.specs.Command.{Command, Task, thrown}
+use Rattle.dialog_tool.specs.Command.{Command, Task, task_dice}
 
 -- What the words ask for, the dice that are handed in, and what the shelf, the input and the output tell before the call and behind it.
 pub record Call : Type 0 where
@@ -54,7 +54,7 @@ file_of o t = file_at o t.name
 
 -- the dice that are thrown for a task
 abbrev pub dice_for : Call → Task → List ℕ
-dice_for c t = thrown t.dice c.dice
+dice_for c t = task_dice t.dice c.dice
 
 -- A shelf's file is this, as far as the shelf tells; it keeps what it holds, has failed no less often, and stays sure.
 pub record IsFetched (before after : ShelfView) (name file : List ℕ) : Type 0 where

@@ -36,8 +36,8 @@ is_file_name (c ∷ []) = true
 is_file_name (c ∷ d ∷ cs) = not (nat_eq c 45 && nat_eq d 45)
 
 -- decimal digits alone
-abbrev pub are_digits : List ℕ → Bool
-are_digits word = list_all (λ c. nat_le 48 c && nat_le c 57) word
+abbrev pub digits_alone : List ℕ → Bool
+digits_alone word = list_all (λ c. nat_le 48 c && nat_le c 57) word
 
 -- the value of digits behind a number
 abbrev pub value_behind : ℕ → List ℕ → ℕ
@@ -45,24 +45,24 @@ value_behind high [] = high
 value_behind high (c ∷ cs) = value_behind (10 * high + (c - 48)) cs
 
 -- a number by one digit or more, from the first of these to the second
-abbrev pub is_number : ℕ → ℕ → List ℕ → Bool
-is_number least most word = nat_le 1 (length word) && (are_digits word && (nat_le least (value_behind 0 word) && nat_le (value_behind 0 word) most))
+abbrev pub number_fits : ℕ → ℕ → List ℕ → Bool
+number_fits least most word = nat_le 1 (length word) && (digits_alone word && (nat_le least (value_behind 0 word) && nat_le (value_behind 0 word) most))
 
 -- the number that a word writes, where it is from the first of these to the second
-abbrev pub number_of : ℕ → ℕ → List ℕ → Option ℕ
-number_of least most word = if is_number least most word then Some (value_behind 0 word) else None
+abbrev pub number_within : ℕ → ℕ → List ℕ → Option ℕ
+number_within least most word = if number_fits least most word then Some (value_behind 0 word) else None
 
 -- ---- options
 
 -- the words behind --steps, --heap, --trail and --dice, where they stand
-pub record Values : Type 0 where
+pub record OptionWords : Type 0 where
   pub steps : Option (List ℕ)
   pub heap : Option (List ℕ)
   pub trail : Option (List ℕ)
   pub dice : Option (List ℕ)
 
 -- no option
-abbrev pub no_values : Values
+abbrev pub no_values : OptionWords
 no_values = record { steps = None; heap = None; trail = None; dice = None }
 
 -- a word, where there was none before: no option stands twice
@@ -71,7 +71,7 @@ once None word = Some (Some word)
 once (Some before) word = None
 
 -- these options, and one more with its word
-abbrev pub with_option : Values → List ℕ → List ℕ → Option Values
+abbrev pub with_option : OptionWords → List ℕ → List ℕ → Option OptionWords
 with_option values option word =
     if bytes_eq option (codes "--steps") then option_map (λ w. record values { steps = w }) (once values.steps word)
     else if bytes_eq option (codes "--heap") then option_map (λ w. record values { heap = w }) (once values.heap word)
@@ -80,31 +80,31 @@ with_option values option word =
     else None
 
 -- these options, and those that these words are: in any order, each followed by its word
-abbrev pub values_behind : Values → List (List ℕ) → Option Values
+abbrev pub values_behind : OptionWords → List (List ℕ) → Option OptionWords
 values_behind values [] = Some values
 values_behind values (option ∷ []) = None
 values_behind values (option ∷ word ∷ others) = option_and_then (λ more. values_behind more others) (with_option values option word)
 
 -- the options that these words are
-abbrev pub values_of : List (List ℕ) → Option Values
-values_of words = values_behind no_values words
+abbrev pub options_of : List (List ℕ) → Option OptionWords
+options_of words = values_behind no_values words
 
 -- the number behind an option, or the usual one where the option doesn't stand
 abbrev pub number_or : ℕ → ℕ → Option (List ℕ) → Option ℕ
 number_or usual most None = Some usual
-number_or usual most (Some word) = number_of 1 most word
+number_or usual most (Some word) = number_within 1 most word
 
 -- ---- dice
 
 -- the parts of a word between its commas
-abbrev pub parts_of : List ℕ → List (List ℕ)
-parts_of word = slice_split (λ c. nat_eq c 44) word
+abbrev pub between_commas : List ℕ → List (List ℕ)
+between_commas word = slice_split (λ c. nat_eq c 44) word
 
 -- the dice that a word writes: 1 to 1,024 numbers from 0 to 65,535, separated by single commas
 abbrev pub dice_of : List ℕ → Option (List ℕ)
 dice_of word =
-    if nat_le (length (parts_of word)) 1024 && list_all (is_number 0 65535) (parts_of word)
-    then Some (map (value_behind 0) (parts_of word))
+    if nat_le (length (between_commas word)) 1024 && list_all (number_fits 0 65535) (between_commas word)
+    then Some (map (value_behind 0) (between_commas word))
     else None
 
 -- the dice in place of those that are handed in, if any
@@ -120,17 +120,17 @@ task_from name (Some steps) (Some heap) (Some trail) (Some dice) = Some (record 
 task_from name steps heap trail dice = None
 
 -- the task that the options name, with so many steps where they name none
-abbrev pub task_of : ℕ → List ℕ → Values → Option Task
+abbrev pub task_of : ℕ → List ℕ → OptionWords → Option Task
 task_of usual name values =
     task_from name (number_or usual 1000000000000 values.steps) (number_or 1000000 16000000 values.heap)
     (number_or 200000 16000000 values.trail) (own_dice values.dice)
 
 -- a source is run as its options say
-abbrev pub debug_with : List ℕ → Values → Option Command
+abbrev pub debug_with : List ℕ → OptionWords → Option Command
 debug_with name values = option_map debug (task_of 100000000 name values)
 
 -- a story is played as its options say; it has limits of heap and trail of its own
-abbrev pub story_task : List ℕ → Values → Option Task
+abbrev pub story_task : List ℕ → OptionWords → Option Task
 story_task name values = if is_some values.heap || is_some values.trail then None else task_of 1000000000 name values
 
 -- the story of a source is stored under a name; there are no options
@@ -146,7 +146,7 @@ singles_with name (option ∷ others) = None
 
 -- a source is made of a number from 1 to 400; there are no options
 abbrev pub make_with : List ℕ → List (List ℕ) → Option Command
-make_with word [] = option_map make (number_of 1 400 word)
+make_with word [] = option_map make (number_within 1 400 word)
 make_with word (option ∷ others) = None
 
 -- the limits of a task
@@ -154,9 +154,9 @@ abbrev pub limits_of : Task → Limits
 limits_of task = record { steps = task.steps; heap = task.heap; trail = task.trail; aux = 100000; keep = 10000 }
 
 -- a task's own dice, or those that are handed in
-abbrev pub thrown : Option (List ℕ) → List ℕ → List ℕ
-thrown None handed = handed
-thrown (Some dice) handed = dice
+abbrev pub task_dice : Option (List ℕ) → List ℕ → List ℕ
+task_dice None handed = handed
+task_dice (Some dice) handed = dice
 
 -- ---- files
 
@@ -175,9 +175,9 @@ source_named (Some (make n)) = None
 -- the command of this word, with options
 abbrev pub with_options : List ℕ → List ℕ → List (List ℕ) → Option Command
 with_options command name options =
-    if bytes_eq command (codes "debug") then option_and_then (debug_with name) (values_of options)
-    else if bytes_eq command (codes "play") then option_and_then (λ values. option_map play (story_task name values)) (values_of options)
-    else if bytes_eq command (codes "run") then option_and_then (λ values. option_map run (story_task name values)) (values_of options)
+    if bytes_eq command (codes "debug") then option_and_then (debug_with name) (options_of options)
+    else if bytes_eq command (codes "play") then option_and_then (λ values. option_map play (story_task name values)) (options_of options)
+    else if bytes_eq command (codes "run") then option_and_then (λ values. option_map run (story_task name values)) (options_of options)
     else None
 
 -- the command of this word

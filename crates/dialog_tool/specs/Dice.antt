@@ -4,9 +4,9 @@ use Rattle.rand_pcg.specs.Lcg.{Lcg, started, increment_of}
 use Rattle.rand_pcg.specs.Pcg.{multiplier_64, pcg32}
 
 -- So many words of a generator, one after the other.
-unfoldable pub words_of : ℕ → Lcg → List ℕ
-words_of zero generator = []
-words_of (suc n) generator = (pcg32 generator).0 ∷ words_of n (pcg32 generator).1
+unfoldable pub generated : ℕ → Lcg → List ℕ
+generated zero generator = []
+generated (suc n) generator = (pcg32 generator).0 ∷ generated n (pcg32 generator).1
 
 -- The generator of a seed, on its stream 54.
 abbrev pub seeded : ℕ → Lcg
@@ -18,4 +18,4 @@ halves words = map (λ w. w % 65536) words
 
 -- The dice of a seed: the low halves of the first 1,024 words.
 abbrev pub dice_of : ℕ → List ℕ
-dice_of seed = halves (words_of 1024 (seeded seed))
+dice_of seed = halves (generated 1024 (seeded seed))

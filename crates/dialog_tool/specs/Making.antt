@@ -18,17 +18,17 @@ abbrev pub lines_in : List ℕ → ℕ
 lines_in text = count_by (λ c. nat_eq c 10) text
 
 -- the name of an ending
-abbrev pub name_of : Ending → List ℕ
-name_of Done = codes "Done"
-name_of Quit = codes "Quit"
-name_of Failed = codes "Failed"
-name_of Stopped = codes "Stopped"
-name_of InputEnded = codes "InputEnded"
-name_of StepLimit = codes "StepLimit"
-name_of HeapLimit = codes "HeapLimit"
-name_of TrailLimit = codes "TrailLimit"
-name_of AuxLimit = codes "AuxLimit"
-name_of KeepLimit = codes "KeepLimit"
+abbrev pub ending_name : Ending → List ℕ
+ending_name Done = codes "Done"
+ending_name Quit = codes "Quit"
+ending_name Failed = codes "Failed"
+ending_name Stopped = codes "Stopped"
+ending_name InputEnded = codes "InputEnded"
+ending_name StepLimit = codes "StepLimit"
+ending_name HeapLimit = codes "HeapLimit"
+ending_name TrailLimit = codes "TrailLimit"
+ending_name AuxLimit = codes "AuxLimit"
+ending_name KeepLimit = codes "KeepLimit"
 
 -- source L lines B bytes
 abbrev pub source_line : List ℕ → List ℕ
@@ -44,7 +44,7 @@ goals_line goals = codes "goals " ++ (decimal goals ++ codes "\n")
 
 -- ending E
 abbrev pub ending_line : Ending → List ℕ
-ending_line ending = codes "ending " ++ (name_of ending ++ codes "\n")
+ending_line ending = codes "ending " ++ (ending_name ending ++ codes "\n")
 
 -- the four lines on a source, and on what a run of it wrote
 abbrev pub made_report : List ℕ → List ℕ → Outcome → List ℕ

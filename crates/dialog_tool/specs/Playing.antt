@@ -21,30 +21,30 @@ status_of_end ends.StepLimit = 3
 status_of_end (ends.Broken fault at) = 4
 
 -- the story of these bytes with the dice, and the state before its first instruction
-abbrev pub story_of : Call → Task → List ℕ → ZGiven
-story_of c t bytes = given_of bytes (dice_for c t)
+abbrev pub story_given : Call → Task → List ℕ → ZGiven
+story_given c t bytes = given_of bytes (dice_for c t)
 
-abbrev pub start_of : Outside → List ℕ → ZState
-start_of o bytes = start_state bytes o.typed
+abbrev pub story_start : Outside → List ℕ → ZState
+story_start o bytes = start_state bytes o.typed
 
 -- its run, of at most n instructions, and of at most the task's
 abbrev pub run_up_to : Call → Outside → Task → List ℕ → ℕ → ZRun
-run_up_to c o t bytes n = zrun (story_of c t bytes) n (start_of o bytes)
+run_up_to c o t bytes n = zrun (story_given c t bytes) n (story_start o bytes)
 
-abbrev pub run_of : Call → Outside → Task → List ℕ → ZRun
-run_of c o t bytes = run_up_to c o t bytes t.steps
+abbrev pub story_run : Call → Outside → Task → List ℕ → ZRun
+story_run c o t bytes = run_up_to c o t bytes t.steps
 
 -- What a run of the task's instructions did, by the player's answer, and which of the typed bytes it left: those that the input tells
 -- behind it, where it told its bytes.
 pub record TaskPlays (answer : Result ZEnd Fault) (c : Call) (o : Outside) (t : Task) (bytes : List ℕ) : Type 0 where
   pub left : List ℕ
   pub told : IsSome c.input.left → c.input_after.left ≡ Some left
-  pub plays : Plays answer (story_of c t bytes) (start_of o bytes) t.steps (Some left) c.out c.out_after
+  pub plays : Plays answer (story_given c t bytes) (story_start o bytes) t.steps (Some left) c.out c.out_after
 
 -- the texts that a run may be writing: its output with the line of its end, or its output up to where the input failed with the line that says so
 pub data MayTell (c : Call) (o : Outside) (t : Task) (bytes text : List ℕ) : Type 0 where
-  whole : text ≡ played_text (run_of c o t bytes) → MayTell c o t bytes text
-  cut_off : (m : ℕ) → (rest : List ℕ) → StoppedAt (story_of c t bytes) (start_of o bytes) t.steps m rest
+  whole : text ≡ played_text (story_run c o t bytes) → MayTell c o t bytes text
+  cut_off : (m : ℕ) → (rest : List ℕ) → StoppedAt (story_given c t bytes) (story_start o bytes) t.steps m rest
       → text ≡ with_end_line (run_up_to c o t bytes m).state.output unread_line → MayTell c o t bytes text
 
 -- Out failed within what a story's run may be writing.

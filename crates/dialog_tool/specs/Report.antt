@@ -19,9 +19,9 @@ abbrev pub is_listed : Pred → Bool
 is_listed pred = pred.from_source && has_rule pred.rules
 
 -- its line, if it is listed: the word and its name
-abbrev pub line_of : Pred × Bool → List ℕ
-line_of p = if is_listed p.0 then answers_word p.1 ++ (p.0.name ++ codes "\n") else []
+abbrev pub report_line : Pred × Bool → List ℕ
+report_line p = if is_listed p.0 then answers_word p.1 ++ (p.0.name ++ codes "\n") else []
 
 -- The report: the lines of the predicates in order, with whether each is single.
 abbrev pub report : Core → List Bool → List ℕ
-report program set = flat_map line_of (zip program.preds set)
+report program set = flat_map report_line (zip program.preds set)

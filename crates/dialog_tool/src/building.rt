@@ -4,7 +4,7 @@ ghost use Rattle.dg_base.specs.Shelves.{ShelfView};
 ghost use Rattle.dg_base.specs.Sound.{IsSound};
 ghost use Rattle.dg_base.specs.Streams.{SourceView};
 ghost use Rattle.dg_base.specs.declared.program.CoreProgram.{CoreProgram as Core};
-ghost use Rattle.dg_story.specs.Refusals.{refusal_of};
+ghost use Rattle.dg_story.specs.Refusals.{build_refusal};
 ghost use Rattle.dialog_tool.specs.Answers.{Answers, HasStory};
 ghost use Rattle.dialog_tool.specs.inside.Building.{HasNoStory};
 ghost use Rattle.dialog_tool.specs.Call.{call, IsFetched};
@@ -30,7 +30,7 @@ fn built<K: Sink>(
     out: &mut K,
 ) -> Result<Vec<u8>, u8>
     requires sound { IsSound program }
-    requires fits { refusal_of program ≡ None }
+    requires fits { build_refusal program ≡ None }
     ensures story { IfOk result (λ bytes. HasStory program bytes.items) }
     ensures silent { OnOk result (K.view out.new ≡ K.view out.old) }
     ensures none { IfErr result (HasNoStory program name.now (K.view out.old) (K.view out.new)) }

@@ -113,7 +113,7 @@ fn values_behind<'a>(values: Values<'a>, options: &'a [String]) -> Option<Values
 }
 
 fn values_of(options: &[String]) -> Option<Values<'_>>
-    ensures { option_map values_view result ≡ spec.values_of (texts options.now) }
+    ensures { option_map values_view result ≡ spec.options_of (texts options.now) }
 {
     let none = Values {
         steps: None,

@@ -7,7 +7,7 @@ ghost use Rattle.dialog_tool.specs.Answers.{Answers};
 ghost use Rattle.dialog_tool.specs.Call.{call, IsFetched};
 ghost use Rattle.dialog_tool.specs.Command.{singles as singles_command};
 ghost use Rattle.dialog_tool.specs.Lines.{Says};
-ghost use Rattle.dialog_tool.specs.Report.{answers_word, is_listed, line_of, report};
+ghost use Rattle.dialog_tool.specs.Report.{answers_word, is_listed, report_line, report};
 ghost use Rattle.dg_compile.specs.Source.{Compiles};
 
 use crate::lines::{DONE, FAULT, no_memory};
@@ -31,7 +31,7 @@ fn is_listed(pred: &Pred) -> bool
 
 // Puts the line of a predicate behind a text, if it is listed.
 fn push_line(text: &mut Vec<u8>, pred: &Pred, single: bool) -> Result<(), AllocError>
-    ensures { OnOk result (text.new.items ≡ text.old.items ++ line_of (pred.now, single)) }
+    ensures { OnOk result (text.new.items ≡ text.old.items ++ report_line (pred.now, single)) }
 {
     if !is_listed(pred) {
         return Ok(());
@@ -45,7 +45,7 @@ fn push_line(text: &mut Vec<u8>, pred: &Pred, single: bool) -> Result<(), AllocE
 // The lines of predicates, of which these are single.
 #[tactic(auto, using(crate::proofs::ReportLemmas::none_left))]
 fn lines_of(alloc: Global, preds: &[Pred], set: &[bool]) -> Result<Vec<u8>, AllocError>
-    ensures { IfOk result (λ text. text.items ≡ flat_map line_of (zip preds.now set.now)) }
+    ensures { IfOk result (λ text. text.items ≡ flat_map report_line (zip preds.now set.now)) }
 {
     let mut text = Vec::new(alloc);
     let mut preds = preds;

@@ -40,7 +40,7 @@ fn lines_in(text: &[u8]) -> usize
 }
 
 fn name_of(ending: Ending) -> &'static [u8]
-    ensures { result.now ≡ spec.name_of ending }
+    ensures { result.now ≡ spec.ending_name ending }
 {
     match ending {
         Ending::Done => b"Done",

@@ -2,7 +2,7 @@
 ghost use Rattle.std.specs.Prelude.{◌≡◌, ◌^◌, ◌<◌, ◌∷◌, [], length, IfOk, IfSome};
 ghost use Rattle.std.specs.Option.{option_map, option_map_or};
 ghost use Rattle.dialog_tool.specs.Command as spec;
-ghost use Rattle.dialog_tool.specs.Command.{parts_of};
+ghost use Rattle.dialog_tool.specs.Command.{between_commas};
 
 use std::alloc::{AllocError, Global};
 
@@ -12,7 +12,7 @@ const MOST_DICE: usize = 1024;
 #[tactic(auto, using(crate::proofs::DigitLemmas::too_great))]
 pub fn number_of(least: u64, most: u64, word: &str) -> Option<u64>
     requires { most < 2 ^ 60 }
-    ensures { result ≡ spec.number_of least most word.now }
+    ensures { result ≡ spec.number_within least most word.now }
 {
     let digits = word.as_bytes();
     if digits.is_empty() {
@@ -36,7 +36,7 @@ pub fn number_of(least: u64, most: u64, word: &str) -> Option<u64>
 }
 
 fn die_of(word: &str) -> Option<u16>
-    ensures { result ≡ spec.number_of 0 65535 word.now }
+    ensures { result ≡ spec.number_within 0 65535 word.now }
 {
     let number = number_of(0, 65_535, word)?;
     Some(number as u16)
@@ -44,7 +44,7 @@ fn die_of(word: &str) -> Option<u16>
 
 // What stands before the first comma, and what stands behind it, if there is one.
 fn cut(word: &str) -> (&str, Option<&str>)
-    ensures parts { parts_of word.now ≡ result.0.now ∷ option_map_or (λ rest. parts_of rest.now) result.1 [] }
+    ensures parts { between_commas word.now ≡ result.0.now ∷ option_map_or (λ rest. between_commas rest.now) result.1 [] }
     ensures shorter { IfSome result.1 (λ rest. length rest.now < length word.now) }
 {
     match word.split_once(',') {

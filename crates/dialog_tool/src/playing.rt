@@ -4,7 +4,7 @@ ghost use Rattle.std.specs.Option.{option_map};
 ghost use Rattle.dg_base.specs.Shelves.{ShelfView};
 ghost use Rattle.dialog_tool.specs.Answers.{Answers};
 ghost use Rattle.dialog_tool.specs.Call.{call, IsFetched};
-ghost use Rattle.dialog_tool.specs.Command.{Command, thrown, play as play_command};
+ghost use Rattle.dialog_tool.specs.Command.{Command, task_dice, play as play_command};
 ghost use Rattle.dialog_tool.specs.inside.CommandView.{task_view, HasDice};
 ghost use Rattle.dialog_tool.specs.Playing.{status_of_end, HasPlayed};
 ghost use Rattle.z_play.specs.Ready.{IsLoaded};
@@ -22,7 +22,7 @@ const MOST_BYTES: usize = 524_288;
 pub fn thrown<'a>(own: &'a Option<Vec<u16>>, handed: &'a [u16]) -> &'a [u16]
     requires own { IfSome own.now (λ dice. 0 < length dice.items) }
     requires handed { 0 < length handed.now }
-    ensures dice { result.now ≡ thrown (option_map (λ d. d.items) own.now) handed.now }
+    ensures dice { result.now ≡ task_dice (option_map (λ d. d.items) own.now) handed.now }
     ensures some { 0 < length result.now }
 {
     match own {

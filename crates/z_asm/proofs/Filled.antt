@@ -13,14 +13,14 @@ use Rattle.z_model.specs.declared.op.OperandTypes.{OperandTypes}
 use Rattle.z_model.specs.declared.op.Branch.{Branch}
 use Rattle.z_model.specs.declared.op.Op.{Op}
 use Rattle.z_model.specs.declared.table.Row.{Row}
-use Rattle.z_model.specs.Decode.{counted}
-use Rattle.z_model.specs.Table.{rows_of}
-use Rattle.z_model.specs.Numbers.{word_from}
+use Rattle.z_model.specs.Decode.{count_in_row}
+use Rattle.z_model.specs.Table.{player_rows}
+use Rattle.z_model.specs.Numbers.{wrapped_word}
 use Rattle.z_model.specs.Spelling.{type_of_operand, type_if, types_in, head_bytes, operand_bytes, store_bytes, branch_bytes, offset_bytes, bit, unsigned_14, spelling, row_of, FitsForm, FitsType, FitsOffset, FitsBranch, IsOp}
 use Rattle.z_code.specs.declared.target.Target.{Target}
 use Rattle.z_code.specs.declared.target.Target.TheVariants as targets
 use Rattle.z_code.specs.declared.target.LOp.{LOp}
-use Rattle.z_code.specs.Targets.{Names, offset_to, address, fill, nth, fill_branch, filled, IsNear, NearLabel}
+use Rattle.z_code.specs.Targets.{Names, offset_to, target_address, fill, nth, fill_branch, filled, IsNear, NearLabel}
 use Rattle.z_code.specs.Open.{Counts, OpenIf, OpenBranch, IsOpen}
 use Rattle.z_asm.specs.inside.Filled.{AreWords}
 
@@ -45,11 +45,11 @@ long_is all (Some l) (Some b) o = o.0
 
 -- ---- operands
 
-word_below : (z : ℤ) → word_from z < 65536
+word_below : (z : ℤ) → wrapped_word z < 65536
 word_below (pos n) = omega arith
 word_below (negsuc n) = omega arith
 
-address_below : (names : Names) (labels : ℕ → ℕ) (end : ℕ) (t : Target) → AreWords names → address names labels end t < 65536
+address_below : (names : Names) (labels : ℕ → ℕ) (end : ℕ) (t : Target) → AreWords names → target_address names labels end t < 65536
 address_below names labels end (targets.Label l) w = word_below (offset_to end (labels l))
 address_below names labels end (targets.Routine r) w = w.routine r
 address_below names labels end (targets.Table t) w = w.table t
@@ -69,7 +69,7 @@ fits_large false n lt h = h
 
 fill_fits : (names : Names) (labels : ℕ → ℕ) (end : ℕ) (t : Option Target) (x : Operand) (b : Bool) → AreWords names → IsGiven t x → FitsType (type_if b x) x → FitsType (type_if b (fill names labels end t x)) (fill names labels end t x)
 fill_fits names labels end None x b w o h = h
-fill_fits names labels end (Some t) x b w o h = fits_large b (address names labels end t) (address_below names labels end t w) (subst (λ (y : Operand). FitsType (type_if b y) y) o h)
+fill_fits names labels end (Some t) x b w o h = fits_large b (target_address names labels end t) (address_below names labels end t w) (subst (λ (y : Operand). FitsType (type_if b y) y) o h)
 
 large_size : (ty : OperandType) (n : ℕ) → length (operand_bytes ty (operands.Large n)) ≡ length (operand_bytes ty (operands.Large 0))
 large_size Large n = refl
@@ -79,7 +79,7 @@ large_size Omitted n = refl
 
 fill_size : (names : Names) (labels : ℕ → ℕ) (end : ℕ) (t : Option Target) (x : Operand) (ty : OperandType) → IsGiven t x → length (operand_bytes ty (fill names labels end t x)) ≡ length (operand_bytes ty x)
 fill_size names labels end None x ty o = refl
-fill_size names labels end (Some t) x ty o = large_size ty (address names labels end t) ∙ ap (λ (y : Operand). length (operand_bytes ty y)) (sym o)
+fill_size names labels end (Some t) x ty o = large_size ty (target_address names labels end t) ∙ ap (λ (y : Operand). length (operand_bytes ty y)) (sym o)
 
 -- ---- branches
 
@@ -130,7 +130,7 @@ module _ (names : Names) (labels : ℕ → ℕ) (end : ℕ) (op : Op) (ts : List
     fourth = type_if_same (nat_lt 3 op.operands.count) _ _ (fill_type names labels end (nth ts 3) op.operands.fourth d) i;
   }
 
-  pub still_op : (counts : Counts) (all : List LOp) (row : Row) → AreWords names → IsOpen counts all op ts branch → NearLabel labels end branch → IsOp rows_of row op → IsOp rows_of row now
+  pub still_op : (counts : Counts) (all : List LOp) (row : Row) → AreWords names → IsOpen counts all op ts branch → NearLabel labels end branch → IsOp player_rows row op → IsOp player_rows row now
   still_op counts all row w o near is =
       let a = given counts all (nth ts 0) op.operands.first o.first in
       let b = given counts all (nth ts 1) op.operands.second o.second in
@@ -138,9 +138,9 @@ module _ (names : Names) (labels : ℕ → ℕ) (end : ℕ) (op : Op) (ts : List
       let d = given counts all (nth ts 3) op.operands.fourth o.fourth in
       let same = types_same a b c d in
       record {
-        known = ap (λ (s : OperandTypes). row_of rows_of op.form op.number s) same ∙ is.known;
+        known = ap (λ (s : OperandTypes). row_of player_rows op.form op.number s) same ∙ is.known;
         form = subst (λ (s : OperandTypes). FitsForm op.form op.number s) (sym same) is.form;
-        count = ap (counted row) same ∙ is.count;
+        count = ap (count_in_row row) same ∙ is.count;
         first = fill_fits names labels end (nth ts 0) op.operands.first (nat_lt 0 op.operands.count) w a is.first;
         second = fill_fits names labels end (nth ts 1) op.operands.second (nat_lt 1 op.operands.count) w b is.second;
         third = fill_fits names labels end (nth ts 2) op.operands.third (nat_lt 2 op.operands.count) w c is.third;

@@ -3,7 +3,7 @@ use Rattle.std.proofs.Common.{◌≡◌, ℕ, zero, suc, ◌+◌, ◌-◌, ◌*�
 use Rattle.std.specs.Prelude.{slice_index, if◌then◌else◌}
 use Rattle.std.proofs.lemmas.List.{at_drop_more, length-replicate}
 use Rattle.z_asm.specs.declared.image.Table.{Table}
-use Rattle.z_asm.specs.Layout.{aligned, places_from, end_from, laid, packed, table_bytes, table_places}
+use Rattle.z_asm.specs.Layout.{aligned, stand_from, end_from, laid, packed_address, table_bytes, table_places}
 
 pub aligned_most : (at : ℕ) → at ≤ aligned at
 aligned_most at = omega arith
@@ -57,7 +57,7 @@ laid_long at (part ∷ parts) (size ∷ sizes) h =
 
 -- ---- addresses are words
 
-pub packed_below : (at : ℕ) (sizes : List ℕ) (k : ℕ) → end_from at sizes ≤ 524280 → slice_index (map packed (places_from at sizes)) k < 65536
+pub packed_below : (at : ℕ) (sizes : List ℕ) (k : ℕ) → end_from at sizes ≤ 524280 → slice_index (map packed_address (stand_from at sizes)) k < 65536
 packed_below at [] k h = omega arith
 packed_below at (size ∷ sizes) zero h = let b = end_most (aligned at + size) sizes in omega arith
 packed_below at (size ∷ sizes) (suc k) h = packed_below (aligned at + size) sizes k h

@@ -4,8 +4,8 @@ use Rattle.std.proofs.lemmas.List.{at_drop_more, drop_more}
 use Rattle.z_model.specs.declared.table.Instr.TheVariants as instrs
 use Rattle.z_model.specs.declared.table.One.TheVariants as one
 use Rattle.z_model.specs.declared.table.Zero.TheVariants as none
-use Rattle.z_model.specs.Decode.{count_of, counted}
-use Rattle.z_model.specs.Table.{rows_of}
+use Rattle.z_model.specs.Decode.{operand_count, count_in_row}
+use Rattle.z_model.specs.Table.{player_rows}
 use Rattle.z_model.specs.Spelling.{IsOfTable}
 use Rattle.z_code.specs.Targets.{Names, label_from, spot_of, ops_bytes}
 use Rattle.z_code.specs.Open.{Counts, AreOpen}
@@ -16,10 +16,10 @@ use Rattle.z_asm.specs.declared.image.Code.{Code}
 use Rattle.z_asm.specs.declared.image.Image.{Image}
 use Rattle.z_asm.specs.declared.layout.Plan.{Plan}
 use Rattle.z_asm.specs.declared.layout.Addresses.{Addresses}
-use Rattle.z_asm.specs.Layout.{code_bytes, code_size, aligned, end_from, laid, table_bytes, names_in}
+use Rattle.z_asm.specs.Layout.{code_bytes, code_size, aligned, end_from, laid, table_bytes, names_at}
 use Rattle.z_asm.specs.Header.{header_bytes}
-use Rattle.z_asm.specs.Story.{base_of, dictionary_of, dictionary, first_of, front_of, call_first, then_quit, first_ops, string_bytes, strings_of, string_sizes, routines_from, end_of, names_of, string_part, code_part, readable_bytes, all_strings, all_routines, bytes_behind, story_of}
-use Rattle.z_asm.specs.Conditions.{counts_of, AreCodes, ArePrintable, IsImage}
+use Rattle.z_asm.specs.Story.{image_base, dictionary_of, dictionary, code_start, front_of, call_first, then_quit, first_ops, string_bytes, strings_of, string_sizes, routines_from, image_end, image_names, string_part, code_part, readable_bytes, all_strings, image_routines, bytes_behind, story_of}
+use Rattle.z_asm.specs.Conditions.{counts_of_image, AreCodes, ArePrintable, IsImage}
 use Rattle.z_asm.specs.inside.Filled.{AreWords, AreFilled, IsWritable, AreWritable}
 use Rattle.z_asm.specs.Plan.{IsPlan}
 use Rattle.z_asm.proofs.Layouts.{end_most, padded_long, HaveSizes, laid_long, packed_below, table_below}
@@ -88,16 +88,16 @@ strings_sized (s ∷ strings) = (λ at. refl, strings_sized strings)
 
 -- ---- the first instructions
 
-call_table : IsOfTable rows_of call_first
-unfolding counted count_of
+call_table : IsOfTable player_rows call_first
+unfolding count_in_row operand_count
 call_table = record {
   row = record { instr = instrs.One one.Call1n; fewest = 1; most = 1; store = false; branch = false; text = false };
   is = record { known = refl; form = (omega arith, refl, refl, refl, (λ (e : 143 ≡ 190). (omega arith))); count = refl; first = omega arith; second = refl; third = refl; fourth = refl; store = tt; branch = tt };
   text = refl;
 }
 
-quit_table : IsOfTable rows_of then_quit
-unfolding counted count_of
+quit_table : IsOfTable player_rows then_quit
+unfolding count_in_row operand_count
 quit_table = record {
   row = record { instr = instrs.Zero none.Quit; fewest = 0; most = 0; store = false; branch = false; text = false };
   is = record { known = refl; form = (omega arith, refl, refl, refl, (λ (e : 186 ≡ 190). (omega arith))); count = refl; first = refl; second = refl; third = refl; fourth = refl; store = tt; branch = tt };
@@ -115,30 +115,30 @@ first_filled names counts at words some = filled_all names words counts at first
 
 -- ---- the plan
 
-pub image_words : (image : Image) → front_of image ≤ 65536 → end_of image ≤ 524280 → AreWords (names_of image)
+pub image_words : (image : Image) → front_of image ≤ 65536 → image_end image ≤ 524280 → AreWords (image_names image)
 image_words image readable near = record {
   routine = λ k. packed_below (routines_from image) (map code_size image.routines) k near;
-  table = λ k. table_below 670 (base_of image) image.tables k (omega arith) (omega arith);
+  table = λ k. table_below 670 (image_base image) image.tables k (omega arith) (omega arith);
   text = λ k. packed_below (front_of image) (string_sizes image) k (let e = end_most (routines_from image) (map code_size image.routines) in omega arith);
 }
 
-pub plan_words : (image : Image) (p : Plan) → IsPlan image p → AreWords (names_in p.addresses)
-plan_words image p is = subst (λ (a : Addresses). AreWords (names_in a)) (sym is.addresses_are) (image_words image is.readable is.near)
+pub plan_words : (image : Image) (p : Plan) → IsPlan image p → AreWords (names_at p.addresses)
+plan_words image p is = subst (λ (a : Addresses). AreWords (names_at a)) (sym is.addresses_are) (image_words image is.readable is.near)
 
 -- ---- the whole
 
 pub readable_is : (image : Image) (p : Plan) (a b c d new : List ℕ) → IsPlan image p → a ≡ replicate 670 0 → b ≡ a ++ table_bytes true image.tables → c ≡ b ++ table_bytes false image.tables → d ≡ c ++ dictionary →
-    new ≡ d ++ ops_bytes (names_in p.addresses) (spot_of []) (length d) first_ops → new ≡ replicate 64 0 ++ readable_bytes image
-readable_is image p a b c d new is ea eb ec ed en = en ∙ ap (λ (n : Names). d ++ ops_bytes n (spot_of []) (length d) first_ops) (ap names_in is.addresses_are)
-    ∙ ap (λ (k : ℕ). d ++ ops_bytes (names_of image) (spot_of []) k first_ops) long ∙ ap (λ (l : List ℕ). l ++ first) all ∙ regroup (replicate 64 0) (replicate 606 0) (table_bytes true image.tables) (table_bytes false image.tables) dictionary first
+    new ≡ d ++ ops_bytes (names_at p.addresses) (spot_of []) (length d) first_ops → new ≡ replicate 64 0 ++ readable_bytes image
+readable_is image p a b c d new is ea eb ec ed en = en ∙ ap (λ (n : Names). d ++ ops_bytes n (spot_of []) (length d) first_ops) (ap names_at is.addresses_are)
+    ∙ ap (λ (k : ℕ). d ++ ops_bytes (image_names image) (spot_of []) k first_ops) long ∙ ap (λ (l : List ℕ). l ++ first) all ∙ regroup (replicate 64 0) (replicate 606 0) (table_bytes true image.tables) (table_bytes false image.tables) dictionary first
   where
     first : List ℕ
-    first = ops_bytes (names_of image) (spot_of []) (first_of image) first_ops
+    first = ops_bytes (image_names image) (spot_of []) (code_start image) first_ops
 
     all : d ≡ (((replicate 64 0 ++ replicate 606 0) ++ table_bytes true image.tables) ++ table_bytes false image.tables) ++ dictionary
     all = ed ∙ ap (λ (l : List ℕ). l ++ dictionary) (ec ∙ ap (λ (l : List ℕ). l ++ table_bytes false image.tables) (eb ∙ ap (λ (l : List ℕ). l ++ table_bytes true image.tables) ea))
 
-    long : length d ≡ first_of image
+    long : length d ≡ code_start image
     long =
         let x : length a ≡ 670 = ap length ea in
         let y = ap length eb ∙ length-append a (table_bytes true image.tables) in
@@ -151,7 +151,7 @@ readable_is image p a b c d new is ea eb ec ed en = en ∙ ap (λ (n : Names). d
 
 pub front_long : (image : Image) → length (replicate 64 0 ++ readable_bytes image) ≡ front_of image
 front_long image =
-    let first = ops_bytes (names_of image) (spot_of []) (first_of image) first_ops in
+    let first = ops_bytes (image_names image) (spot_of []) (code_start image) first_ops in
     let t = table_bytes true image.tables in
     let u = table_bytes false image.tables in
     omega (arith, length-append {A = ℕ} (replicate 64 0) (readable_bytes image), length-append {A = ℕ} (replicate 606 0) (t ++ (u ++ (dictionary ++ first))), length-append t (u ++ (dictionary ++ first)), length-append u (dictionary ++ first))
@@ -162,45 +162,45 @@ strings_long image out new e n =
     let b = laid_long (length out) (map string_part (strings_of image)) (string_sizes image) (strings_sized (strings_of image)) in
     ap length n ∙ length-append out (laid (length out) (map string_part (strings_of image)) (string_sizes image)) ∙ b ∙ ap (λ (k : ℕ). end_from k (string_sizes image)) a
 
-pub routines_long : (image : Image) (names : Names) (out new : List ℕ) → length out ≡ routines_from image → AreWritable names image.routines → new ≡ out ++ laid (length out) (map (code_part names) image.routines) (map code_size image.routines) → length new ≡ end_of image
+pub routines_long : (image : Image) (names : Names) (out new : List ℕ) → length out ≡ routines_from image → AreWritable names image.routines → new ≡ out ++ laid (length out) (map (code_part names) image.routines) (map code_size image.routines) → length new ≡ image_end image
 routines_long image names out new e w n =
     let b = laid_long (length out) (map (code_part names) image.routines) (map code_size image.routines) (codes_sized names image.routines w) in
     ap length n ∙ length-append out (laid (length out) (map (code_part names) image.routines) (map code_size image.routines)) ∙ b ∙ ap (λ (k : ℕ). end_from k (map code_size image.routines)) e
 
 pub whole_is : (image : Image) (p : Plan) (a b c new : List ℕ) → IsImage image → IsPlan image p → a ≡ replicate 64 0 ++ readable_bytes image → b ≡ a ++ laid (length a) (map string_part (strings_of image)) (string_sizes image) →
-    c ≡ b ++ laid (length b) (map (code_part (names_in p.addresses)) image.routines) (map code_size image.routines) → new ≡ c ++ replicate (aligned (length c) - length c) 0 → new ≡ replicate 64 0 ++ bytes_behind image
+    c ≡ b ++ laid (length b) (map (code_part (names_at p.addresses)) image.routines) (map code_size image.routines) → new ≡ c ++ replicate (aligned (length c) - length c) 0 → new ≡ replicate 64 0 ++ bytes_behind image
 whole_is image p a b c new is plan ea eb ec en =
-    en ∙ ap (λ (k : ℕ). c ++ replicate (aligned k - k) 0) long ∙ ap (λ (l : List ℕ). l ++ pad) all ∙ regroup (replicate 64 0) (readable_bytes image) (all_strings image) (all_routines image) pad
+    en ∙ ap (λ (k : ℕ). c ++ replicate (aligned k - k) 0) long ∙ ap (λ (l : List ℕ). l ++ pad) all ∙ regroup (replicate 64 0) (readable_bytes image) (all_strings image) (image_routines image) pad
   where
     pad : List ℕ
-    pad = replicate (aligned (end_of image) - end_of image) 0
+    pad = replicate (aligned (image_end image) - image_end image) 0
 
-    words : AreWords (names_in p.addresses)
+    words : AreWords (names_at p.addresses)
     words = plan_words image p plan
 
     there : length b ≡ routines_from image
     there = strings_long image a b ea eb
 
-    long : length c ≡ end_of image
-    long = routines_long image (names_in p.addresses) b c there (codes_writable (names_in p.addresses) (counts_of image) image.routines words is.routines) ec
+    long : length c ≡ image_end image
+    long = routines_long image (names_at p.addresses) b c there (codes_writable (names_at p.addresses) (counts_of_image image) image.routines words is.routines) ec
 
-    all : c ≡ ((replicate 64 0 ++ readable_bytes image) ++ all_strings image) ++ all_routines image
-    all = ec ∙ ap (λ (n : Names). b ++ laid (length b) (map (code_part n) image.routines) (map code_size image.routines)) (ap names_in plan.addresses_are)
-        ∙ ap (λ (k : ℕ). b ++ laid k (map (code_part (names_of image)) image.routines) (map code_size image.routines)) there
-        ∙ ap (λ (l : List ℕ). l ++ all_routines image) (eb ∙ ap (λ (k : ℕ). a ++ laid k (map string_part (strings_of image)) (string_sizes image)) (ap length ea ∙ front_long image) ∙ ap (λ (l : List ℕ). l ++ all_strings image) ea)
+    all : c ≡ ((replicate 64 0 ++ readable_bytes image) ++ all_strings image) ++ image_routines image
+    all = ec ∙ ap (λ (n : Names). b ++ laid (length b) (map (code_part n) image.routines) (map code_size image.routines)) (ap names_at plan.addresses_are)
+        ∙ ap (λ (k : ℕ). b ++ laid k (map (code_part (image_names image)) image.routines) (map code_size image.routines)) there
+        ∙ ap (λ (l : List ℕ). l ++ image_routines image) (eb ∙ ap (λ (k : ℕ). a ++ laid k (map string_part (strings_of image)) (string_sizes image)) (ap length ea ∙ front_long image) ∙ ap (λ (l : List ℕ). l ++ all_strings image) ea)
 
     regroup : (z y t u v : List ℕ) → (((z ++ y) ++ t) ++ u) ++ v ≡ z ++ (y ++ (t ++ (u ++ v)))
     regroup z y t u v = simp append_assoc
 
 -- all bytes, with those of the header
-pub whole_long : (image : Image) (p : Plan) → IsImage image → IsPlan image p → length (replicate 64 0 ++ bytes_behind image) ≡ aligned (end_of image)
+pub whole_long : (image : Image) (p : Plan) → IsImage image → IsPlan image p → length (replicate 64 0 ++ bytes_behind image) ≡ aligned (image_end image)
 whole_long image p is plan =
     let words = plan_words image p plan in
     let a = replicate 64 0 ++ readable_bytes image in
     let b = a ++ laid (length a) (map string_part (strings_of image)) (string_sizes image) in
-    let c = b ++ laid (length b) (map (code_part (names_in p.addresses)) image.routines) (map code_size image.routines) in
+    let c = b ++ laid (length b) (map (code_part (names_at p.addresses)) image.routines) (map code_size image.routines) in
     let whole = whole_is image p a b c (c ++ replicate (aligned (length c) - length c) 0) is plan refl refl refl refl in
-    let long : length c ≡ end_of image = routines_long image (names_in p.addresses) b c (strings_long image a b refl refl) (codes_writable (names_in p.addresses) (counts_of image) image.routines words is.routines) refl in
+    let long : length c ≡ image_end image = routines_long image (names_at p.addresses) b c (strings_long image a b refl refl) (codes_writable (names_at p.addresses) (counts_of_image image) image.routines words is.routines) refl in
     ap length (sym whole) ∙ padded_long c ∙ ap aligned long
 
 drop_front : (xs : List ℕ) → drop 64 (replicate 64 0 ++ xs) ≡ xs
@@ -212,5 +212,5 @@ unfolding story_of
 story_is image p bytes story is plan e n =
     n ∙ ap (λ (l : List ℕ). header_bytes (p.dictionary + 4) p.dictionary p.base (length l) (sum (drop 64 l) % 65536) ++ drop 64 l) e
     ∙ ap (λ (k : ℕ). header_bytes (p.dictionary + 4) p.dictionary p.base k (sum (bytes_behind image) % 65536) ++ bytes_behind image) (whole_long image p is plan)
-    ∙ ap (λ (k : ℕ). header_bytes (k + 4) k p.base (aligned (end_of image)) (sum (bytes_behind image) % 65536) ++ bytes_behind image) plan.dictionary_is
-    ∙ ap (λ (k : ℕ). header_bytes (first_of image) (dictionary_of image) k (aligned (end_of image)) (sum (bytes_behind image) % 65536) ++ bytes_behind image) plan.base_is
+    ∙ ap (λ (k : ℕ). header_bytes (k + 4) k p.base (aligned (image_end image)) (sum (bytes_behind image) % 65536) ++ bytes_behind image) plan.dictionary_is
+    ∙ ap (λ (k : ℕ). header_bytes (code_start image) (dictionary_of image) k (aligned (image_end image)) (sum (bytes_behind image) % 65536) ++ bytes_behind image) plan.base_is

@@ -4,14 +4,14 @@ use Rattle.std.specs.Prelude.{◌==◌}
 use Rattle.std.proofs.lemmas.Bool.{eqb-false, eq-eqb, ne_eqb}
 use Rattle.z_model.specs.declared.op.Op.{Op}
 use Rattle.z_model.specs.Decode.{text_at}
-use Rattle.z_model.specs.Spelling.{spelling, Stands, FitsText}
+use Rattle.z_model.specs.Spelling.{spelling, BytesAt, FitsText}
 use Rattle.z_model.proofs.Again.{front_stands, rest_stands}
 use Rattle.z_code.specs.declared.target.LOp.{LOp}
 use Rattle.z_code.specs.declared.target.LOp.TheVariants as lops
 use Rattle.z_code.specs.declared.target.Target.{Target}
 use Rattle.z_code.specs.declared.target.Target.TheVariants as targets
 use Rattle.z_model.specs.declared.op.Branch.{Branch}
-use Rattle.z_code.specs.Targets.{Names, ops_size, label_from, ops_bytes, nth, filled, IsNear, NearTarget, NearLabel, Fits, Placed}
+use Rattle.z_code.specs.Targets.{Names, ops_size, label_from, ops_bytes, nth, filled, IsNear, NearTarget, NearLabel, OpAt, OpsAt}
 use Rattle.z_code.specs.Open.{Counts, HasLabel, OpenIf, OpenBranch, IsOpen, AreOpen}
 use Rattle.z_asm.specs.inside.Filled.{AreWords, FillsIn, AreFilled}
 use Rattle.z_asm.proofs.Filled.{still_op, still_long, branch_long, target_long}
@@ -140,7 +140,7 @@ module _ (names : Names) (words : AreWords names) (counts : Counts) (start : ℕ
 
 -- ---- instructions whose bytes stand in a story
 
-fits_by : (story : List ℕ) (names : Names) (labels : ℕ → ℕ) (pc : ℕ) (op : Op) (ts : List (Option Target)) (branch : Option ℕ) → FillsIn names labels pc op ts branch → Stands story pc (spelling (filled names labels (pc + length (spelling op)) op ts branch)) → Fits story names labels pc op ts branch
+fits_by : (story : List ℕ) (names : Names) (labels : ℕ → ℕ) (pc : ℕ) (op : Op) (ts : List (Option Target)) (branch : Option ℕ) → FillsIn names labels pc op ts branch → BytesAt story pc (spelling (filled names labels (pc + length (spelling op)) op ts branch)) → OpAt story names labels pc op ts branch
 fits_by story names labels pc op ts branch f stands =
     let end = pc + length (spelling op) in
     record {
@@ -154,14 +154,14 @@ fits_by story names labels pc op ts branch f stands =
       label = f.near;
     }
 
-pub placed_by : (story : List ℕ) (names : Names) (labels : ℕ → ℕ) (pc : ℕ) (ops : List LOp) → AreFilled names labels pc ops → Stands story pc (ops_bytes names labels pc ops) → Placed story names labels pc ops
+pub placed_by : (story : List ℕ) (names : Names) (labels : ℕ → ℕ) (pc : ℕ) (ops : List LOp) → AreFilled names labels pc ops → BytesAt story pc (ops_bytes names labels pc ops) → OpsAt story names labels pc ops
 placed_by story names labels pc [] f stands = tt
 placed_by story names labels pc (lops.Label l ∷ ops) f stands = (f.0, placed_by story names labels pc ops f.1 stands)
 placed_by story names labels pc (lops.Do op ts branch ∷ ops) f stands =
     let end = pc + length (spelling op) in
     let bytes = spelling (filled names labels end op ts branch) in
     let rest = rest_stands story pc bytes (ops_bytes names labels end ops) stands in
-    let rest2 = subst (λ (n : ℕ). Stands story (pc + n) (ops_bytes names labels end ops)) f.0.long rest in
+    let rest2 = subst (λ (n : ℕ). BytesAt story (pc + n) (ops_bytes names labels end ops)) f.0.long rest in
     (fits_by story names labels pc op ts branch f.0 (front_stands story pc bytes (ops_bytes names labels end ops) stands), placed_by story names labels end ops f.1 rest2)
 
 pub filled_long : (names : Names) (labels : ℕ → ℕ) (at : ℕ) (ops : List LOp) → AreFilled names labels at ops → length (ops_bytes names labels at ops) ≡ ops_size ops

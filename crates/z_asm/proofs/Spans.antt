@@ -4,7 +4,7 @@ use Rattle.std.specs.Prelude.{slice_get, slice_index}
 use Rattle.std.proofs.lemmas.Option.{same_Some}
 use Rattle.z_asm.specs.declared.image.Code.{Code}
 use Rattle.z_asm.specs.declared.image.Image.{Image}
-use Rattle.z_asm.specs.Layout.{aligned, code_size, places_from, spans_from, end_from, packed}
+use Rattle.z_asm.specs.Layout.{aligned, code_size, stand_from, spans_from, end_from, packed_address}
 use Rattle.z_asm.specs.Story.{routines_from}
 use Rattle.z_asm.specs.Assembled.{ArePlaces}
 use Rattle.z_asm.proofs.Layouts.{aligned_is, near}
@@ -14,7 +14,7 @@ spans_many at [] = refl
 spans_many at (c ∷ codes) = ap (λ (n : ℕ). suc n) (spans_many (aligned at + code_size c) codes)
 
 span_is : (at : ℕ) (codes : List Code) (k : ℕ) (code : Code) → slice_get codes k ≡ Some code →
-    let start = 8 * slice_index (map packed (places_from at (map code_size codes))) k in
+    let start = 8 * slice_index (map packed_address (stand_from at (map code_size codes))) k in
     slice_get (spans_from at (map code_size codes)) k ≡ Some (start, start + code_size code)
 span_is at [] k code e = absurd (cc)
 span_is at (c ∷ codes) zero code e =

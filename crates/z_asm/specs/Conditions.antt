@@ -6,8 +6,8 @@ use Rattle.z_asm.specs.declared.image.Code.{Code}
 use Rattle.z_asm.specs.declared.image.Image.{Image}
 use Rattle.z_asm.specs.Layout.{code_size}
 
-abbrev pub counts_of : Image → Counts
-counts_of image = record { routines = length image.routines; tables = length image.tables; texts = length image.strings }
+abbrev pub counts_of_image : Image → Counts
+counts_of_image image = record { routines = length image.routines; tables = length image.tables; texts = length image.strings }
 
 -- A routine has at most 15 locals and takes at most 8,000 bytes, and its instructions are open.
 pub record IsCode (counts : Counts) (code : Code) : Type 0 where
@@ -26,5 +26,5 @@ ArePrintable (text ∷ texts) = IsPrintable text × ArePrintable texts
 -- An image with a routine, whose routines and texts can be written.
 pub record IsImage (image : Image) : Type 0 where
   pub some : 0 < length image.routines
-  pub routines : AreCodes (counts_of image) image.routines
+  pub routines : AreCodes (counts_of_image image) image.routines
   pub texts : ArePrintable image.strings

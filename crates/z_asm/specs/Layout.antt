@@ -21,9 +21,9 @@ abbrev pub aligned : ℕ → ℕ
 aligned at = at + (8 - at % 8) % 8
 
 -- where parts of these sizes stand, from a place on
-abbrev pub places_from : ℕ → List ℕ → List ℕ
-places_from at [] = []
-places_from at (size ∷ sizes) = aligned at ∷ places_from (aligned at + size) sizes
+abbrev pub stand_from : ℕ → List ℕ → List ℕ
+stand_from at [] = []
+stand_from at (size ∷ sizes) = aligned at ∷ stand_from (aligned at + size) sizes
 
 -- where each begins and where it ends
 abbrev pub spans_from : ℕ → List ℕ → List (ℕ × ℕ)
@@ -41,8 +41,8 @@ laid at [] sizes = []
 laid at (part ∷ parts) [] = []
 laid at (part ∷ parts) (size ∷ sizes) = replicate (aligned at - at) 0 ++ (part (aligned at) ++ laid (aligned at + size) parts sizes)
 
-abbrev pub packed : ℕ → ℕ
-packed at = at / 8
+abbrev pub packed_address : ℕ → ℕ
+packed_address at = at / 8
 
 -- ---- tables
 
@@ -63,5 +63,5 @@ table_places here there (t ∷ ts) =
 -- ---- names
 
 -- what the numbers stand for, and 0 beyond the last
-abbrev pub names_in : Addresses → Names
-names_in p = record { routine = λ k. slice_index p.routines k; table = λ k. slice_index p.tables k; text = λ k. slice_index p.texts k }
+abbrev pub names_at : Addresses → Names
+names_at p = record { routine = λ k. slice_index p.routines k; table = λ k. slice_index p.tables k; text = λ k. slice_index p.texts k }

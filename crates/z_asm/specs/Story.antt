@@ -15,7 +15,7 @@ use Rattle.z_asm.specs.declared.image.Code.{Code}
 use Rattle.z_asm.specs.declared.image.Image.{Image}
 use Rattle.z_asm.specs.declared.layout.Addresses.{Addresses}
 use Rattle.z_asm.specs.Header.{header_bytes}
-use Rattle.z_asm.specs.Layout.{code_bytes, code_size, aligned, places_from, end_from, laid, packed, table_bytes, table_places, names_in}
+use Rattle.z_asm.specs.Layout.{code_bytes, code_size, aligned, stand_from, end_from, laid, packed_address, table_bytes, table_places, names_at}
 
 -- ---- the readable part
 
@@ -24,22 +24,22 @@ abbrev pub tables_from : ℕ
 tables_from = 670
 
 -- the static base, behind the writable tables
-abbrev pub base_of : Image → ℕ
-base_of image = tables_from + length (table_bytes true image.tables)
+abbrev pub image_base : Image → ℕ
+image_base image = tables_from + length (table_bytes true image.tables)
 
 -- the dictionary, behind the other tables: no separators, entries of six bytes, and none of them
 abbrev pub dictionary_of : Image → ℕ
-dictionary_of image = base_of image + length (table_bytes false image.tables)
+dictionary_of image = image_base image + length (table_bytes false image.tables)
 
 abbrev pub dictionary : List ℕ
 dictionary = 0 ∷ 6 ∷ 0 ∷ 0 ∷ []
 
 -- the first instructions, behind the dictionary, and the end of the readable part behind them
-abbrev pub first_of : Image → ℕ
-first_of image = dictionary_of image + 4
+abbrev pub code_start : Image → ℕ
+code_start image = dictionary_of image + 4
 
 abbrev pub front_of : Image → ℕ
-front_of image = first_of image + 4
+front_of image = code_start image + 4
 
 abbrev pub given : ℕ → Operand → Operands
 given count first = record { count = count; first = first; second = operands.Small 0; third = operands.Small 0; fourth = operands.Small 0 }
@@ -72,19 +72,19 @@ string_sizes image = map length (strings_of image)
 abbrev pub routines_from : Image → ℕ
 routines_from image = end_from (front_of image) (string_sizes image)
 
-abbrev pub end_of : Image → ℕ
-end_of image = end_from (routines_from image) (map code_size image.routines)
+abbrev pub image_end : Image → ℕ
+image_end image = end_from (routines_from image) (map code_size image.routines)
 
 -- where everything stands: packed addresses of routines and texts, and addresses of tables
 abbrev pub addresses_of : Image → Addresses
 addresses_of image = record {
-  routines = map packed (places_from (routines_from image) (map code_size image.routines));
-  tables = table_places tables_from (base_of image) image.tables;
-  texts = map packed (places_from (front_of image) (string_sizes image));
+  routines = map packed_address (stand_from (routines_from image) (map code_size image.routines));
+  tables = table_places tables_from (image_base image) image.tables;
+  texts = map packed_address (stand_from (front_of image) (string_sizes image));
 }
 
-abbrev pub names_of : Image → Names
-names_of image = names_in (addresses_of image)
+abbrev pub image_names : Image → Names
+image_names image = names_at (addresses_of image)
 
 abbrev pub string_part : List ℕ → ℕ → List ℕ
 string_part bytes at = bytes
@@ -98,25 +98,25 @@ code_part names code at = code_bytes names at code
 abbrev pub readable_bytes : Image → List ℕ
 readable_bytes image =
     replicate 606 0 ++ (table_bytes true image.tables ++ (table_bytes false image.tables
-    ++ (dictionary ++ ops_bytes (names_of image) (label_from (first_of image) first_ops) (first_of image) first_ops)))
+    ++ (dictionary ++ ops_bytes (image_names image) (label_from (code_start image) first_ops) (code_start image) first_ops)))
 
 abbrev pub all_strings : Image → List ℕ
 all_strings image = laid (front_of image) (map string_part (strings_of image)) (string_sizes image)
 
-abbrev pub all_routines : Image → List ℕ
-all_routines image = laid (routines_from image) (map (code_part (names_of image)) image.routines) (map code_size image.routines)
+abbrev pub image_routines : Image → List ℕ
+image_routines image = laid (routines_from image) (map (code_part (image_names image)) image.routines) (map code_size image.routines)
 
 -- all bytes behind the header, filled up to a multiple of 8
 abbrev pub bytes_behind : Image → List ℕ
-bytes_behind image = readable_bytes image ++ (all_strings image ++ (all_routines image ++ replicate (aligned (end_of image) - end_of image) 0))
+bytes_behind image = readable_bytes image ++ (all_strings image ++ (image_routines image ++ replicate (aligned (image_end image) - image_end image) 0))
 
 -- the header, which is made last
 abbrev pub header_of : Image → List ℕ
-header_of image = header_bytes (first_of image) (dictionary_of image) (base_of image) (aligned (end_of image)) (sum (bytes_behind image) % 65536)
+header_of image = header_bytes (code_start image) (dictionary_of image) (image_base image) (aligned (image_end image)) (sum (bytes_behind image) % 65536)
 
 unfoldable pub story_of : Image → List ℕ
 story_of image = header_of image ++ bytes_behind image
 
 -- The image doesn't fit: its end is too far, or that of its readable part.
 abbrev pub IsTooLarge : Image → Type 0
-IsTooLarge image = (524280 < end_of image) ⊎ (65536 < front_of image)
+IsTooLarge image = (524280 < image_end image) ⊎ (65536 < front_of image)

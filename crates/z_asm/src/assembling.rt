@@ -1,7 +1,7 @@
 // A story, put together.
 ghost use Rattle.std.specs.Prelude.{◌≡◌, ◌+◌, ◌-◌, ◌<◌, ◌≤◌, ◌^◌, ◌++◌, map, drop, length, replicate, sum, ◌%◌, IfOk, OnOk, IsErrOf};
 ghost use Rattle.z_asm.specs.Header.{header_bytes};
-ghost use Rattle.z_asm.specs.Layout.{code_size, aligned, spans_from, end_from, laid, table_bytes, names_in};
+ghost use Rattle.z_asm.specs.Layout.{code_size, aligned, spans_from, end_from, laid, table_bytes, names_at};
 ghost use Rattle.z_asm.specs.Conditions.{ArePrintable, IsImage};
 ghost use Rattle.z_asm.specs.inside.Filled.{AreWritable};
 ghost use Rattle.z_asm.specs.Plan.{IsPlan};
@@ -68,9 +68,9 @@ fn put_codes(
     codes: &[Code],
 ) -> Result<(), AllocError>
     requires within { end_from (length out.old.items) (map code_size codes.now) < 2 ^ 31 }
-    requires writable { AreWritable (names_in names.now) codes.now }
+    requires writable { AreWritable (names_at names.now) codes.now }
     ensures { OnOk result
-        (out.new.items ≡ out.old.items ++ laid (length out.old.items) (map (code_part (names_in names.now)) codes.now) (map code_size codes.now)) }
+        (out.new.items ≡ out.old.items ++ laid (length out.old.items) (map (code_part (names_at names.now)) codes.now) (map code_size codes.now)) }
 {
     for code in codes {
         pad(out)?;

@@ -1,8 +1,8 @@
 // Instructions, written with their names filled in.
 ghost use Rattle.std.specs.Prelude.{◌≡◌, ◌+◌, ◌<◌, ◌≤◌, ◌^◌, ◌++◌, ℕ, length, slice_index, OnOk};
-ghost use Rattle.z_model.specs.Numbers.{word_from};
-ghost use Rattle.z_code.specs.Targets.{ops_size, spot_of, ops_bytes, offset_to, address, fill, fill_branch, filled, IsNear, NearLabel};
-ghost use Rattle.z_asm.specs.Layout.{names_in, code_bytes};
+ghost use Rattle.z_model.specs.Numbers.{wrapped_word};
+ghost use Rattle.z_code.specs.Targets.{ops_size, spot_of, ops_bytes, offset_to, target_address, fill, fill_branch, filled, IsNear, NearLabel};
+ghost use Rattle.z_asm.specs.Layout.{names_at, code_bytes};
 ghost use Rattle.z_asm.specs.inside.Filled.{FillsIn, AreFilled, IsWritable};
 
 use crate::image::Code;
@@ -14,7 +14,7 @@ use z_code::{Branch, LOp, Op, Operand, Operands, Spot, Target, encode_op};
 // The offset by which an instruction that ends there leads to a place, as a word.
 fn offset_word(end: usize, to: u32) -> u16
     requires { end < 2 ^ 32 }
-    ensures { result ≡ word_from (offset_to end to) }
+    ensures { result ≡ wrapped_word (offset_to end to) }
 {
     let to = to as usize + 2;
     if end <= to {
@@ -45,7 +45,7 @@ fn at_number(places: &[u16], number: u16) -> u16
 
 fn address(names: &Addresses, spots: &[Spot], end: usize, target: Target) -> u16
     requires { end < 2 ^ 32 }
-    ensures { result ≡ address (names_in names.now) (spot_of spots.now) end target }
+    ensures { result ≡ target_address (names_at names.now) (spot_of spots.now) end target }
 {
     match target {
         Target::Label(label) => offset_word(end, place_of(spots, label)),
@@ -63,7 +63,7 @@ fn fill(
     operand: Operand,
 ) -> Operand
     requires { end < 2 ^ 32 }
-    ensures { result ≡ fill (names_in names.now) (spot_of spots.now) end target operand }
+    ensures { result ≡ fill (names_at names.now) (spot_of spots.now) end target operand }
 {
     match target {
         None => operand,
@@ -101,7 +101,7 @@ fn filled(
 ) -> Op
     requires within { end < 2 ^ 32 }
     requires near { NearLabel (spot_of spots.now) end label }
-    ensures { result ≡ filled (names_in names.now) (spot_of spots.now) end op.now targets.now label }
+    ensures { result ≡ filled (names_at names.now) (spot_of spots.now) end op.now targets.now label }
 {
     let operands = op.operands;
     let first = fill(names, spots, end, targets[0], operands.first);
@@ -132,8 +132,8 @@ pub(crate) fn put_ops(
     ops: &[LOp],
 ) -> Result<(), AllocError>
     requires within { length out.old.items + ops_size ops.now < 2 ^ 32 }
-    requires filled { AreFilled (names_in names.now) (spot_of spots.now) (length out.old.items) ops.now }
-    ensures { OnOk result (out.new.items ≡ out.old.items ++ ops_bytes (names_in names.now) (spot_of spots.now) (length out.old.items) ops.now) }
+    requires filled { AreFilled (names_at names.now) (spot_of spots.now) (length out.old.items) ops.now }
+    ensures { OnOk result (out.new.items ≡ out.old.items ++ ops_bytes (names_at names.now) (spot_of spots.now) (length out.old.items) ops.now) }
 {
     for op in ops {
         if let LOp::Do(op, targets, label) = op {
@@ -153,8 +153,8 @@ pub(crate) fn put_code(
     code: &Code,
 ) -> Result<(), AllocError>
     requires within { length out.old.items < 2 ^ 31 }
-    requires writable { IsWritable (names_in names.now) code.now }
-    ensures { OnOk result (out.new.items ≡ out.old.items ++ code_bytes (names_in names.now) (length out.old.items) code.now) }
+    requires writable { IsWritable (names_at names.now) code.now }
+    ensures { OnOk result (out.new.items ≡ out.old.items ++ code_bytes (names_at names.now) (length out.old.items) code.now) }
 {
     out.push(code.locals)?;
     let spots = spots(alloc, code.ops.as_slice(), out.len())?;

@@ -1,6 +1,6 @@
 // The header of a story.
 ghost use Rattle.std.specs.Prelude.{◌≡◌, ◌+◌, ◌<◌, ◌≤◌, ◌%◌, ◌++◌, length, take, drop, sum};
-ghost use Rattle.z_asm.specs.Header.{word_bytes, header_bytes};
+ghost use Rattle.z_asm.specs.Header.{two_bytes, header_bytes};
 
 use crate::layout::Plan;
 use byteorder::{BigEndian, ByteOrder};
@@ -18,7 +18,7 @@ pub(crate) fn checksum(bytes: &[u8]) -> u16
 
 fn put_word(bytes: &mut [u8], at: usize, word: u16)
     requires { at + 2 ≤ length bytes.old }
-    ensures { bytes.new ≡ take at bytes.old ++ (word_bytes word ++ drop 2 (drop at bytes.old)) }
+    ensures { bytes.new ≡ take at bytes.old ++ (two_bytes word ++ drop 2 (drop at bytes.old)) }
 {
     BigEndian::write_u16(&mut bytes[at..], word);
 }

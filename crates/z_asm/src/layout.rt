@@ -1,10 +1,10 @@
 // Where everything stands in a story.
 ghost use Rattle.std.specs.Prelude.{◌≡◌, ◌+◌, ◌<◌, ◌≤◌, ◌^◌, ◌++◌, ◌∷◌, [], map, length, true, false, IfOk, OnOk, IsErrOf, MatchOption, Some, None, Ok, Err};
 ghost use Rattle.z_asm.specs.declared.layout.AsmFault.TheVariants.{OutOfMemory};
-ghost use Rattle.z_asm.specs.Layout.{code_size, aligned, places_from, end_from, packed, table_bytes, table_places};
+ghost use Rattle.z_asm.specs.Layout.{code_size, aligned, stand_from, end_from, packed_address, table_bytes, table_places};
 ghost use Rattle.z_asm.specs.Conditions.{AreCodes, IsImage};
 ghost use Rattle.z_asm.specs.Plan.{ArePlaced, IsPlan};
-ghost use Rattle.z_asm.specs.Story.{base_of, dictionary_of, first_of, front_of, routines_from, end_of, string_sizes, strings_of, IsTooLarge};
+ghost use Rattle.z_asm.specs.Story.{image_base, dictionary_of, code_start, front_of, routines_from, image_end, string_sizes, strings_of, IsTooLarge};
 
 use crate::image::{Code, Image, Table};
 use crate::sizes::size_of_code;
@@ -111,7 +111,7 @@ fn place_tables(
 // The packed address of a part of so many bytes behind a place, and its end, if it isn't too far.
 fn place_part(at: usize, size: usize) -> Option<(u16, usize)>
     requires { at ≤ 524280 }
-    ensures { MatchOption result (524280 < aligned at + size) (λ p. (p.0 ≡ packed (aligned at)) × (p.1 ≡ aligned at + size) × (p.1 ≤ 524280)) }
+    ensures { MatchOption result (524280 < aligned at + size) (λ p. (p.0 ≡ packed_address (aligned at)) × (p.1 ≡ aligned at + size) × (p.1 ≤ 524280)) }
 {
     let start = aligned(at);
     if size > END_MOST - start {

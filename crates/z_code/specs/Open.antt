@@ -4,7 +4,7 @@ use Rattle.z_model.specs.declared.op.Operand.{Operand}
 use Rattle.z_model.specs.declared.op.Operand.TheVariants as operands
 use Rattle.z_model.specs.declared.op.Branch.{Branch}
 use Rattle.z_model.specs.declared.op.Op.{Op}
-use Rattle.z_model.specs.Table.{rows_of}
+use Rattle.z_model.specs.Table.{player_rows}
 use Rattle.z_model.specs.Spelling.{IsOfTable}
 use Rattle.z_code.specs.declared.target.LOp.{LOp}
 use Rattle.z_code.specs.declared.target.LOp.TheVariants as lops
@@ -44,7 +44,7 @@ OpenBranch all (Some l) (Some b) = (b.short ≡ false) × HasLabel l all
 
 -- An op of the table without literal text, whose operands with targets and whose branch are open.
 pub record IsOpen (counts : Counts) (all : List LOp) (op : Op) (ts : List (Option Target)) (branch : Option ℕ) : Type 0 where
-  pub table : IsOfTable rows_of op
+  pub table : IsOfTable player_rows op
   pub text : op.text ≡ 0
   pub first : OpenIf counts all (nth ts 0) op.operands.first
   pub second : OpenIf counts all (nth ts 1) op.operands.second

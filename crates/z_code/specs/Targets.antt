@@ -5,8 +5,8 @@ use Rattle.z_model.specs.declared.op.Operand.{Operand}
 use Rattle.z_model.specs.declared.op.Operand.TheVariants as operands
 use Rattle.z_model.specs.declared.op.Branch.{Branch}
 use Rattle.z_model.specs.declared.op.Op.{Op}
-use Rattle.z_model.specs.Table.{rows_of}
-use Rattle.z_model.specs.Numbers.{word_from}
+use Rattle.z_model.specs.Table.{player_rows}
+use Rattle.z_model.specs.Numbers.{wrapped_word}
 use Rattle.z_model.specs.Spelling.{spelling, IsInstruction}
 use Rattle.z_code.specs.declared.target.LOp.{LOp}
 use Rattle.z_code.specs.declared.target.LOp.TheVariants as lops
@@ -53,15 +53,15 @@ abbrev pub offset_to : ℕ → ℕ → ℤ
 offset_to end to = pos to +ℤ pos 2 -ℤ pos end
 
 -- what a target stands for, in an instruction that ends there
-abbrev pub address : Names → (ℕ → ℕ) → ℕ → Target → ℕ
-address names labels end (targets.Label l) = word_from (offset_to end (labels l))
-address names labels end (targets.Routine r) = names.routine r
-address names labels end (targets.Table t) = names.table t
-address names labels end (targets.Text t) = names.text t
+abbrev pub target_address : Names → (ℕ → ℕ) → ℕ → Target → ℕ
+target_address names labels end (targets.Label l) = wrapped_word (offset_to end (labels l))
+target_address names labels end (targets.Routine r) = names.routine r
+target_address names labels end (targets.Table t) = names.table t
+target_address names labels end (targets.Text t) = names.text t
 
 abbrev pub fill : Names → (ℕ → ℕ) → ℕ → Option Target → Operand → Operand
 fill names labels end None x = x
-fill names labels end (Some t) x = operands.Large (address names labels end t)
+fill names labels end (Some t) x = operands.Large (target_address names labels end t)
 
 abbrev pub nth : List (Option Target) → ℕ → Option Target
 nth ts i = slice_index_or ts i None
@@ -107,17 +107,17 @@ NearLabel labels end None = Unit {0}
 NearLabel labels end (Some l) = IsNear end (labels l)
 
 -- One instruction stands at a place, with its names filled in.
-pub record Fits (bytes : List ℕ) (names : Names) (labels : ℕ → ℕ) (at : ℕ) (op : Op) (ts : List (Option Target)) (branch : Option ℕ) : Type 0 where
-  pub is : IsInstruction rows_of bytes at (filled names labels (at + length (spelling op)) op ts branch) (at + length (spelling op))
+pub record OpAt (bytes : List ℕ) (names : Names) (labels : ℕ → ℕ) (at : ℕ) (op : Op) (ts : List (Option Target)) (branch : Option ℕ) : Type 0 where
+  pub is : IsInstruction player_rows bytes at (filled names labels (at + length (spelling op)) op ts branch) (at + length (spelling op))
   pub target : NearTarget labels (at + length (spelling op)) (nth ts 0)
   pub label : NearLabel labels (at + length (spelling op)) branch
 
 -- Instructions stand at a place, one behind another, and each label stands where it is said to.
-abbrev pub Placed : List ℕ → Names → (ℕ → ℕ) → ℕ → List LOp → Type 0
-Placed bytes names labels at [] = Unit {0}
-Placed bytes names labels at (lops.Label l ∷ ops) = (labels l ≡ at) × Placed bytes names labels at ops
-Placed bytes names labels at (lops.Do op ts branch ∷ ops) =
-    Fits bytes names labels at op ts branch × Placed bytes names labels (at + length (spelling op)) ops
+abbrev pub OpsAt : List ℕ → Names → (ℕ → ℕ) → ℕ → List LOp → Type 0
+OpsAt bytes names labels at [] = Unit {0}
+OpsAt bytes names labels at (lops.Label l ∷ ops) = (labels l ≡ at) × OpsAt bytes names labels at ops
+OpsAt bytes names labels at (lops.Do op ts branch ∷ ops) =
+    OpAt bytes names labels at op ts branch × OpsAt bytes names labels (at + length (spelling op)) ops
 
 -- ---- their bytes
 

@@ -1,12 +1,12 @@
 // Instructions, read from bytes.
 ghost use Rattle.std.specs.Prelude.{◌≡◌, ◌↔◌, ◌⊎◌, ◌<◌, ◌≤◌, ◌%◌, ℕ, length, drop, Some, Ok, Err, IfSome, IfOk, IfErr};
-ghost use Rattle.z_model.specs.Table.{rows_of};
+ghost use Rattle.z_model.specs.Table.{player_rows};
 ghost use Rattle.z_code.specs.Decoded.{op_and_end};
 ghost use Rattle.z_model.specs.declared.fault.ZFault.TheVariants.{BadOpcode, OffEnd};
 ghost use Rattle.z_model.specs.declared.op.Op.{Op};
 ghost use Rattle.z_model.specs.Spelling.{IsInstruction};
 ghost use Rattle.z_model.specs.Undecoded.{PassesEnd, NoneBegins};
-ghost use Rattle.z_model.specs.Decode.{byte_at, known, counted, count_of, operand_at, store_at, branch_at, text_at, body_at, long_at, short_at, variable_at, variable_row, extended_at, op_at, type_of, long_type, long_types, one_type, types_of, short_kind, present, text_end};
+ghost use Rattle.z_model.specs.Decode.{byte_at, known, count_in_row, operand_count, operand_at, store_at, branch_at, text_at, body_at, long_at, short_at, variable_at, variable_row, extended_at, op_at, type_of, long_type, long_types, one_type, types_of, short_kind, present, text_end};
 
 use z_model::{
     Branch, Form, Found, Kind, Op, Operand, OperandType, OperandTypes, Operands, Row, ZFault,
@@ -26,7 +26,7 @@ fn read(bytes: &[u8], at: usize) -> Result<u8, ZFault>
 
 #[inline(always)]
 fn known_row(kind: Kind, number: u8) -> Result<Row, ZFault>
-    ensures { result ≡ known rows_of kind number }
+    ensures { result ≡ known player_rows kind number }
 {
     match find_row(kind, number) {
         Some(row) => Ok(row),
@@ -91,10 +91,10 @@ fn presence(kind: OperandType) -> u8
     }
 }
 
-#[tactic(auto, unfolding(z_model::specs::Decode::count_of))]
+#[tactic(auto, unfolding(z_model::specs::Decode::operand_count))]
 #[inline(always)]
 fn count_types(types: OperandTypes) -> Result<u8, ZFault>
-    ensures { result ≡ count_of types }
+    ensures { result ≡ operand_count types }
 {
     let first = presence(types.first);
     let second = presence(types.second);
@@ -112,10 +112,10 @@ fn count_types(types: OperandTypes) -> Result<u8, ZFault>
     Ok(first + second + third + fourth)
 }
 
-#[tactic(auto, unfolding(z_model::specs::Decode::counted))]
+#[tactic(auto, unfolding(z_model::specs::Decode::count_in_row))]
 #[inline(always)]
 fn count_operands(row: Row, types: OperandTypes) -> Result<u8, ZFault>
-    ensures { result ≡ counted row types }
+    ensures { result ≡ count_in_row row types }
 {
     let count = count_types(types)?;
     if count < row.fewest {
@@ -277,7 +277,7 @@ fn body(
 #[inline(always)]
 fn decode_long(bytes: &[u8], at: usize, first: u8) -> Result<Found, ZFault>
     requires { at < length bytes.now }
-    ensures long { result ≡ long_at rows_of bytes.now at first }
+    ensures long { result ≡ long_at player_rows bytes.now at first }
     ensures within { IfOk result (λ found. found.end ≤ length bytes.now) }
 {
     let number = first % 32;
@@ -312,7 +312,7 @@ fn one_type(kind: OperandType) -> OperandTypes
 #[inline(always)]
 fn decode_short(bytes: &[u8], at: usize, first: u8) -> Result<Found, ZFault>
     requires { at < length bytes.now }
-    ensures short { result ≡ short_at rows_of bytes.now at first }
+    ensures short { result ≡ short_at player_rows bytes.now at first }
     ensures within { IfOk result (λ found. found.end ≤ length bytes.now) }
 {
     let number = first % 16;
@@ -323,7 +323,7 @@ fn decode_short(bytes: &[u8], at: usize, first: u8) -> Result<Found, ZFault>
 
 #[inline(always)]
 fn row_of_variable(number: u8) -> Result<Row, ZFault>
-    ensures { result ≡ variable_row rows_of number }
+    ensures { result ≡ variable_row player_rows number }
 {
     if number < 32 {
         known_row(Kind::Two, number)
@@ -337,7 +337,7 @@ fn row_of_variable(number: u8) -> Result<Row, ZFault>
 #[inline(always)]
 fn decode_variable(bytes: &[u8], at: usize, first: u8) -> Result<Found, ZFault>
     requires { at < length bytes.now }
-    ensures variable { result ≡ variable_at rows_of bytes.now at first }
+    ensures variable { result ≡ variable_at player_rows bytes.now at first }
     ensures within { IfOk result (λ found. found.end ≤ length bytes.now) }
 {
     let number = first % 64;
@@ -351,7 +351,7 @@ fn decode_variable(bytes: &[u8], at: usize, first: u8) -> Result<Found, ZFault>
 #[inline(always)]
 fn decode_extended(bytes: &[u8], at: usize) -> Result<Found, ZFault>
     requires { at < length bytes.now }
-    ensures extended { result ≡ extended_at rows_of bytes.now at }
+    ensures extended { result ≡ extended_at player_rows bytes.now at }
     ensures within { IfOk result (λ found. found.end ≤ length bytes.now) }
 {
     let number = read(bytes, at + 1)?;
@@ -364,7 +364,7 @@ fn decode_extended(bytes: &[u8], at: usize) -> Result<Found, ZFault>
 #[tactic(auto, unfolding(z_model::specs::Decode::op_at))]
 #[inline(always)]
 pub fn decode(bytes: &[u8], at: usize) -> Result<Found, ZFault>
-    ensures op { result ≡ op_at rows_of bytes.now at }
+    ensures op { result ≡ op_at player_rows bytes.now at }
     ensures within { IfOk result (λ found. found.end ≤ length bytes.now) }
 {
     let first = read(bytes, at)?;
@@ -380,7 +380,7 @@ pub fn decode(bytes: &[u8], at: usize) -> Result<Found, ZFault>
 }
 
 fn op_and_end(bytes: &[u8], at: usize) -> Result<(Op, usize), ZFault>
-    ensures op { result ≡ op_and_end (op_at rows_of bytes.now at) }
+    ensures op { result ≡ op_and_end (op_at player_rows bytes.now at) }
     ensures within { IfOk result (λ x. x.1 ≤ length bytes.now) }
 {
     let found = decode(bytes, at)?;
@@ -390,10 +390,10 @@ fn op_and_end(bytes: &[u8], at: usize) -> Result<(Op, usize), ZFault>
 /// The instruction at a place and the place behind it; `OffEnd` exactly where one passes the end of
 /// the bytes, and `BadOpcode` exactly where none begins.
 pub fn decode_op(bytes: &[u8], at: usize) -> Result<(Op, usize), ZFault>
-    ensures op { result ≡ op_and_end (op_at rows_of bytes.now at) }
-    ensures found { (op : Op) (end : ℕ) → (result ≡ Ok (op, end)) ↔ IsInstruction rows_of bytes.now at op end }
-    ensures off_end { (result ≡ Err OffEnd) ↔ PassesEnd rows_of bytes.now at }
-    ensures bad_opcode { (result ≡ Err BadOpcode) ↔ NoneBegins rows_of bytes.now at }
+    ensures op { result ≡ op_and_end (op_at player_rows bytes.now at) }
+    ensures found { (op : Op) (end : ℕ) → (result ≡ Ok (op, end)) ↔ IsInstruction player_rows bytes.now at op end }
+    ensures off_end { (result ≡ Err OffEnd) ↔ PassesEnd player_rows bytes.now at }
+    ensures bad_opcode { (result ≡ Err BadOpcode) ↔ NoneBegins player_rows bytes.now at }
     ensures faults { IfErr result (λ fault. (fault ≡ OffEnd) ⊎ (fault ≡ BadOpcode)) }
     ensures within { IfOk result (λ x. x.1 ≤ length bytes.now) }
 {

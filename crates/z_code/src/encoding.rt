@@ -1,7 +1,7 @@
 // Instructions, written as bytes.
 ghost use Rattle.std.specs.Prelude.{◌≡◌, ◌<◌, ◌+◌, ◌++◌, false, length, IfSome, OnOk, OnErr};
-ghost use Rattle.z_model.specs.Table.{rows_of};
-ghost use Rattle.z_model.specs.Spelling.{type_if, types_in, type_byte, code, long_bit, head_bytes, operand_bytes, store_bytes, all_operand_bytes, branch_bytes, offset_bytes, unsigned_14, bit, spelling, FitsForm, FitsOffset, IsOfTable};
+ghost use Rattle.z_model.specs.Table.{player_rows};
+ghost use Rattle.z_model.specs.Spelling.{type_if, types_in, type_byte, type_code, long_bit, head_bytes, operand_bytes, store_bytes, all_operand_bytes, branch_bytes, offset_bytes, unsigned_14, bit, spelling, FitsForm, FitsOffset, IsOfTable};
 ghost use Rattle.z_code.specs.inside.Appended.{HasRoom, Appended};
 
 use std::alloc::AllocError;
@@ -33,7 +33,7 @@ fn types_in(operands: &Operands) -> OperandTypes
 }
 
 fn code_of(kind: OperandType) -> u8
-    ensures value { result ≡ code kind }
+    ensures value { result ≡ type_code kind }
     ensures below { result < 4 }
 {
     match kind {
@@ -157,7 +157,7 @@ fn put_operands(out: &mut Vec<u8>, types: OperandTypes, operands: &Operands)
 
 /// Writes an op of the table at the end, but for its literal text.
 pub fn encode_op(op: &Op, out: &mut Vec<u8>) -> Result<(), AllocError>
-    requires { IsOfTable rows_of op.now }
+    requires { IsOfTable player_rows op.now }
     ensures ok { OnOk result (out.new.items ≡ out.old.items ++ spelling op.now) }
     ensures err { OnErr result (out.new.items ≡ out.old.items) }
 {

@@ -7,10 +7,10 @@ use Rattle.z_model.specs.declared.fault.ZFault.{ZFault}
 use Rattle.z_model.specs.declared.fault.ZFault.TheVariants.{BadObject, BadProperty}
 use Rattle.z_model.specs.declared.property.Property.{Property}
 use Rattle.z_model.specs.Decode.{◌>>=◌}
-use Rattle.z_model.specs.Memory.{Memory, byte_in, with_byte, word_in, with_bytes}
+use Rattle.z_model.specs.Memory.{Memory, byte_in, with_byte, memory_word, with_bytes}
 use Rattle.z_full.specs.Calls.{SameRights}
 use Rattle.z_model.specs.Objects.{sibling_at, link_to}
-use Rattle.z_model.specs.Properties.{behind, property_at, property_from}
+use Rattle.z_model.specs.Properties.{property_end, property_at, property_from}
 use Rattle.z_model.specs.Tables.{entry_in, scanned, bytes_in, cleared, copied_on}
 
 -- What is left gives what the whole does, over the same rights.
@@ -26,22 +26,22 @@ same_is n = eq-eqb n n refl
 
 -- ---- a chain of siblings
 
-pub link_failed : (mem : Memory) (objects a n place : ℕ) (fault : ZFault) → 0 < n → word_in mem place ≡ Err fault → link_to mem objects a n place ≡ Err fault
+pub link_failed : (mem : Memory) (objects a n place : ℕ) (fault : ZFault) → 0 < n → memory_word mem place ≡ Err fault → link_to mem objects a n place ≡ Err fault
 unfolding link_to
 link_failed mem objects a zero place fault some e = absurd (omega arith)
 link_failed mem objects a (suc n) place fault some e = rw e refl
 
-pub link_here : (mem : Memory) (objects a n place x : ℕ) → 0 < n → word_in mem place ≡ Ok x → x ≡ a → link_to mem objects a n place ≡ Ok (Some place)
+pub link_here : (mem : Memory) (objects a n place x : ℕ) → 0 < n → memory_word mem place ≡ Ok x → x ≡ a → link_to mem objects a n place ≡ Ok (Some place)
 unfolding link_to
 link_here mem objects a zero place x some e same = absurd (omega arith)
 link_here mem objects a (suc n) place x some e same = rw (e, same, same_is) refl
 
-pub link_ends : (mem : Memory) (objects a n place x : ℕ) → 0 < n → word_in mem place ≡ Ok x → x ≢ a → x ≡ 0 → link_to mem objects a n place ≡ Ok None
+pub link_ends : (mem : Memory) (objects a n place x : ℕ) → 0 < n → memory_word mem place ≡ Ok x → x ≢ a → x ≡ 0 → link_to mem objects a n place ≡ Ok None
 unfolding link_to
 link_ends mem objects a zero place x some e other none = absurd (omega arith)
 link_ends mem objects a (suc n) place x some e other none = rw (e, ne_eqb x a other, none) refl
 
-pub link_later : (mem : Memory) (objects a n place next x : ℕ) → 0 < n → word_in mem place ≡ Ok x → x ≢ a → x ≢ 0 → next ≡ sibling_at objects x →
+pub link_later : (mem : Memory) (objects a n place next x : ℕ) → 0 < n → memory_word mem place ≡ Ok x → x ≢ a → x ≢ 0 → next ≡ sibling_at objects x →
     link_to mem objects a n place ≡ link_to mem objects a (n - 1) next
 unfolding link_to
 link_later mem objects a zero place next x some e other more is = absurd (omega arith)
@@ -72,7 +72,7 @@ property_here mem number zero limit place p some e same = absurd (omega arith)
 property_here mem number (suc n) limit place p some e same = rw (e, same, same_is) refl
 
 pub property_later : (mem : Memory) (number n limit place next : ℕ) (p : Property) → 0 < n → property_at mem limit place ≡ Ok (Some p) → p.number ≢ number →
-    next ≡ behind p → property_from mem number n limit place ≡ property_from mem number (n - 1) p.number next
+    next ≡ property_end p → property_from mem number n limit place ≡ property_from mem number (n - 1) p.number next
 unfolding property_from
 property_later mem number zero limit place next p some e other is = absurd (omega arith)
 property_later mem number (suc n) limit place next p some e other is =

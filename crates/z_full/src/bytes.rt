@@ -1,6 +1,6 @@
 // Bytes by their addresses.
 ghost use Rattle.std.specs.Prelude.{◌≡◌};
-ghost use Rattle.z_model.specs.Memory.{Memory, byte_in, with_byte, word_in, with_word};
+ghost use Rattle.z_model.specs.Memory.{Memory, byte_in, with_byte, memory_word, with_word};
 ghost use Rattle.z_full.specs.Calls.{Sets, Becomes, SameRights};
 
 use z_model::{ZFault, bytes_of, word_of};
@@ -21,9 +21,9 @@ pub trait Bytes {
 }
 
 /// The word at an address.
-#[tactic(auto, unfolding(z_model::specs::Memory::word_in))]
+#[tactic(auto, unfolding(z_model::specs::Memory::memory_word))]
 pub fn read_word<B: Bytes>(mem: &B, at: u16) -> Result<u16, ZFault>
-    ensures { result ≡ word_in (B.memory mem.now) at }
+    ensures { result ≡ memory_word (B.memory mem.now) at }
 {
     let high = match mem.read(at) {
         Ok(high) => high,

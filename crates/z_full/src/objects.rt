@@ -1,6 +1,6 @@
 // Objects: their tree and their attributes.
 ghost use Rattle.std.specs.Prelude.{◌≡◌, ◌==◌, ◌||◌, nat_lt, Some};
-ghost use Rattle.z_model.specs.Objects.{entry_at, parent_at, sibling_at, child_at, link_in, is_in, attribute_at, attribute_bit};
+ghost use Rattle.z_model.specs.Objects.{entry_at, parent_at, sibling_at, child_at, link_in, is_inside, attribute_at, attribute_bit};
 ghost use Rattle.z_model.specs.Objects.{has_attribute, with_attribute, with_bit, link_to, passed_by, unchained, removed, inserted};
 ghost use Rattle.z_full.specs.Calls.{Sets, SameRights};
 
@@ -68,9 +68,9 @@ pub fn child<B: Bytes>(mem: &B, objects: u16, n: u16) -> Result<u16, ZFault>
 }
 
 /// Whether the parent of an object is another; `BadObject` where one of them is object 0.
-#[tactic(auto, unfolding(z_model::specs::Objects::is_in, z_model::specs::Objects::some_object))]
+#[tactic(auto, unfolding(z_model::specs::Objects::is_inside, z_model::specs::Objects::some_object))]
 pub fn is_child<B: Bytes>(mem: &B, objects: u16, a: u16, b: u16) -> Result<bool, ZFault>
-    ensures { result ≡ is_in (B.memory mem.now) objects a b }
+    ensures { result ≡ is_inside (B.memory mem.now) objects a b }
 {
     if a == 0 || b == 0 {
         return Err(ZFault::BadObject);

@@ -1,8 +1,8 @@
 // The properties of objects.
 ghost use Rattle.std.specs.Prelude.{◌≡◌};
-ghost use Rattle.z_model.specs.Properties.{behind, long_length, short_length, sized, below, property_at, property_from, first_place, name_place, property_of};
-ghost use Rattle.z_model.specs.Properties.{value_at, value_or_default, property_value, place_or_zero, property_place};
-ghost use Rattle.z_model.specs.Properties.{number_at, number_behind, next_number, with_value, with_property, length_before};
+ghost use Rattle.z_model.specs.Properties.{property_end, long_length, short_length, sized, below, property_at, property_from, first_place, name_place, property_of};
+ghost use Rattle.z_model.specs.Properties.{value_in_property, value_or_default, property_value, place_or_zero, property_place};
+ghost use Rattle.z_model.specs.Properties.{number_at, following_number, next_number, with_value, with_property, length_before};
 ghost use Rattle.z_model.specs.Objects.{entry_at};
 ghost use Rattle.z_full.specs.Calls.{Sets, SameRights};
 
@@ -13,7 +13,7 @@ use z_model::{Property, ZFault, bytes_of};
 // ---- one property
 
 fn behind(p: Property) -> u16
-    ensures { result ≡ behind p }
+    ensures { result ≡ property_end p }
 {
     p.at.wrapping_add(p.size as u16)
 }
@@ -143,7 +143,7 @@ fn property_of<B: Bytes>(
 // ---- what is asked of it
 
 fn value<B: Bytes>(mem: &B, p: Property) -> Result<u16, ZFault>
-    ensures { result ≡ value_at (B.memory mem.now) p }
+    ensures { result ≡ value_in_property (B.memory mem.now) p }
 {
     match p.size {
         1 => match mem.read(p.at) {

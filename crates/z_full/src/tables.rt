@@ -1,7 +1,7 @@
 // Tables that are searched and copied.
 ghost use Rattle.std.specs.Prelude.{◌≡◌, ◌<◌, length};
 ghost use Rattle.z_model.specs.Memory.{with_bytes};
-ghost use Rattle.z_model.specs.Tables.{entry_in, scanned, scanned_or_zero, bytes_in, cleared, copied_on, copied_whole, size_of, copied};
+ghost use Rattle.z_model.specs.Tables.{entry_in, scanned, scanned_or_zero, bytes_in, cleared, copied_on, copied_whole, table_size, table_copied};
 ghost use Rattle.z_full.specs.Calls.{Sets, SameRights};
 
 use crate::bytes::{Bytes, read_word};
@@ -136,16 +136,16 @@ fn copy_whole<B: Bytes>(mem: &mut B, a: u16, b: u16, n: u16) -> Result<(), ZFaul
 }
 
 fn size_of(n: u16) -> u16
-    ensures { result ≡ size_of n }
+    ensures { result ≡ table_size n }
 {
     if n < 32768 { n } else { 65535 - n + 1 }
 }
 
 /// The `n` bytes at `a` become those at `b`, as if through a buffer; where `n` is below 0, as many
 /// byte by byte, from the first on. With `b` of 0 the bytes at `a` become 0.
-#[tactic(auto, unfolding(z_model::specs::Tables::copied))]
+#[tactic(auto, unfolding(z_model::specs::Tables::table_copied))]
 pub fn copy<B: Bytes>(mem: &mut B, a: u16, b: u16, n: u16) -> Result<(), ZFault>
-    ensures set { Sets result (B.memory mem.new) (copied (B.memory mem.old) a b n) }
+    ensures set { Sets result (B.memory mem.new) (table_copied (B.memory mem.old) a b n) }
     ensures rights { SameRights (B.memory mem.old) (B.memory mem.new) }
 {
     if b == 0 {

@@ -6,10 +6,10 @@ use Rattle.std.proofs.lemmas.Bool.{lt-ltb, le-ltb, ne_eqb}
 use Rattle.z_model.specs.declared.fault.ZFault.{ZFault}
 use Rattle.z_model.specs.declared.story.Layout.{Layout}
 use Rattle.z_model.specs.declared.end.Args.{Args}
-use Rattle.z_model.specs.Flow.{called, entered as entered_by, local_count, locals_from, return_to, returned}
+use Rattle.z_model.specs.Flow.{called, frame_entered as entered_by, local_count, locals_from, return_to, returned}
 use Rattle.z_model.specs.Machine.{Frame, Machine, words, words_in, stored_if}
 use Rattle.z_lang.specs.State.{State, Program, put_if}
-use Rattle.z_lang.specs.Runs.{entered, left_with}
+use Rattle.z_lang.specs.Runs.{routine_entered, left_with}
 use Rattle.z_lang.specs.Standing.{Context, machine_at, resumed}
 use Rattle.z_lang.proofs.Operands.{args_of, put_stored}
 
@@ -27,7 +27,7 @@ enters m end store a n frames count few room = rw (lt-ltb (length m.callers + 1)
 
 -- a call leads to the routine's first instruction
 pub call_enters : (layout : Layout) (s : State) (c : Context) (pc end : ℕ) (v : Option ℕ) (k x y z u n : ℕ) → x ≢ 0 → length c.callers + 1 < 8192 → slice_get s.memory (8 * x) ≡ Some n → n ≤ 15 → words_in c.callers + length s.locals + n ≤ 65536 →
-    called layout (machine_at s c pc) end v (args_of k x y z u) ≡ the_machine (machine_at (entered s n (y, z, u)) (within s c end v (k - 1)) (8 * x + 1))
+    called layout (machine_at s c pc) end v (args_of k x y z u) ≡ the_machine (machine_at (routine_entered s n (y, z, u)) (within s c end v (k - 1)) (8 * x + 1))
 unfolding called
 call_enters layout s c pc end v k x y z u n some frames count few room = rw (ne_eqb x 0 some) (enters (machine_at s c pc) end v (args_of k x y z u) n frames count few (omega arith))
 

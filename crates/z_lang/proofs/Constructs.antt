@@ -10,7 +10,7 @@ use Rattle.z_lang.specs.declared.lines.Line.TheVariants as lines
 use Rattle.z_lang.specs.declared.lines.Open.{Open}
 use Rattle.z_lang.specs.declared.lines.Open.TheVariants as opens
 use Rattle.z_lang.specs.State.{State, Program}
-use Rattle.z_lang.specs.Runs.{Outcome, Rests, Runs, rests, at_label, goes, taken, passed, behind}
+use Rattle.z_lang.specs.Runs.{ActsOutcome, Rests, ActsRun, rests, at_label, goes, taken, passed, behind_label}
 use Rattle.z_lang.specs.Lines.{opposite, next_label, flattened}
 use Rattle.z_lang.specs.Constructs.{AreEnded, none, act, branch, choice, loop, label_behind, Flattens, end_if, end_first, end_loop, test_acts, Holds, Loops, over, again, ConstructsRun}
 use Rattle.z_lang.proofs.Routines.{runs_then}
@@ -111,16 +111,16 @@ twice_not true = refl
 twice_not false = refl
 
 module _ (p : Program) (f w : ℕ) (body : List Act) (t : Test) where
-  counted : (acts : List Act) (s s' : State) (o : Outcome) (n m : ℕ) → n ≡ m → Runs p f w body acts s o s' n → Runs p f w body acts s o s' m
-  counted acts s s' o n m e r = subst (λ (i : ℕ). Runs p f w body acts s o s' i) e r
+  counted : (acts : List Act) (s s' : State) (o : ActsOutcome) (n m : ℕ) → n ≡ m → ActsRun p f w body acts s o s' n → ActsRun p f w body acts s o s' m
+  counted acts s s' o n m e r = subst (λ (i : ℕ). ActsRun p f w body acts s o s' i) e r
 
   -- the first part is run, since the test of the opposite fails
-  enters : (l n : ℕ) (part : List Act) (s s' : State) (o : Outcome) → Holds p s t → Runs p f w body part s o s' n →
-      Runs p f w body (acts.When (opposite t) l ∷ part) s o s' (suc n)
+  enters : (l n : ℕ) (part : List Act) (s s' : State) (o : ActsOutcome) → Holds p s t → ActsRun p f w body part s o s' n →
+      ActsRun p f w body (acts.When (opposite t) l ∷ part) s o s' (suc n)
   enters l n part s s' o h r = passed (h ∙ ap (λ (b : Bool). Some b) (twice_not t.answer)) r
 
-  tests : (l e : ℕ) (part more : List Act) (s s' : State) (n : ℕ) → behind l body ≡ Some (test_acts t l e part more) → behind e body ≡ Some more →
-      Loops p f w body t part (end_loop l e more) s s' n → Runs p f w body (test_acts t l e part more) s (Rests more) s' n
+  tests : (l e : ℕ) (part more : List Act) (s s' : State) (n : ℕ) → behind_label l body ≡ Some (test_acts t l e part more) → behind_label e body ≡ Some more →
+      Loops p f w body t part (end_loop l e more) s s' n → ActsRun p f w body (test_acts t l e part more) s (Rests more) s' n
   tests l e part more s s' n bl be (over h) = taken h be rests
   tests l e part more s s' n bl be (again {s1 = s1} {n = k} {m = m} h r later) =
       let back = goes bl (tests l e part more s1 s' m bl be later) in

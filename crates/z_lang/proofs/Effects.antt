@@ -18,13 +18,13 @@ use Rattle.z_model.specs.declared.end.Args.{Args}
 use Rattle.z_model.specs.declared.end.Effect.{Effect}
 use Rattle.z_model.specs.declared.end.OpenTable.{OpenTable}
 use Rattle.z_model.specs.declared.end.Effect.TheVariants.{Goes, PrintsCode, PrintsUnicode, PrintsNumber, PrintsText}
-use Rattle.z_model.specs.Zscii.{is_printed, is_character, code_bytes}
+use Rattle.z_model.specs.Zscii.{is_printed, is_character, code_utf8}
 use Rattle.z_model.specs.Table.{Rows}
-use Rattle.z_model.specs.Decode.{found, op_at}
-use Rattle.z_model.specs.Effects.{goes, answers, answers_or, written as written_by, printed as printed_by, unless, let_out}
+use Rattle.z_model.specs.Decode.{op_found, op_at}
+use Rattle.z_model.specs.Effects.{goes, answers, answers_or, write_effect as written_by, print_effect as printed_by, unless, let_out}
 use Rattle.z_model.specs.Flow.{at_pc, branched, branch_taken, agrees}
-use Rattle.z_model.specs.Machine.{Machine, values_of, stored_if}
-use Rattle.z_model.specs.Memory.{Memory, guarded, byte_in, word_in, with_byte, with_word}
+use Rattle.z_model.specs.Machine.{Machine, operand_values, stored_if}
+use Rattle.z_model.specs.Memory.{Memory, guarded, byte_in, memory_word, with_byte, with_word}
 use Rattle.z_model.specs.Numbers.{signed_16, quotient, remainder}
 use Rattle.z_model.specs.Run.{ZGiven, ZState, Next, On, zstep, next_by, word_at}
 use Rattle.z_model.specs.Step.{do_instr, do_two, do_one, do_several, do_extended, machine_step}
@@ -39,13 +39,13 @@ use Rattle.z_lang.specs.declared.act.Print.TheVariants as prints
 use Rattle.z_lang.specs.declared.act.Comparison.{Comparison}
 use Rattle.z_lang.specs.declared.act.Comparison.TheVariants as comparisons
 use Rattle.z_lang.specs.State.{unless_fault, State, Program, put}
-use Rattle.z_lang.specs.Acts.{computed, bytes_unless, written, printed, text_unless}
+use Rattle.z_lang.specs.Acts.{computed, bytes_unless, memory_with, print_output, text_unless}
 use Rattle.z_lang.specs.Standing.{Context, machine_at}
 use Rattle.z_lang.proofs.Operands.{args_of, put_stored}
 
 -- ---- one instruction
 
-pub step_by : (rows : Rows) (layout : Layout) (word : ℕ) (m : Machine) (op : Op) (end : ℕ) (a : Args) (row : Row) → op_at rows m.memory m.pc ≡ Ok (found row op end) → values_of layout m op.operands ≡ Ok (a, m) → machine_step rows layout word m ≡ do_instr layout word row.instr op end a m
+pub step_by : (rows : Rows) (layout : Layout) (word : ℕ) (m : Machine) (op : Op) (end : ℕ) (a : Args) (row : Row) → op_at rows m.memory m.pc ≡ Ok (op_found row op end) → operand_values layout m op.operands ≡ Ok (a, m) → machine_step rows layout word m ≡ do_instr layout word row.instr op end a m
 unfolding machine_step
 step_by rows layout word m op end a row d v = rw (d, v) refl
 
@@ -88,7 +88,7 @@ computes layout functions.And op end word x y z m e = ap (answers layout m end o
 computes layout functions.Or op end word x y z m e = ap (answers layout m end op.store) (same_Some _ z e)
 computes layout functions.Div op end word x y z m e = answers_as layout m end op.store (quotient x y) z (no_fault _ z e)
 computes layout functions.Mod op end word x y z m e = answers_as layout m end op.store (remainder x y) z (no_fault _ z e)
-computes layout functions.Word op end word x y z m e = answers_as layout m end op.store (word_in (guarded layout m.memory) ((x + 2 * y) % 65536)) z (no_fault _ z e)
+computes layout functions.Word op end word x y z m e = answers_as layout m end op.store (memory_word (guarded layout m.memory) ((x + 2 * y) % 65536)) z (no_fault _ z e)
 computes layout functions.Byte op end word x y z m e = answers_as layout m end op.store (byte_in (guarded layout m.memory) ((x + y) % 65536)) z (no_fault _ z e)
 
 abbrev pub the_step : Machine → Result (Effect × Machine) ZFault
@@ -108,8 +108,8 @@ written_as : (m : Machine) (end : ℕ) (r : Result Memory ZFault) (memory : List
 written_as m end (Ok mem) memory e = ap (λ (bytes : List ℕ). the_step (record m { memory = bytes; pc = end })) (same_Some mem.bytes memory e)
 written_as m end (Err fault) memory e = absurd (cc)
 
-pub writes : (layout : Layout) (width : Width) (op : Op) (end word x y z : ℕ) (m : Machine) (memory : List ℕ) → written layout m.memory width x y z ≡ Some memory → do_instr layout word (write_instr width) op end (args_of 3 x y z 0) m ≡ the_step (record m { memory = memory; pc = end })
-unfolding do_instr do_several written
+pub writes : (layout : Layout) (width : Width) (op : Op) (end word x y z : ℕ) (m : Machine) (memory : List ℕ) → memory_with layout m.memory width x y z ≡ Some memory → do_instr layout word (write_instr width) op end (args_of 3 x y z 0) m ≡ the_step (record m { memory = memory; pc = end })
+unfolding do_instr do_several memory_with
 writes layout widths.Word op end word x y z m memory e = written_as m end (with_word (guarded layout m.memory) ((x + 2 * y) % 65536) z) memory e
 writes layout widths.Byte op end word x y z m memory e = written_as m end (with_byte (guarded layout m.memory) ((x + y) % 65536) (z % 256)) memory e
 
@@ -132,11 +132,11 @@ goes_out : (w : ZGiven) (z : ZState) (effect : Effect) (end : ℕ) → z.machine
 unfolding let_out
 goes_out w z effect end none = ap (λ (ts : List OpenTable). next_by w z (let_out w.layout ts effect (at_pc z.machine end))) none
 
-pub prints_as : (w : ZGiven) (z : ZState) (k : Print) (op : Op) (end word x : ℕ) (text : List ℕ) → z.machine.tables ≡ [] → printed z.machine.memory k x ≡ Some text → next_by w z (do_instr w.layout word (print_instr k) op end (args_of 1 x 0 0 0) z.machine) ≡ told z end text
-unfolding do_instr do_several do_extended do_one printed printed_by
+pub prints_as : (w : ZGiven) (z : ZState) (k : Print) (op : Op) (end word x : ℕ) (text : List ℕ) → z.machine.tables ≡ [] → print_output z.machine.memory k x ≡ Some text → next_by w z (do_instr w.layout word (print_instr k) op end (args_of 1 x 0 0 0) z.machine) ≡ told z end text
+unfolding do_instr do_several do_extended do_one print_output printed_by
 prints_as w z prints.Code op end word x text none e = by_test (is_printed x) e
   where
-    by_test : (b : Bool) → (if b then Some (code_bytes x) else None) ≡ some_text text → next_by w z (unless (if b then None else Some BadCharacter) (let_out w.layout z.machine.tables (PrintsCode x) (at_pc z.machine end))) ≡ told z end text
+    by_test : (b : Bool) → (if b then Some (code_utf8 x) else None) ≡ some_text text → next_by w z (unless (if b then None else Some BadCharacter) (let_out w.layout z.machine.tables (PrintsCode x) (at_pc z.machine end))) ≡ told z end text
     by_test true h = goes_out w z (PrintsCode x) end none ∙ ap (told z end) (same_Some _ text h)
     by_test false h = absurd (cc)
 prints_as w z prints.Number op end word x text none e = goes_out w z (PrintsNumber x) end none ∙ ap (told z end) (same_Some _ text e)

@@ -24,17 +24,17 @@ use Rattle.z_model.specs.declared.end.Effect.{Effect}
 use Rattle.z_model.specs.declared.end.Halt.TheVariants.{AtQuit, AtInput}
 use Rattle.z_model.specs.Spelling.{spelling, type_of_operand, types_in, row_of}
 use Rattle.z_model.specs.Typed.{typed_left}
-use Rattle.z_model.specs.Table.{Rows, rows_of}
-use Rattle.z_model.specs.Decode.{known, short_kind, found, op_at}
-use Rattle.z_model.specs.Effects.{reads, most_typed, random_of, goes}
+use Rattle.z_model.specs.Table.{Rows, player_rows}
+use Rattle.z_model.specs.Decode.{known, short_kind, op_found, op_at}
+use Rattle.z_model.specs.Effects.{read_effect, most_typed, random_of, goes}
 use Rattle.z_model.specs.Flow.{at_pc, returned, branched}
-use Rattle.z_model.specs.Machine.{Machine, value_of, values_of, stored_if}
-use Rattle.z_model.specs.Numbers.{word_from}
+use Rattle.z_model.specs.Machine.{Machine, operand_value, operand_values, stored_if}
+use Rattle.z_model.specs.Numbers.{wrapped_word}
 use Rattle.z_model.specs.Run.{ZGiven, ZState, Next, On, Ended, zstep, next_by, line_read, word_at, next_drawn}
 use Rattle.z_model.specs.Step.{do_instr, do_one, do_zero, do_two, do_several}
 use Rattle.z_code.specs.declared.target.Target.{Target}
 use Rattle.z_code.specs.declared.target.Target.TheVariants as targets
-use Rattle.z_code.specs.Targets.{fill, filled, Fits, offset_to, IsNear, Names}
+use Rattle.z_code.specs.Targets.{fill, filled, OpAt, offset_to, IsNear, Names}
 use Rattle.z_lang.specs.declared.act.Atom.{Atom}
 use Rattle.z_lang.specs.declared.act.Function.{Function}
 use Rattle.z_lang.specs.declared.act.Function.TheVariants as functions
@@ -47,11 +47,11 @@ use Rattle.z_lang.specs.declared.act.Comparison.TheVariants as comparisons
 use Rattle.z_lang.specs.declared.act.Test.{Test}
 use Rattle.z_lang.specs.declared.act.Act.TheVariants as acts
 use Rattle.z_lang.specs.State.{State, Program, value, put}
-use Rattle.z_lang.specs.Acts.{compared, computed, written, printed, does, drawn, readable, answer_of, with_output}
-use Rattle.z_lang.specs.Runs.{Outcome, Returns, Stops, Rests}
-use Rattle.z_lang.specs.Code.{one_of, two_of, three_of, short_op, variable_op, print_op, quit_op, branch_on, operand, target, number_of, write_number, compare_number, operands_by, targets_by, test_operands, test_targets}
+use Rattle.z_lang.specs.Acts.{comparison_answer, computed, memory_with, print_output, does, random_drawn, readable, answer_of, with_output}
+use Rattle.z_lang.specs.Runs.{ActsOutcome, Returns, Stops, Rests}
+use Rattle.z_lang.specs.Code.{one_of, two_of, three_of, short_op, variable_op, print_op, quit_op, branch_on, operand, target, function_number, write_number, compare_number, operands_by, targets_by, test_operands, test_targets}
 use Rattle.z_lang.specs.Leads.{Leads}
-use Rattle.z_lang.specs.Standing.{IsLaidOut, IsKept, Context, machine_at, outside, state_at, resumed, ComesTo}
+use Rattle.z_lang.specs.Standing.{IsLaidOut, IsKept, Context, machine_at, machine_state, state_at, resumed, ArrivesAt}
 use Rattle.z_lang.proofs.Stretches.{leads_step, leads_then, ends_step, ends_then}
 use Rattle.z_lang.proofs.Kept.{decoded}
 use Rattle.z_lang.proofs.Operands.{operand_is, values_none, values_one, values_two, values_three, values_four, args_of, the_word, the_args, put_stored, put_placed}
@@ -63,14 +63,14 @@ use Rattle.z_lang.proofs.Calls.{return_resumes}
 -- ---- one step
 
 -- on to a state
-pub comes_step : (p : Program) (story : List ℕ) (labels : ℕ → ℕ) (c : Context) (o : Outcome) (s : State) (n : ℕ) (z z1 : ZState) → zstep p.world z ≡ On z1 → ComesTo p story labels c o s n z1 → ComesTo p story labels c o s (suc n) z
-comes_step p story labels c (Returns x) s n z z1 e h = λ m r. leads_step p.world n z z1 (outside s m) e (h m r)
+pub comes_step : (p : Program) (story : List ℕ) (labels : ℕ → ℕ) (c : Context) (o : ActsOutcome) (s : State) (n : ℕ) (z z1 : ZState) → zstep p.world z ≡ On z1 → ArrivesAt p story labels c o s n z1 → ArrivesAt p story labels c o s (suc n) z
+comes_step p story labels c (Returns x) s n z z1 e h = λ m r. leads_step p.world n z z1 (machine_state s m) e (h m r)
 comes_step p story labels c (Stops halt) s n z z1 e h = (h.0, h.1, ends_step p.world n z z1 _ e h.2)
 comes_step p story labels c (Rests acts) s n z z1 e h = record { pc = h.pc; placed = h.placed; from = h.from; leads = leads_step p.world n z z1 (state_at s c h.pc) e h.leads }
 
 -- a stretch that leads to a state
-pub comes_then : (p : Program) (story : List ℕ) (labels : ℕ → ℕ) (c : Context) (o : Outcome) (s : State) (n k : ℕ) (z z1 : ZState) → Leads p.world n z z1 → ComesTo p story labels c o s k z1 → ComesTo p story labels c o s (n + k) z
-comes_then p story labels c (Returns x) s n k z z1 l h = λ m r. leads_then p.world n k z z1 (outside s m) l (h m r)
+pub comes_then : (p : Program) (story : List ℕ) (labels : ℕ → ℕ) (c : Context) (o : ActsOutcome) (s : State) (n k : ℕ) (z z1 : ZState) → Leads p.world n z z1 → ArrivesAt p story labels c o s k z1 → ArrivesAt p story labels c o s (n + k) z
+comes_then p story labels c (Returns x) s n k z z1 l h = λ m r. leads_then p.world n k z z1 (machine_state s m) l (h m r)
 comes_then p story labels c (Stops halt) s n k z z1 l h = (h.0, h.1, ends_then p.world n k z z1 _ l h.2)
 comes_then p story labels c (Rests acts) s n k z z1 l h = record { pc = h.pc; placed = h.placed; from = h.from; leads = leads_then p.world n k z z1 (state_at s c h.pc) l h.leads }
 
@@ -78,7 +78,7 @@ comes_then p story labels c (Rests acts) s n k z z1 l h = record { pc = h.pc; pl
 
 -- an instruction that stands at the present address
 pub record Here (p : Program) (story : List ℕ) (labels : ℕ → ℕ) (s : State) (pc : ℕ) (op : Op) (ts : List (Option Target)) (branch : Option ℕ) : Type 0 where
-  pub fits : Fits story p.names labels pc op ts branch
+  pub fits : OpAt story p.names labels pc op ts branch
   pub kept : IsKept p.world.layout.base story s.memory
   pub from : p.world.layout.base ≤ pc
 
@@ -88,7 +88,7 @@ end_at pc op = pc + length (spelling op)
 
 -- the row of an op
 abbrev pub row_by : Op → Result Row ZFault
-row_by op = row_of rows_of op.form op.number (types_in op.operands)
+row_by op = row_of player_rows op.form op.number (types_in op.operands)
 
 same_row : (r : Result Row ZFault) (x y : Row) → r ≡ Ok x → r ≡ Ok y → x ≡ y
 same_row r x y e f = cc
@@ -99,17 +99,17 @@ the_found x = Ok x
 -- the step of an instruction whose operands have these values
 pub by_row : (p : Program) (story : List ℕ) (labels : ℕ → ℕ) (s : State) (c : Context) (pc : ℕ) (op : Op) (ts : List (Option Target)) (branch : Option ℕ) (a : ZArgs) (row : Row) → IsLaidOut p.world →
     Here p story labels s pc op ts branch →
-    values_of p.world.layout (machine_at s c pc) (filled p.names labels (end_at pc op) op ts branch).operands ≡ Ok (a, machine_at s c pc) →
+    operand_values p.world.layout (machine_at s c pc) (filled p.names labels (end_at pc op) op ts branch).operands ≡ Ok (a, machine_at s c pc) →
     row_by (filled p.names labels (end_at pc op) op ts branch) ≡ Ok row →
     zstep p.world (state_at s c pc) ≡ next_by p.world (state_at s c pc) (do_instr p.world.layout (word_at p.world s.drawn) row.instr (filled p.names labels (end_at pc op) op ts branch) (end_at pc op) a (machine_at s c pc))
 by_row p story labels s c pc op ts branch a row laid h v r =
     let now = filled p.names labels (end_at pc op) op ts branch in
-    let there = decoded rows_of p.world.layout.base story s.memory pc now (end_at pc op) h.kept h.from h.fits.is in
+    let there = decoded player_rows p.world.layout.base story s.memory pc now (end_at pc op) h.kept h.from h.fits.is in
     let same : h.fits.is.row ≡ row = same_row (row_by now) h.fits.is.row row h.fits.is.is.known r in
-    let here : op_at p.world.rows s.memory pc ≡ Ok (found row now (end_at pc op)) = ap (λ (rows : Rows). op_at rows s.memory pc) laid.rows ∙ there ∙ ap (λ (x : Row). the_found (found x now (end_at pc op))) same in
+    let here : op_at p.world.rows s.memory pc ≡ Ok (op_found row now (end_at pc op)) = ap (λ (rows : Rows). op_at rows s.memory pc) laid.rows ∙ there ∙ ap (λ (x : Row). the_found (op_found x now (end_at pc op))) same in
     zstep_by p.world (state_at s c pc) _ (step_by p.world.rows p.world.layout (word_at p.world s.drawn) (machine_at s c pc) now (end_at pc op) a row here v)
 
-pub outside_same : (s s1 : State) (m : Machine) → SameOutside s s1 → outside s m ≡ outside s1 m
+pub outside_same : (s s1 : State) (m : Machine) → SameOutside s s1 → machine_state s m ≡ machine_state s1 m
 outside_same s s1 m same = rw (same.typed, same.drawn, same.output) refl
 
 abbrev pub on : ZState → Next
@@ -119,7 +119,7 @@ on z = On z
 stored_on : (p : Program) (story : List ℕ) (s s1 : State) (c : Context) (pc end v x : ℕ) (r : Result (Effect × Machine) ZFault) → IsLaidOut p.world → put p v x s ≡ Some s1 → r ≡ the_step (machine_at s1 c end) → next_by p.world (state_at s c pc) r ≡ on (state_at s1 c end)
 stored_on p story s s1 c pc end v x r laid e h = ap (next_by p.world (state_at s c pc)) h ∙ ap on (outside_same s s1 (machine_at s1 c end) (put_keeps p v x s s1 e).same)
 
-function_rows : (f : Function) (xs : Operands) (v : ℕ) (names : Names) (labels : ℕ → ℕ) (end : ℕ) (ts : List (Option Target)) → row_by (filled names labels end (variable_op (number_of f) xs (Some v) None) ts None) ≡ Ok (record { instr = instr_of f; fewest = 2; most = 2; store = true; branch = false; text = false })
+function_rows : (f : Function) (xs : Operands) (v : ℕ) (names : Names) (labels : ℕ → ℕ) (end : ℕ) (ts : List (Option Target)) → row_by (filled names labels end (variable_op (function_number f) xs (Some v) None) ts None) ≡ Ok (record { instr = instr_of f; fewest = 2; most = 2; store = true; branch = false; text = false })
 function_rows functions.Add xs v names labels end ts = refl
 function_rows functions.Sub xs v names labels end ts = refl
 function_rows functions.Mul xs v names labels end ts = refl
@@ -147,9 +147,9 @@ print_rows : (k : Print) (a : Operand) (names : Names) (labels : ℕ → ℕ) (e
 print_rows prints.Code a names labels end t = refl
 print_rows prints.Number a names labels end t = refl
 print_rows prints.Unicode a names labels end t = refl
-print_rows prints.Text a names labels end t = short_row 13 (fill names labels end t a) _ (λ (x : Kind). known rows_of x 13) refl
+print_rows prints.Text a names labels end t = short_row 13 (fill names labels end t a) _ (λ (x : Kind). known player_rows x 13) refl
 
-print_values : (layout : Layout) (m : Machine) (k : Print) (a : Operand) (x : ℕ) (names : Names) (labels : ℕ → ℕ) (end : ℕ) (t : Option Target) → value_of layout m (fill names labels end t a) ≡ the_word x m → values_of layout m (filled names labels end (print_op k a) (t ∷ None ∷ None ∷ None ∷ []) None).operands ≡ the_args (args_of 1 x 0 0 0) m
+print_values : (layout : Layout) (m : Machine) (k : Print) (a : Operand) (x : ℕ) (names : Names) (labels : ℕ → ℕ) (end : ℕ) (t : Option Target) → operand_value layout m (fill names labels end t a) ≡ the_word x m → operand_values layout m (filled names labels end (print_op k a) (t ∷ None ∷ None ∷ None ∷ []) None).operands ≡ the_args (args_of 1 x 0 0 0) m
 print_values layout m prints.Code a x names labels end t e = values_one layout m _ x e
 print_values layout m prints.Number a x names labels end t e = values_one layout m _ x e
 print_values layout m prints.Unicode a x names labels end t e = values_one layout m _ x e
@@ -173,7 +173,7 @@ compare_rows (comparisons.Any c d) xs b names labels end ts l = refl
 -- the values that a test compares, and what they decide
 record Tested (p : Program) (s : State) (c : Context) (pc : ℕ) (xs : Operands) (k : Comparison) (b : Bool) : Type 0 where
   args : ZArgs
-  values : values_of p.world.layout (machine_at s c pc) xs ≡ the_args args (machine_at s c pc)
+  values : operand_values p.world.layout (machine_at s c pc) xs ≡ the_args args (machine_at s c pc)
   decides : Decides p.world.layout k args b
 
 -- the operands of a test, filled in
@@ -183,7 +183,7 @@ filled_in names labels end xs ts = (filled names labels end (variable_op 1 xs No
 tested_by : (p : Program) (s : State) (c : Context) (pc : ℕ) (xs : Operands) (k : Comparison) (b b' : Bool) → b ≡ b' → Tested p s c pc xs k b → Tested p s c pc xs k b'
 tested_by p s c pc xs k b b' e t = subst (λ (x : Bool). Tested p s c pc xs k x) e t
 
-tested : (p : Program) (s : State) (c : Context) (pc : ℕ) (labels : ℕ → ℕ) (end : ℕ) (k : Comparison) (first second : Atom) (x y : ℕ) (b : Bool) → value p s first ≡ Some x → value p s second ≡ Some y → compared p s k x y ≡ Some b →
+tested : (p : Program) (s : State) (c : Context) (pc : ℕ) (labels : ℕ → ℕ) (end : ℕ) (k : Comparison) (first second : Atom) (x y : ℕ) (b : Bool) → value p s first ≡ Some x → value p s second ≡ Some y → comparison_answer p s k x y ≡ Some b →
     Tested p s c pc (filled_in p.names labels end (operands_by k (operand first) (operand second)) (targets_by k (target first) (target second))) k b
 tested p s c pc labels end comparisons.Equal first second x y b xi yi e = tested_by p s c pc _ _ _ b (same_Some _ b e)
     (record { args = args_of 2 x y 0 0; values = values_two p.world.layout (machine_at s c pc) _ _ x y (operand_is p s c pc labels end first x xi) (operand_is p s c pc labels end second y yi); decides = equal_two p.world.layout x y })
@@ -207,15 +207,15 @@ tested p s c pc labels end (comparisons.Any d g) first second x y b xi yi e =
       decides = equal_four p.world.layout d g x y z.x u.x;
     })
 
-small_is : (p : Program) (s : State) (c : Context) (pc v : ℕ) → value_of p.world.layout (machine_at s c pc) (operands.Small v) ≡ the_word v (machine_at s c pc)
-unfolding value_of
+small_is : (p : Program) (s : State) (c : Context) (pc v : ℕ) → operand_value p.world.layout (machine_at s c pc) (operands.Small v) ≡ the_word v (machine_at s c pc)
+unfolding operand_value
 small_is p s c pc v = refl
 
-pub large_is : (p : Program) (s : State) (c : Context) (pc v : ℕ) → value_of p.world.layout (machine_at s c pc) (operands.Large v) ≡ the_word v (machine_at s c pc)
-unfolding value_of
+pub large_is : (p : Program) (s : State) (c : Context) (pc v : ℕ) → operand_value p.world.layout (machine_at s c pc) (operands.Large v) ≡ the_word v (machine_at s c pc)
+unfolding operand_value
 large_is p s c pc v = refl
 
-jumps_on : (layout : Layout) (m : Machine) (end to word : ℕ) (op : Op) → IsNear end to → do_instr layout word (instrs.One one.Jump) op end (args_of 1 (word_from (offset_to end to)) 0 0 0) m ≡ the_step (at_pc m to)
+jumps_on : (layout : Layout) (m : Machine) (end to word : ℕ) (op : Op) → IsNear end to → do_instr layout word (instrs.One one.Jump) op end (args_of 1 (wrapped_word (offset_to end to)) 0 0 0) m ≡ the_step (at_pc m to)
 unfolding do_instr do_one
 jumps_on layout m end to word op near = rw (jump_leads m end to near) refl
 
@@ -231,7 +231,7 @@ copies : (p : Program) (s s1 : State) (c : Context) (pc end v x word : ℕ) (op 
 unfolding do_instr do_two
 copies p s s1 c pc end v x word op e = rw (put_placed p v x s s1 c end e) refl
 
-draws : (p : Program) (story : List ℕ) (s s1 : State) (c : Context) (pc end v r : ℕ) (op : Op) → IsLaidOut p.world → op.store ≡ Some v → drawn p v r s ≡ Some s1 → next_by p.world (state_at s c pc) (do_instr p.world.layout (word_at p.world s.drawn) (instrs.Several several.Random) op end (args_of 1 r 0 0 0) (machine_at s c pc)) ≡ on (state_at s1 c end)
+draws : (p : Program) (story : List ℕ) (s s1 : State) (c : Context) (pc end v r : ℕ) (op : Op) → IsLaidOut p.world → op.store ≡ Some v → random_drawn p v r s ≡ Some s1 → next_by p.world (state_at s c pc) (do_instr p.world.layout (word_at p.world s.drawn) (instrs.Several several.Random) op end (args_of 1 r 0 0 0) (machine_at s c pc)) ≡ on (state_at s1 c end)
 unfolding do_instr do_several random_of stored_if
 draws p story s s1 c pc end v r op laid store e = by_case (drew p v r s s1 e)
   where
@@ -249,14 +249,14 @@ unfolding most_typed
 most_of layout m x most r = rw (r.byte, r.may) refl
 
 read_by : (p : Program) (story : List ℕ) (s tried s1 : State) (c : Context) (pc end v x most : ℕ) (op : Op) → IsLaidOut p.world → op.store ≡ Some v → IsReadable p.world.layout s.memory x most → put p v 13 s ≡ Some tried → Took p v x most s s1 → next_by p.world (state_at s c pc) (do_instr p.world.layout (word_at p.world s.drawn) (instrs.Several several.Aread) op end (args_of 2 x 0 0 0) (machine_at s c pc)) ≡ on (state_at s1 c end)
-unfolding do_instr do_several reads line_read stored_if
+unfolding do_instr do_several read_effect line_read stored_if
 read_by p story s tried s1 c pc end v x most op laid store r t k =
     let after = record s { memory = k.memory.bytes; typed = typed_left (k.byte ∷ k.typed) } in
     let same = (put_keeps p v 13 after s1 k.stored).same in
     rw (store, most_of p.world.layout (machine_at s c pc) x most r, put_stored p v 13 s tried c end t, k.is, k.line, put_stored p v 13 after s1 c end k.stored) (ap on (outside_same after s1 (machine_at s1 c end) same))
 
 input_by : (p : Program) (s tried : State) (c : Context) (pc end v x most : ℕ) (op : Op) → op.store ≡ Some v → IsReadable p.world.layout s.memory x most → put p v 13 s ≡ Some tried → s.typed ≡ [] → next_by p.world (state_at s c pc) (do_instr p.world.layout (word_at p.world s.drawn) (instrs.Several several.Aread) op end (args_of 2 x 0 0 0) (machine_at s c pc)) ≡ Ended AtInput (state_at s c end)
-unfolding do_instr do_several reads stored_if
+unfolding do_instr do_several read_effect stored_if
 input_by p s tried c pc end v x most op store r t k = rw (store, most_of p.world.layout (machine_at s c pc) x most r, put_stored p v 13 s tried c end t, k) refl
 
 module _ (p : Program) (story : List ℕ) (labels : ℕ → ℕ) (c : Context) (laid : IsLaidOut p.world) where
@@ -267,12 +267,12 @@ module _ (p : Program) (story : List ℕ) (labels : ℕ → ℕ) (c : Context) (
       by_row p story labels s c pc _ _ None (args_of 2 v x.x 0 0) _ laid here (values_two p.world.layout (machine_at s c pc) _ _ v x.x (small_is p s c pc v) (operand_is p s c pc labels end a x.x x.is)) refl
       ∙ stored_on p story s s1 c pc end v x.x _ laid x.rest (copies p s s1 c pc end v x.x (word_at p.world s.drawn) _ x.rest)
 
-  pub compute_step : (s s1 : State) (pc v : ℕ) (f : Function) (a b : Atom) → Here p story labels s pc (variable_op (number_of f) (two_of (operand a) (operand b)) (Some v) None) (target a ∷ target b ∷ None ∷ None ∷ []) None → does p (acts.Compute v f a b) s ≡ Some s1 → zstep p.world (state_at s c pc) ≡ on (state_at s1 c (end_at pc (variable_op (number_of f) (two_of (operand a) (operand b)) (Some v) None)))
+  pub compute_step : (s s1 : State) (pc v : ℕ) (f : Function) (a b : Atom) → Here p story labels s pc (variable_op (function_number f) (two_of (operand a) (operand b)) (Some v) None) (target a ∷ target b ∷ None ∷ None ∷ []) None → does p (acts.Compute v f a b) s ≡ Some s1 → zstep p.world (state_at s c pc) ≡ on (state_at s1 c (end_at pc (variable_op (function_number f) (two_of (operand a) (operand b)) (Some v) None)))
   compute_step s s1 pc v f a b here e =
       let x = bound (value p s a) _ s1 e in
       let y = bound (value p s b) _ s1 x.rest in
       let z = bound (computed p.world.layout s.memory f x.x y.x) _ s1 y.rest in
-      let end = end_at pc (variable_op (number_of f) (two_of (operand a) (operand b)) (Some v) None) in
+      let end = end_at pc (variable_op (function_number f) (two_of (operand a) (operand b)) (Some v) None) in
       by_row p story labels s c pc _ _ None (args_of 2 x.x y.x 0 0) _ laid here (values_two p.world.layout (machine_at s c pc) _ _ x.x y.x (operand_is p s c pc labels end a x.x x.is) (operand_is p s c pc labels end b y.x y.is)) (function_rows f (two_of (operand a) (operand b)) v p.names labels end (target a ∷ target b ∷ None ∷ None ∷ []))
       ∙ stored_on p story s s1 c pc end v z.x _ laid z.rest (computes p.world.layout f _ end (word_at p.world s.drawn) x.x y.x z.x (machine_at s c pc) z.is ∙ answer_stored p v z.x s s1 c pc end z.rest)
 
@@ -281,7 +281,7 @@ module _ (p : Program) (story : List ℕ) (labels : ℕ → ℕ) (c : Context) (
       let x = bound (value p s a) _ s1 e in
       let y = bound (value p s b) _ s1 x.rest in
       let z = bound (value p s d) _ s1 y.rest in
-      let m = bound (written p.world.layout s.memory k x.x y.x z.x) _ s1 z.rest in
+      let m = bound (memory_with p.world.layout s.memory k x.x y.x z.x) _ s1 z.rest in
       let end = end_at pc (variable_op (write_number k) (three_of (operand a) (operand b) (operand d)) None None) in
       by_row p story labels s c pc _ _ None (args_of 3 x.x y.x z.x 0) _ laid here (values_three p.world.layout (machine_at s c pc) _ _ _ x.x y.x z.x (operand_is p s c pc labels end a x.x x.is) (operand_is p s c pc labels end b y.x y.is) (operand_is p s c pc labels end d z.x z.is)) (write_rows k (three_of (operand a) (operand b) (operand d)) p.names labels end (target a ∷ target b ∷ target d ∷ None ∷ []))
       ∙ ap (next_by p.world (state_at s c pc)) (writes p.world.layout k _ end (word_at p.world s.drawn) x.x y.x z.x (machine_at s c pc) m.x m.is)
@@ -290,7 +290,7 @@ module _ (p : Program) (story : List ℕ) (labels : ℕ → ℕ) (c : Context) (
   pub print_step : (s s1 : State) (pc : ℕ) (k : Print) (a : Atom) → Here p story labels s pc (print_op k (operand a)) (target a ∷ None ∷ None ∷ None ∷ []) None → does p (acts.Print k a) s ≡ Some s1 → zstep p.world (state_at s c pc) ≡ on (state_at s1 c (end_at pc (print_op k (operand a))))
   print_step s s1 pc k a here e =
       let x = bound (value p s a) _ s1 e in
-      let t = bound (printed s.memory k x.x) _ s1 x.rest in
+      let t = bound (print_output s.memory k x.x) _ s1 x.rest in
       let end = end_at pc (print_op k (operand a)) in
       by_row p story labels s c pc _ _ None (args_of 1 x.x 0 0 0) _ laid here (print_values p.world.layout (machine_at s c pc) k (operand a) x.x p.names labels end (target a) (operand_is p s c pc labels end a x.x x.is)) (print_rows k (operand a) p.names labels end (target a))
       ∙ prints_as p.world (state_at s c pc) k _ end (word_at p.world s.drawn) x.x t.x refl t.is
@@ -308,7 +308,7 @@ module _ (p : Program) (story : List ℕ) (labels : ℕ → ℕ) (c : Context) (
   pub goto_step : (s : State) (pc l : ℕ) → Here p story labels s pc (short_op 12 (operands.Large 0)) (Some (targets.Label l) ∷ None ∷ None ∷ None ∷ []) None → zstep p.world (state_at s c pc) ≡ on (state_at s c (labels l))
   goto_step s pc l here =
       let end = end_at pc (short_op 12 (operands.Large 0)) in
-      by_row p story labels s c pc _ _ None (args_of 1 (word_from (offset_to end (labels l))) 0 0 0) _ laid here (values_one p.world.layout (machine_at s c pc) _ _ (large_is p s c pc (word_from (offset_to end (labels l))))) refl
+      by_row p story labels s c pc _ _ None (args_of 1 (wrapped_word (offset_to end (labels l))) 0 0 0) _ laid here (values_one p.world.layout (machine_at s c pc) _ _ (large_is p s c pc (wrapped_word (offset_to end (labels l))))) refl
       ∙ ap (next_by p.world (state_at s c pc)) (jumps_on p.world.layout (machine_at s c pc) end (labels l) (word_at p.world s.drawn) _ here.fits.target)
 
   abbrev pub when_op : Test → Op
@@ -336,11 +336,11 @@ module _ (p : Program) (story : List ℕ) (labels : ℕ → ℕ) (c : Context) (
       test_step s pc l t (not t.answer) here e
       ∙ ap (λ (r : Result Machine ZFault). next_by p.world (state_at s c pc) (goes r)) (branches_not p.world.layout (machine_at s c pc) end (record { when = t.answer; offset = offset_to end (labels l); short = false }))
 
-  pub return_step : (s : State) (pc x : ℕ) (a : Atom) (m : Machine) → Here p story labels s pc (short_op 11 (operand a)) (target a ∷ None ∷ None ∷ None ∷ []) None → value p s a ≡ Some x → resumed p.world.layout s c x ≡ Ok m → zstep p.world (state_at s c pc) ≡ on (outside s m)
+  pub return_step : (s : State) (pc x : ℕ) (a : Atom) (m : Machine) → Here p story labels s pc (short_op 11 (operand a)) (target a ∷ None ∷ None ∷ None ∷ []) None → value p s a ≡ Some x → resumed p.world.layout s c x ≡ Ok m → zstep p.world (state_at s c pc) ≡ on (machine_state s m)
   return_step s pc x a m here e r =
       let end = end_at pc (short_op 11 (operand a)) in
       by_row p story labels s c pc _ _ None (args_of 1 x 0 0 0) (plain_row (instrs.One one.Ret)) laid here (values_one p.world.layout (machine_at s c pc) _ x (operand_is p s c pc labels end a x e))
-      (short_row 11 (fill p.names labels end (target a) (operand a)) (Ok (plain_row (instrs.One one.Ret))) (λ (k : Kind). known rows_of k 11) refl)
+      (short_row 11 (fill p.names labels end (target a) (operand a)) (Ok (plain_row (instrs.One one.Ret))) (λ (k : Kind). known player_rows k 11) refl)
       ∙ ap (next_by p.world (state_at s c pc)) (returns_by p.world.layout (machine_at s c pc) end (word_at p.world s.drawn) x _ m (return_resumes p.world.layout s c pc x ∙ r))
 
   pub quit_step : (s : State) (pc : ℕ) → Here p story labels s pc quit_op (None ∷ None ∷ None ∷ None ∷ []) None → zstep p.world (state_at s c pc) ≡ Ended AtQuit (state_at s c (end_at pc quit_op))

@@ -1,7 +1,7 @@
 -- Where a jump and a branch lead.
 use Rattle.z_model.specs.Flow.{at_pc, jumped, branch_taken}
 use Rattle.z_model.specs.Machine.{Machine}
-use Rattle.z_model.specs.Numbers.{signed_16, word_from}
+use Rattle.z_model.specs.Numbers.{signed_16, wrapped_word}
 use Rattle.z_code.specs.Targets.{offset_to, IsNear}
 use Rattle.std.proofs.Common.{◌≡◌, ℕ, suc, ◌+◌, ◌-◌, ◌%◌, ◌<◌, ◌≤◌, ⊎_elim, Result, Ok, refl, sym, subst, arith}
 use Rattle.std.specs.Prelude.{pos}
@@ -47,24 +47,24 @@ branch_leads layout m end to near = ⊎_elim (λ le. takes_back layout m end to 
 wraps_back : (n : ℕ) → n < 8192 → pos (65535 - n) -ℤ pos 65536 ≡ negsuc n
 wraps_back n lt = omega (arith, ints)
 
-word_back : (n : ℕ) → n < 8192 → signed_16 (word_from (negsuc n)) ≡ negsuc n
+word_back : (n : ℕ) → n < 8192 → signed_16 (wrapped_word (negsuc n)) ≡ negsuc n
 word_back n lt = let q : 65535 - n % 65536 ≡ 65535 - n = omega arith in rw (q, le-ltb (65535 - n) 32768 (omega arith)) (wraps_back n lt)
 
-word_ahead : (n : ℕ) → n < 8192 → signed_16 (word_from (pos n)) ≡ pos n
+word_ahead : (n : ℕ) → n < 8192 → signed_16 (wrapped_word (pos n)) ≡ pos n
 word_ahead n lt = let q : n % 65536 ≡ n = omega arith in rw (q, lt-ltb n 32768 (omega arith)) refl
 
 -- a jump by a word
-pub jump_leads : (m : Machine) (end to : ℕ) → IsNear end to → jumped m end (signed_16 (word_from (offset_to end to))) ≡ the_machine (at_pc m to)
+pub jump_leads : (m : Machine) (end to : ℕ) → IsNear end to → jumped m end (signed_16 (wrapped_word (offset_to end to))) ≡ the_machine (at_pc m to)
 jump_leads m end to near = ⊎_elim back ahead near.apart
   where
-    back : to + 3 ≤ end → jumped m end (signed_16 (word_from (offset_to end to))) ≡ the_machine (at_pc m to)
+    back : to + 3 ≤ end → jumped m end (signed_16 (wrapped_word (offset_to end to))) ≡ the_machine (at_pc m to)
     back le =
         let b = near.back in
-        subst (λ (z : ℤ). jumped m end (signed_16 (word_from z)) ≡ the_machine (at_pc m to)) (sym (offset_back end to le))
+        subst (λ (z : ℤ). jumped m end (signed_16 (wrapped_word z)) ≡ the_machine (at_pc m to)) (sym (offset_back end to le))
         (subst (λ (z : ℤ). jumped m end z ≡ the_machine (at_pc m to)) (sym (word_back (end - to - 3) (omega arith))) (jumps_by m end to (negsuc (end - to - 3)) (back_again end to le)))
 
-    ahead : end ≤ to → jumped m end (signed_16 (word_from (offset_to end to))) ≡ the_machine (at_pc m to)
+    ahead : end ≤ to → jumped m end (signed_16 (wrapped_word (offset_to end to))) ≡ the_machine (at_pc m to)
     ahead le =
         let b = near.ahead in
-        subst (λ (z : ℤ). jumped m end (signed_16 (word_from z)) ≡ the_machine (at_pc m to)) (sym (offset_ahead end to le))
+        subst (λ (z : ℤ). jumped m end (signed_16 (wrapped_word z)) ≡ the_machine (at_pc m to)) (sym (offset_ahead end to le))
         (subst (λ (z : ℤ). jumped m end z ≡ the_machine (at_pc m to)) (sym (word_ahead (suc (suc (to - end))) (omega arith))) (jumps_by m end to (pos (suc (suc (to - end)))) (ahead_again end to le)))

@@ -11,7 +11,7 @@ use Rattle.z_model.specs.Run.{word_at, next_drawn, with_line}
 use Rattle.z_lang.specs.declared.act.Act.{Act}
 use Rattle.z_lang.specs.declared.act.Act.TheVariants as acts
 use Rattle.z_lang.specs.State.{◌>>=◌, unless_fault, State, Program, value, put, put_if, with_local}
-use Rattle.z_lang.specs.Acts.{computed, bytes_unless, written, printed, drawn, readable, line_in, does, with_output}
+use Rattle.z_lang.specs.Acts.{computed, bytes_unless, memory_with, print_output, random_drawn, readable, line_in, does, with_output}
 use Rattle.z_lang.proofs.Operands.{in_local, in_global}
 use Rattle.z_lang.proofs.Effects.{no_fault}
 
@@ -70,15 +70,15 @@ pub data Drew (p : Program) (v r : ℕ) (s s1 : State) : Type 0 where
   nothing_drawn : ((r == 0) || nat_lt 32767 r) ≡ true → put p v 0 s ≡ Some s1 → Drew p v r s s1
   one_drawn : (after : State) → ((r == 0) || nat_lt 32767 r) ≡ false → put p v (1 + word_at p.world s.drawn % r) s ≡ Some after → record after { drawn = next_drawn p.world s.drawn } ≡ s1 → Drew p v r s s1
 
-pub drew : (p : Program) (v r : ℕ) (s s1 : State) → drawn p v r s ≡ Some s1 → Drew p v r s s1
-unfolding drawn
+pub drew : (p : Program) (v r : ℕ) (s s1 : State) → random_drawn p v r s ≡ Some s1 → Drew p v r s s1
+unfolding random_drawn
 drew p v r s s1 e = by_test ((r == 0) || nat_lt 32767 r) refl e
   where
     by_test : (t : Bool) → ((r == 0) || nat_lt 32767 r) ≡ t → (if t then put p v 0 s else (put p v (1 + word_at p.world s.drawn % r) s >>= λ after. the_state (record after { drawn = next_drawn p.world s.drawn }))) ≡ the_state s1 → Drew p v r s s1
     by_test true q h = nothing_drawn q h
     by_test false q h = let b = bound (put p v (1 + word_at p.world s.drawn % r) s) _ s1 h in one_drawn b.x q b.is (same_Some _ s1 b.rest)
 
-draw_keeps : (p : Program) (v r : ℕ) (s s1 : State) → drawn p v r s ≡ Some s1 → length s1.locals ≡ length s.locals
+draw_keeps : (p : Program) (v r : ℕ) (s s1 : State) → random_drawn p v r s ≡ Some s1 → length s1.locals ≡ length s.locals
 draw_keeps p v r s s1 e = by_case (drew p v r s s1 e)
   where
     by_case : Drew p v r s s1 → length s1.locals ≡ length s.locals
@@ -142,11 +142,11 @@ does_keeps p (acts.Write w a b d) s s1 e =
     let x = bound (value p s a) _ s1 e in
     let y = bound (value p s b) _ s1 x.rest in
     let z = bound (value p s d) _ s1 y.rest in
-    let m = bound (written p.world.layout s.memory w x.x y.x z.x) _ s1 z.rest in
+    let m = bound (memory_with p.world.layout s.memory w x.x y.x z.x) _ s1 z.rest in
     ap (λ (t : State). length t.locals) (sym (same_Some (record s { memory = m.x }) s1 m.rest))
 does_keeps p (acts.Print k a) s s1 e =
     let x = bound (value p s a) _ s1 e in
-    let t = bound (printed s.memory k x.x) _ s1 x.rest in
+    let t = bound (print_output s.memory k x.x) _ s1 x.rest in
     ap (λ (t : State). length t.locals) (sym (same_Some (with_output s t.x) s1 t.rest))
 does_keeps p (acts.Random v a) s s1 e = let r = bound (value p s a) _ s1 e in draw_keeps p v r.x s s1 r.rest
 does_keeps p (acts.Read v a) s s1 e =

@@ -5,7 +5,7 @@ use Rattle.z_model.specs.declared.op.Op.{Op}
 use Rattle.z_model.specs.Spelling.{spelling, IsInstruction}
 use Rattle.z_model.specs.Spelling as spell
 use Rattle.z_model.proofs.InstrLaws.{again_holds}
-use Rattle.z_model.specs.Decode.{text_at, found, op_at}
+use Rattle.z_model.specs.Decode.{text_at, op_found, op_at}
 use Rattle.z_model.specs.Table.{Rows}
 use Rattle.z_model.specs.Laws.{IsLaid, state_behind}
 use Rattle.z_model.specs.Run.{ZGiven, ZState, Next, On, ZRun, zstep, zrun}
@@ -33,7 +33,7 @@ kept_get base story memory i e le =
     let q : base + (i - base) ≡ i = omega arith in
     subst (λ (j : ℕ). slice_get memory j ≡ slice_get story j) q (sym (get_behind memory base (i - base)) ∙ ap (λ (l : List ℕ). slice_get l (i - base)) e ∙ get_behind story base (i - base))
 
-stands_kept : (base : ℕ) (story memory : List ℕ) (at : ℕ) (xs : List ℕ) → IsKept base story memory → base ≤ at → spell.Stands story at xs → spell.Stands memory at xs
+stands_kept : (base : ℕ) (story memory : List ℕ) (at : ℕ) (xs : List ℕ) → IsKept base story memory → base ≤ at → spell.BytesAt story at xs → spell.BytesAt memory at xs
 stands_kept base story memory at [] e le h = tt
 stands_kept base story memory at (x ∷ xs) e le h = (kept_get base story memory at e le ∙ h.0, stands_kept base story memory (at + 1) xs e (omega arith) h.1)
 
@@ -43,7 +43,7 @@ text_kept base story memory false at e le = refl
 text_kept base story memory true at e le = rw (drop_more memory story base at e le) refl
 
 -- what stands in the story is decoded
-pub decoded : (rows : Rows) (base : ℕ) (story memory : List ℕ) (at : ℕ) (op : Op) (end : ℕ) → IsKept base story memory → base ≤ at → (i : IsInstruction rows story at op end) → op_at rows memory at ≡ Ok (found i.row op end)
+pub decoded : (rows : Rows) (base : ℕ) (story memory : List ℕ) (at : ℕ) (op : Op) (end : ℕ) → IsKept base story memory → base ≤ at → (i : IsInstruction rows story at op end) → op_at rows memory at ≡ Ok (op_found i.row op end)
 decoded rows base story memory at op end e le i =
     (again_holds rows memory at).again op end (record {
       row = i.row;

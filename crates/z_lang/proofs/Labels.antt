@@ -7,7 +7,7 @@ use Rattle.z_lang.specs.declared.lines.Line.{Line}
 use Rattle.z_lang.specs.declared.lines.Line.TheVariants as lines
 use Rattle.z_lang.specs.declared.lines.Open.{Open}
 use Rattle.z_lang.specs.declared.lines.Open.TheVariants as opens
-use Rattle.z_lang.specs.Runs.{behind}
+use Rattle.z_lang.specs.Runs.{behind_label}
 use Rattle.z_lang.specs.Lines.{flattened, first_label}
 use Rattle.z_lang.specs.Constructs.{AreOwn, LabelsLead}
 
@@ -82,23 +82,23 @@ once l from (lines.End ∷ more) h n (opens.Loop start end ∷ around) = omega (
 same_is : (l : ℕ) → eqb l l ≡ true
 same_is l = eq-eqb l l refl
 
-not_before : (l : ℕ) (front more : List Act) → times l front ≡ 0 → behind l (front ++ (acts.Label l ∷ more)) ≡ Some more
-unfolding behind
+not_before : (l : ℕ) (front more : List Act) → times l front ≡ 0 → behind_label l (front ++ (acts.Label l ∷ more)) ≡ Some more
+unfolding behind_label
 not_before l [] more none = rw same_is refl
 not_before l (acts.Label k ∷ front) more none = by_test (eqb k l) refl (not_before l front more)
   where
-    by_test : (t : Bool) → eqb k l ≡ t → (times l front ≡ 0 → behind l (front ++ (acts.Label l ∷ more)) ≡ Some more) →
-        cond t (Some (front ++ (acts.Label l ∷ more))) (behind l (front ++ (acts.Label l ∷ more))) ≡ Some more
+    by_test : (t : Bool) → eqb k l ≡ t → (times l front ≡ 0 → behind_label l (front ++ (acts.Label l ∷ more)) ≡ Some more) →
+        cond t (Some (front ++ (acts.Label l ∷ more))) (behind_label l (front ++ (acts.Label l ∷ more))) ≡ Some more
     by_test true e later = absurd (omega (arith, none, ap one_if e))
     by_test false e later = later (omega (arith, none))
 not_before l (act ∷ front) more none = not_before l front more none
 
 -- a label that stands once leads to its place
-leads_once : (l : ℕ) (body front more : List Act) → times l body ≤ 1 → body ≡ front ++ (acts.Label l ∷ more) → behind l body ≡ Some more
+leads_once : (l : ℕ) (body front more : List Act) → times l body ≤ 1 → body ≡ front ++ (acts.Label l ∷ more) → behind_label l body ≡ Some more
 leads_once l body front more few is =
     let all : times l body ≡ times l front + times l (acts.Label l ∷ more) = ap (times l) is ∙ joined l front (acts.Label l ∷ more) in
     let one : one_if (eqb l l) ≡ 1 = ap one_if (same_is l) in
-    ap (behind l) is ∙ not_before l front more (omega (arith, all, few, one))
+    ap (behind_label l) is ∙ not_before l front more (omega (arith, all, few, one))
 
 late_small : (n l : ℕ) → late n l ≤ 1
 late_small n l = by_test (ltb l n)

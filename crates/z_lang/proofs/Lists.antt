@@ -3,9 +3,9 @@ use Rattle.std.proofs.Common.{◌≡◌, ℕ, suc, ◌+◌, ◌*◌, ◌≤◌, 
 use Rattle.std.specs.Prelude.{slice_get, ◌==◌, if◌then◌else◌}
 use Rattle.std.proofs.lemmas.Bool.{eqb-true}
 use Rattle.z_model.specs.Run.{ZGiven}
-use Rattle.z_code.specs.Targets.{Names, label_from, Placed}
+use Rattle.z_code.specs.Targets.{Names, label_from, OpsAt}
 use Rattle.z_lang.specs.declared.act.Routine.{Routine}
-use Rattle.z_lang.specs.Code.{code}
+use Rattle.z_lang.specs.Code.{ops_of_acts}
 use Rattle.z_lang.specs.Standing.{StandsAt, look, program_of, StandsAs, ListStands}
 
 record FoundAt (names : Names) (k x : ℕ) (rs : List Routine) (r : Routine) : Type 0 where
@@ -32,10 +32,10 @@ list_stands given names rs story = record { stands = λ laid each. record { laid
         let some = s.some in
         let behind = s.behind in
         record {
-          labels = label_from (8 * x + 1) (code r.body);
+          labels = label_from (8 * x + 1) (ops_of_acts r.body);
           some = λ (e : x ≡ 0). (omega arith);
           within = subst (λ (y : ℕ). given.layout.base ≤ 8 * y) same behind;
           few = s.few;
           count = subst (λ (y : ℕ). slice_get story (8 * y) ≡ Some r.locals) same s.count;
-          code_is = subst (λ (y : ℕ). Placed story names (label_from (8 * y + 1) (code r.body)) (8 * y + 1) (code r.body)) same s.code_is;
+          code_is = subst (λ (y : ℕ). OpsAt story names (label_from (8 * y + 1) (ops_of_acts r.body)) (8 * y + 1) (ops_of_acts r.body)) same s.code_is;
         }

@@ -18,9 +18,9 @@ use Rattle.z_model.specs.declared.table.One.TheVariants as one
 use Rattle.z_model.specs.declared.table.Zero.TheVariants as none
 use Rattle.z_model.specs.declared.table.Several.TheVariants as several
 use Rattle.z_model.specs.declared.table.Extended.TheVariants as extended
-use Rattle.z_model.specs.Table.{rows_of}
-use Rattle.z_model.specs.Decode.{present, count_of, counted}
-use Rattle.z_model.specs.Spelling.{code as code_of, type_of_operand, row_of, FitsType, FitsStore, FitsBranch, FitsText, IsOfTable}
+use Rattle.z_model.specs.Table.{player_rows}
+use Rattle.z_model.specs.Decode.{present, operand_count, count_in_row}
+use Rattle.z_model.specs.Spelling.{type_code as code_of, type_of_operand, row_of, FitsType, FitsStore, FitsBranch, FitsText, IsOfTable}
 use Rattle.z_code.specs.declared.target.LOp.{LOp}
 use Rattle.z_code.specs.declared.target.Target.{Target}
 use Rattle.z_code.specs.Targets.{nth}
@@ -39,7 +39,7 @@ use Rattle.z_lang.specs.declared.act.Args.{Args}
 use Rattle.z_lang.specs.declared.act.Args.TheVariants as args
 use Rattle.z_lang.specs.declared.act.Act.{Act}
 use Rattle.z_lang.specs.declared.act.Act.TheVariants as acts
-use Rattle.z_lang.specs.Code.{operand, target, one_of, two_of, three_of, four_of, short_op, variable_op, quit_op, number_of, write_number, compare_number, operands_by, targets_by, call_number, branch_on, print_op, with_args, arg_targets, code}
+use Rattle.z_lang.specs.Code.{operand, target, one_of, two_of, three_of, four_of, short_op, variable_op, quit_op, function_number, write_number, compare_number, operands_by, targets_by, call_number, branch_on, print_op, with_args, arg_targets, ops_of_acts}
 use Rattle.z_lang.specs.Bodies.{FitsAtom, FitArgs, FitsComparison, FitsStored, AreFit, Opens}
 use Rattle.z_lang.proofs.Effects.{instr_of, write_instr, compare_instr}
 
@@ -85,48 +85,48 @@ three_types a b c = record { first = type_of_operand a; second = type_of_operand
 abbrev four_types : Operand → Operand → Operand → Operand → OperandTypes
 four_types a b c d = record { first = type_of_operand a; second = type_of_operand b; third = type_of_operand c; fourth = type_of_operand d }
 
-one_counted : (row : Row) (a : Operand) → nat_lt 1 row.fewest ≡ false → nat_lt row.most 1 ≡ false → counted row (one_types a) ≡ count_ok 1
-unfolding counted count_of
+one_counted : (row : Row) (a : Operand) → nat_lt 1 row.fewest ≡ false → nat_lt row.most 1 ≡ false → count_in_row row (one_types a) ≡ count_ok 1
+unfolding count_in_row operand_count
 one_counted row a e f = rw (one_present a, e, f) refl
 
-two_counted : (row : Row) (a b : Operand) → nat_lt 2 row.fewest ≡ false → nat_lt row.most 2 ≡ false → counted row (two_types a b) ≡ count_ok 2
-unfolding counted count_of
+two_counted : (row : Row) (a b : Operand) → nat_lt 2 row.fewest ≡ false → nat_lt row.most 2 ≡ false → count_in_row row (two_types a b) ≡ count_ok 2
+unfolding count_in_row operand_count
 two_counted row a b e f = rw (one_present a, one_present b, e, f) refl
 
-three_counted : (row : Row) (a b c : Operand) → nat_lt 3 row.fewest ≡ false → nat_lt row.most 3 ≡ false → counted row (three_types a b c) ≡ count_ok 3
-unfolding counted count_of
+three_counted : (row : Row) (a b c : Operand) → nat_lt 3 row.fewest ≡ false → nat_lt row.most 3 ≡ false → count_in_row row (three_types a b c) ≡ count_ok 3
+unfolding count_in_row operand_count
 three_counted row a b c e f = rw (one_present a, one_present b, one_present c, e, f) refl
 
-four_counted : (row : Row) (a b c d : Operand) → nat_lt 4 row.fewest ≡ false → nat_lt row.most 4 ≡ false → counted row (four_types a b c d) ≡ count_ok 4
-unfolding counted count_of
+four_counted : (row : Row) (a b c d : Operand) → nat_lt 4 row.fewest ≡ false → nat_lt row.most 4 ≡ false → count_in_row row (four_types a b c d) ≡ count_ok 4
+unfolding count_in_row operand_count
 four_counted row a b c d e f = rw (one_present a, one_present b, one_present c, one_present d, e, f) refl
 
 -- an operand within its width
 abbrev Fits : Operand → Type 0
 Fits x = FitsType (type_of_operand x) x
 
-one_table : (number : ℕ) (row : Row) (x : Operand) (store : Option ℕ) → row_of rows_of forms.Variable number (one_types x) ≡ Ok row → number < 64 → nat_lt 1 row.fewest ≡ false → nat_lt row.most 1 ≡ false → Fits x → FitsStore row.store store → FitsBranch row.branch None → row.text ≡ false → IsOfTable rows_of (variable_op number (one_of x) store None)
+one_table : (number : ℕ) (row : Row) (x : Operand) (store : Option ℕ) → row_of player_rows forms.Variable number (one_types x) ≡ Ok row → number < 64 → nat_lt 1 row.fewest ≡ false → nat_lt row.most 1 ≡ false → Fits x → FitsStore row.store store → FitsBranch row.branch None → row.text ≡ false → IsOfTable player_rows (variable_op number (one_of x) store None)
 one_table number row x store known lt few most fx fs fb text = record {
   row = row;
   is = record { known = known; form = lt; count = one_counted row x few most; first = fx; second = refl; third = refl; fourth = refl; store = fs; branch = fb };
   text = subst (λ (b : Bool). FitsText b 0) (sym text) refl;
 }
 
-two_table : (number : ℕ) (row : Row) (x y : Operand) (store : Option ℕ) (branch : Option Branch) → row_of rows_of forms.Variable number (two_types x y) ≡ Ok row → number < 64 → nat_lt 2 row.fewest ≡ false → nat_lt row.most 2 ≡ false → Fits x → Fits y → FitsStore row.store store → FitsBranch row.branch branch → row.text ≡ false → IsOfTable rows_of (variable_op number (two_of x y) store branch)
+two_table : (number : ℕ) (row : Row) (x y : Operand) (store : Option ℕ) (branch : Option Branch) → row_of player_rows forms.Variable number (two_types x y) ≡ Ok row → number < 64 → nat_lt 2 row.fewest ≡ false → nat_lt row.most 2 ≡ false → Fits x → Fits y → FitsStore row.store store → FitsBranch row.branch branch → row.text ≡ false → IsOfTable player_rows (variable_op number (two_of x y) store branch)
 two_table number row x y store branch known lt few most fx fy fs fb text = record {
   row = row;
   is = record { known = known; form = lt; count = two_counted row x y few most; first = fx; second = fy; third = refl; fourth = refl; store = fs; branch = fb };
   text = subst (λ (b : Bool). FitsText b 0) (sym text) refl;
 }
 
-three_table : (number : ℕ) (row : Row) (x y z : Operand) (store : Option ℕ) (branch : Option Branch) → row_of rows_of forms.Variable number (three_types x y z) ≡ Ok row → number < 64 → nat_lt 3 row.fewest ≡ false → nat_lt row.most 3 ≡ false → Fits x → Fits y → Fits z → FitsStore row.store store → FitsBranch row.branch branch → row.text ≡ false → IsOfTable rows_of (variable_op number (three_of x y z) store branch)
+three_table : (number : ℕ) (row : Row) (x y z : Operand) (store : Option ℕ) (branch : Option Branch) → row_of player_rows forms.Variable number (three_types x y z) ≡ Ok row → number < 64 → nat_lt 3 row.fewest ≡ false → nat_lt row.most 3 ≡ false → Fits x → Fits y → Fits z → FitsStore row.store store → FitsBranch row.branch branch → row.text ≡ false → IsOfTable player_rows (variable_op number (three_of x y z) store branch)
 three_table number row x y z store branch known lt few most fx fy fz fs fb text = record {
   row = row;
   is = record { known = known; form = lt; count = three_counted row x y z few most; first = fx; second = fy; third = fz; fourth = refl; store = fs; branch = fb };
   text = subst (λ (b : Bool). FitsText b 0) (sym text) refl;
 }
 
-four_table : (number : ℕ) (row : Row) (x y z u : Operand) (store : Option ℕ) (branch : Option Branch) → row_of rows_of forms.Variable number (four_types x y z u) ≡ Ok row → number < 64 → nat_lt 4 row.fewest ≡ false → nat_lt row.most 4 ≡ false → Fits x → Fits y → Fits z → Fits u → FitsStore row.store store → FitsBranch row.branch branch → row.text ≡ false → IsOfTable rows_of (variable_op number (four_of x y z u) store branch)
+four_table : (number : ℕ) (row : Row) (x y z u : Operand) (store : Option ℕ) (branch : Option Branch) → row_of player_rows forms.Variable number (four_types x y z u) ≡ Ok row → number < 64 → nat_lt 4 row.fewest ≡ false → nat_lt row.most 4 ≡ false → Fits x → Fits y → Fits z → Fits u → FitsStore row.store store → FitsBranch row.branch branch → row.text ≡ false → IsOfTable player_rows (variable_op number (four_of x y z u) store branch)
 four_table number row x y z u store branch known lt few most fx fy fz fu fs fb text = record {
   row = row;
   is = record { known = known; form = lt; count = four_counted row x y z u few most; first = fx; second = fy; third = fz; fourth = fu; store = fs; branch = fb };
@@ -143,19 +143,19 @@ few_code (operands.Large n) = omega arith
 few_code (operands.Small n) = omega arith
 few_code (operands.Variable n) = omega arith
 
-short_table : (number : ℕ) (instr : Instr) (x : Operand) → row_of rows_of forms.Short number (one_types x) ≡ Ok (plain_row instr) → number < 16 → Fits x → IsOfTable rows_of (short_op number x)
+short_table : (number : ℕ) (instr : Instr) (x : Operand) → row_of player_rows forms.Short number (one_types x) ≡ Ok (plain_row instr) → number < 16 → Fits x → IsOfTable player_rows (short_op number x)
 short_table number instr x known lt fx = record {
   row = plain_row instr;
   is = record { known = known; form = (lt, refl, refl, refl, (λ (e : 128 + 16 * code_of (type_of_operand x) + number ≡ 190). (let c = few_code x in omega arith))); count = one_counted _ x refl refl; first = fx; second = refl; third = refl; fourth = refl; store = tt; branch = tt };
   text = refl;
 }
 
-ret_known : (x : Operand) → row_of rows_of forms.Short 11 (one_types x) ≡ Ok (plain_row (instrs.One one.Ret))
+ret_known : (x : Operand) → row_of player_rows forms.Short 11 (one_types x) ≡ Ok (plain_row (instrs.One one.Ret))
 ret_known (operands.Large n) = refl
 ret_known (operands.Small n) = refl
 ret_known (operands.Variable n) = refl
 
-paddr_known : (x : Operand) → row_of rows_of forms.Short 13 (one_types x) ≡ Ok (plain_row (instrs.One one.PrintPaddr))
+paddr_known : (x : Operand) → row_of player_rows forms.Short 13 (one_types x) ≡ Ok (plain_row (instrs.One one.PrintPaddr))
 paddr_known (operands.Large n) = refl
 paddr_known (operands.Small n) = refl
 paddr_known (operands.Variable n) = refl
@@ -165,7 +165,7 @@ paddr_known (operands.Variable n) = refl
 abbrev function_row : Function → Row
 function_row f = record { instr = instr_of f; fewest = 2; most = 2; store = true; branch = false; text = false }
 
-function_known : (f : Function) (s : OperandTypes) → row_of rows_of forms.Variable (number_of f) s ≡ Ok (function_row f)
+function_known : (f : Function) (s : OperandTypes) → row_of player_rows forms.Variable (function_number f) s ≡ Ok (function_row f)
 function_known functions.Add s = refl
 function_known functions.Sub s = refl
 function_known functions.Mul s = refl
@@ -176,7 +176,7 @@ function_known functions.Or s = refl
 function_known functions.Word s = refl
 function_known functions.Byte s = refl
 
-function_small : (f : Function) → number_of f < 64
+function_small : (f : Function) → function_number f < 64
 function_small functions.Add = omega arith
 function_small functions.Sub = omega arith
 function_small functions.Mul = omega arith
@@ -190,7 +190,7 @@ function_small functions.Byte = omega arith
 abbrev write_row : Width → Row
 write_row k = record { instr = write_instr k; fewest = 3; most = 3; store = false; branch = false; text = false }
 
-write_table : (k : Width) (x y z : Operand) → Fits x → Fits y → Fits z → IsOfTable rows_of (variable_op (write_number k) (three_of x y z) None None)
+write_table : (k : Width) (x y z : Operand) → Fits x → Fits y → Fits z → IsOfTable player_rows (variable_op (write_number k) (three_of x y z) None None)
 write_table widths.Word x y z fx fy fz = three_table 33 (write_row widths.Word) x y z None None refl (omega arith) refl refl fx fy fz tt tt refl
 write_table widths.Byte x y z fx fy fz = three_table 34 (write_row widths.Byte) x y z None None refl (omega arith) refl refl fx fy fz tt tt refl
 
@@ -200,7 +200,7 @@ call_row None = record { instr = instrs.Several several.CallVn; fewest = 1; most
 
 module _ (counts : Counts) (all : List LOp) where
   -- an op without labels
-  plain_open : (op : Op) (ts : List (Option Target)) → IsOfTable rows_of op → op.text ≡ 0 → OpenIf counts all (nth ts 0) op.operands.first → OpenIf counts all (nth ts 1) op.operands.second → OpenIf counts all (nth ts 2) op.operands.third → OpenIf counts all (nth ts 3) op.operands.fourth → IsOpen counts all op ts None
+  plain_open : (op : Op) (ts : List (Option Target)) → IsOfTable player_rows op → op.text ≡ 0 → OpenIf counts all (nth ts 0) op.operands.first → OpenIf counts all (nth ts 1) op.operands.second → OpenIf counts all (nth ts 2) op.operands.third → OpenIf counts all (nth ts 3) op.operands.fourth → IsOpen counts all op ts None
   plain_open op ts table text a b c d = record { table = table; text = text; first = a; second = b; third = c; fourth = d; branch_open = tt }
 
   compare_row : Comparison → ℕ → Row
@@ -265,7 +265,7 @@ module _ (counts : Counts) (all : List LOp) where
   print_open prints.Text a fa = plain_open _ _ (short_table 13 (instrs.One one.PrintPaddr) (operand a) (paddr_known (operand a)) (omega arith) (atom_fits counts a fa)) refl (atom_open counts all a fa) tt tt tt
 
   quit_open : IsOpen counts all quit_op (None ∷ None ∷ None ∷ None ∷ []) None
-  unfolding counted count_of
+  unfolding count_in_row operand_count
   quit_open = plain_open _ _ (record {
     row = record { instr = instrs.Zero none.Quit; fewest = 0; most = 0; store = false; branch = false; text = false };
     is = record { known = refl; form = (omega arith, refl, refl, refl, (λ (e : 186 ≡ 190). (omega arith))); count = refl; first = refl; second = refl; third = refl; fourth = refl; store = tt; branch = tt };
@@ -276,7 +276,7 @@ module _ (counts : Counts) (all : List LOp) where
   call_stored None h = tt
   call_stored (Some v) h = h
 
-  call_table : (v : Option ℕ) (a : Atom) (xs : Args) → FitsStored v → FitsAtom counts a → FitArgs counts xs → IsOfTable rows_of (variable_op (call_number v) (with_args (operand a) xs) v None)
+  call_table : (v : Option ℕ) (a : Atom) (xs : Args) → FitsStored v → FitsAtom counts a → FitArgs counts xs → IsOfTable player_rows (variable_op (call_number v) (with_args (operand a) xs) v None)
   call_table None a args.Zero lt fa fx = one_table 57 (call_row None) (operand a) None refl (omega arith) refl refl (atom_fits counts a fa) tt tt refl
   call_table None a (args.One b) lt fa fx = two_table 57 (call_row None) (operand a) (operand b) None None refl (omega arith) refl refl (atom_fits counts a fa) (atom_fits counts b fx) tt tt refl
   call_table None a (args.Two b c) lt fa fx = three_table 57 (call_row None) (operand a) (operand b) (operand c) None None refl (omega arith) refl refl (atom_fits counts a fa) (atom_fits counts b fx.0) (atom_fits counts c fx.1) tt tt refl
@@ -294,7 +294,7 @@ module _ (counts : Counts) (all : List LOp) where
 
   -- ---- bodies
 
-  pub body_open : (body : List Act) → AreFit counts all body → AreOpen counts all (code body)
+  pub body_open : (body : List Act) → AreFit counts all body → AreOpen counts all (ops_of_acts body)
   body_open [] h = tt
   body_open (acts.Label l ∷ more) h = (h.0, body_open more h.1)
   body_open (acts.Goto l ∷ more) h = (plain_open _ _ (short_table 12 (instrs.One one.Jump) (operands.Large 0) refl (omega arith) (omega arith)) refl (refl, h.0) tt tt tt, body_open more h.1)
@@ -304,7 +304,7 @@ module _ (counts : Counts) (all : List LOp) where
     body_open more h.1,
   )
   body_open (acts.Compute v f a b ∷ more) h = (
-    plain_open _ _ (two_table (number_of f) (function_row f) (operand a) (operand b) (Some v) None (function_known f (two_types (operand a) (operand b))) (function_small f) refl refl (atom_fits counts a h.0.1) (atom_fits counts b h.0.2) h.0.0 tt refl) refl (atom_open counts all a h.0.1) (atom_open counts all b h.0.2) tt tt,
+    plain_open _ _ (two_table (function_number f) (function_row f) (operand a) (operand b) (Some v) None (function_known f (two_types (operand a) (operand b))) (function_small f) refl refl (atom_fits counts a h.0.1) (atom_fits counts b h.0.2) h.0.0 tt refl) refl (atom_open counts all a h.0.1) (atom_open counts all b h.0.2) tt tt,
     body_open more h.1,
   )
   body_open (acts.Write w a b c ∷ more) h = (
@@ -325,4 +325,4 @@ module _ (counts : Counts) (all : List LOp) where
   body_open (acts.Quit ∷ more) h = (quit_open, body_open more h.1)
 
 pub opens : (counts : Counts) (body : List Act) → Opens counts body
-opens counts body = record { opens = body_open counts (code body) body }
+opens counts body = record { opens = body_open counts (ops_of_acts body) body }

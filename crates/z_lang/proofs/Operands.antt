@@ -10,7 +10,7 @@ use Rattle.z_model.specs.declared.op.Operand.{Operand}
 use Rattle.z_model.specs.declared.op.Operand.TheVariants as operands
 use Rattle.z_model.specs.declared.end.Args.{Args}
 use Rattle.z_model.specs.Decode.{◌>>=◌, or_fault}
-use Rattle.z_model.specs.Machine.{Machine, popped, pushed, variable_of, value_of, value_if, values_of, stored, local_set, placed}
+use Rattle.z_model.specs.Machine.{Machine, popped, pushed, variable_of, operand_value, value_if, operand_values, stored, local_set, placed}
 use Rattle.z_code.specs.Targets.{fill}
 use Rattle.z_lang.specs.declared.act.Atom.{Atom}
 use Rattle.z_lang.specs.declared.act.Atom.TheVariants as atoms
@@ -32,9 +32,9 @@ variable_is p s c pc v x e = by_tests (v == 0) (nat_lt v 16) (slice_get s.locals
     by_tests false false r h = ap (λ (n : ℕ). the_word n (machine_at s c pc)) (same_Some _ x h)
 
 -- what the machine takes for an operand whose names are filled in
-pub operand_is : (p : Program) (s : State) (c : Context) (pc : ℕ) (labels : ℕ → ℕ) (end : ℕ) (a : Atom) (x : ℕ) → value p s a ≡ Some x → value_of p.world.layout (machine_at s c pc) (fill p.names labels end (target a) (operand a)) ≡ the_word x (machine_at s c pc)
-unfolding value_of
-operand_is p s c pc labels end (atoms.Num n) x e = cond_both (nat_lt n 256) (operands.Small n) (operands.Large n) (λ (o : Operand). value_of p.world.layout (machine_at s c pc) o ≡ the_word x (machine_at s c pc)) (λ t. ap (λ (i : ℕ). the_word i (machine_at s c pc)) (same_Some n x e)) (λ t. ap (λ (i : ℕ). the_word i (machine_at s c pc)) (same_Some n x e))
+pub operand_is : (p : Program) (s : State) (c : Context) (pc : ℕ) (labels : ℕ → ℕ) (end : ℕ) (a : Atom) (x : ℕ) → value p s a ≡ Some x → operand_value p.world.layout (machine_at s c pc) (fill p.names labels end (target a) (operand a)) ≡ the_word x (machine_at s c pc)
+unfolding operand_value
+operand_is p s c pc labels end (atoms.Num n) x e = cond_both (nat_lt n 256) (operands.Small n) (operands.Large n) (λ (o : Operand). operand_value p.world.layout (machine_at s c pc) o ≡ the_word x (machine_at s c pc)) (λ t. ap (λ (i : ℕ). the_word i (machine_at s c pc)) (same_Some n x e)) (λ t. ap (λ (i : ℕ). the_word i (machine_at s c pc)) (same_Some n x e))
 operand_is p s c pc labels end (atoms.Var v) x e = variable_is p s c pc v x e
 operand_is p s c pc labels end (atoms.Routine r) x e = ap (λ (i : ℕ). the_word i (machine_at s c pc)) (same_Some _ x e)
 operand_is p s c pc labels end (atoms.Table t) x e = ap (λ (i : ℕ). the_word i (machine_at s c pc)) (same_Some _ x e)
@@ -48,24 +48,24 @@ args_of n x y z u = record { count = n; first = x; second = y; third = z; fourth
 abbrev pub the_args : Args → Machine → Result (Args × Machine) ZFault
 the_args a m = Ok (a, m)
 
-pub values_none : (layout : Layout) (m : Machine) → values_of layout m none_of ≡ the_args (args_of 0 0 0 0 0) m
-unfolding values_of value_if
+pub values_none : (layout : Layout) (m : Machine) → operand_values layout m none_of ≡ the_args (args_of 0 0 0 0 0) m
+unfolding operand_values value_if
 values_none layout m = refl
 
-pub values_one : (layout : Layout) (m : Machine) (a : Operand) (x : ℕ) → value_of layout m a ≡ the_word x m → values_of layout m (one_of a) ≡ the_args (args_of 1 x 0 0 0) m
-unfolding values_of value_if
+pub values_one : (layout : Layout) (m : Machine) (a : Operand) (x : ℕ) → operand_value layout m a ≡ the_word x m → operand_values layout m (one_of a) ≡ the_args (args_of 1 x 0 0 0) m
+unfolding operand_values value_if
 values_one layout m a x e = rw e refl
 
-pub values_two : (layout : Layout) (m : Machine) (a b : Operand) (x y : ℕ) → value_of layout m a ≡ the_word x m → value_of layout m b ≡ the_word y m → values_of layout m (two_of a b) ≡ the_args (args_of 2 x y 0 0) m
-unfolding values_of value_if
+pub values_two : (layout : Layout) (m : Machine) (a b : Operand) (x y : ℕ) → operand_value layout m a ≡ the_word x m → operand_value layout m b ≡ the_word y m → operand_values layout m (two_of a b) ≡ the_args (args_of 2 x y 0 0) m
+unfolding operand_values value_if
 values_two layout m a b x y e f = rw (e, f) refl
 
-pub values_three : (layout : Layout) (m : Machine) (a b d : Operand) (x y z : ℕ) → value_of layout m a ≡ the_word x m → value_of layout m b ≡ the_word y m → value_of layout m d ≡ the_word z m → values_of layout m (three_of a b d) ≡ the_args (args_of 3 x y z 0) m
-unfolding values_of value_if
+pub values_three : (layout : Layout) (m : Machine) (a b d : Operand) (x y z : ℕ) → operand_value layout m a ≡ the_word x m → operand_value layout m b ≡ the_word y m → operand_value layout m d ≡ the_word z m → operand_values layout m (three_of a b d) ≡ the_args (args_of 3 x y z 0) m
+unfolding operand_values value_if
 values_three layout m a b d x y z e f g = rw (e, f, g) refl
 
-pub values_four : (layout : Layout) (m : Machine) (a b d h : Operand) (x y z u : ℕ) → value_of layout m a ≡ the_word x m → value_of layout m b ≡ the_word y m → value_of layout m d ≡ the_word z m → value_of layout m h ≡ the_word u m → values_of layout m (four_of a b d h) ≡ the_args (args_of 4 x y z u) m
-unfolding values_of value_if
+pub values_four : (layout : Layout) (m : Machine) (a b d h : Operand) (x y z u : ℕ) → operand_value layout m a ≡ the_word x m → operand_value layout m b ≡ the_word y m → operand_value layout m d ≡ the_word z m → operand_value layout m h ≡ the_word u m → operand_values layout m (four_of a b d h) ≡ the_args (args_of 4 x y z u) m
+unfolding operand_values value_if
 values_four layout m a b d h x y z u e f g i = rw (e, f, g, i) refl
 
 -- ---- stores

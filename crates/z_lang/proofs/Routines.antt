@@ -10,11 +10,11 @@ use Rattle.z_model.specs.declared.table.Several.TheVariants as several
 use Rattle.z_model.specs.declared.end.Args.{Args as ZArgs}
 use Rattle.z_model.specs.declared.end.Halt.TheVariants.{AtQuit, AtInput}
 use Rattle.z_model.specs.Flow.{zeros, called}
-use Rattle.z_model.specs.Machine.{Machine, values_of, words_in}
+use Rattle.z_model.specs.Machine.{Machine, operand_values, words_in}
 use Rattle.z_model.specs.Run.{ZGiven, ZState, zstep, next_by, word_at}
 use Rattle.z_model.specs.Step.{do_instr, do_several}
 use Rattle.z_code.specs.declared.target.Target.{Target}
-use Rattle.z_code.specs.Targets.{filled, Placed, Names}
+use Rattle.z_code.specs.Targets.{filled, OpsAt, Names}
 use Rattle.z_lang.specs.declared.act.Atom.{Atom}
 use Rattle.z_lang.specs.declared.act.Args.{Args}
 use Rattle.z_lang.specs.declared.act.Args.TheVariants as args
@@ -23,10 +23,10 @@ use Rattle.z_lang.specs.declared.act.Act.{Act}
 use Rattle.z_lang.specs.declared.act.Act.TheVariants as acts
 use Rattle.z_lang.specs.State.{State, Program, value}
 use Rattle.z_lang.specs.Acts.{does, arguments}
-use Rattle.z_lang.specs.Runs.{Outcome, Stops, Rests, Runs, rests, at_label, goes as jumps, taken, passed, done, calls, calls_last, ends_input, returns, quits, behind, entered, left_with}
-use Rattle.z_lang.specs.Code.{variable_op, call_number, quit_op, with_args, arg_targets, operand, target, code}
+use Rattle.z_lang.specs.Runs.{ActsOutcome, Stops, Rests, ActsRun, rests, at_label, goes as jumps, taken, passed, done, calls, calls_last, ends_input, returns, quits, behind_label, routine_entered, left_with}
+use Rattle.z_lang.specs.Code.{variable_op, call_number, quit_op, with_args, arg_targets, operand, target, ops_of_acts}
 use Rattle.z_lang.specs.Leads.{Leads}
-use Rattle.z_lang.specs.Standing.{StandsAt, Stands, IsKept, Context, machine_at, outside, state_at, HasRoom, Follows}
+use Rattle.z_lang.specs.Standing.{StandsAt, RoutinesStand, IsKept, Context, machine_at, machine_state, state_at, HasRoom, Follows}
 use Rattle.z_lang.proofs.Stretches.{leads_none, leads_step, ends_last}
 use Rattle.z_lang.proofs.Kept.{kept_get, step_kept, stretch_kept}
 use Rattle.z_lang.proofs.Operands.{operand_is, values_one, values_two, values_three, values_four, args_of, the_args}
@@ -36,16 +36,16 @@ use Rattle.z_lang.proofs.Follows.{comes_step, comes_then, Here, end_at, row_by, 
 
 -- ---- where a label's acts stand
 
-behind_placed : (story : List ℕ) (names : Names) (labels : ℕ → ℕ) (l : ℕ) (body there : List Act) (at : ℕ) → behind l body ≡ Some there → Placed story names labels at (code body) → Placed story names labels (labels l) (code there) × (at ≤ labels l)
-unfolding behind
+behind_placed : (story : List ℕ) (names : Names) (labels : ℕ → ℕ) (l : ℕ) (body there : List Act) (at : ℕ) → behind_label l body ≡ Some there → OpsAt story names labels at (ops_of_acts body) → OpsAt story names labels (labels l) (ops_of_acts there) × (at ≤ labels l)
+unfolding behind_label
 behind_placed story names labels l [] there at e h = absurd (cc)
 behind_placed story names labels l (acts.Label k ∷ more) there at e h = by_test (k == l) refl e (λ i. behind_placed story names labels l more there at i h.1)
   where
-    by_test : (t : Bool) → (k == l) ≡ t → (if t then Some more else behind l more) ≡ Some there → (behind l more ≡ Some there → Placed story names labels (labels l) (code there) × (at ≤ labels l)) → Placed story names labels (labels l) (code there) × (at ≤ labels l)
+    by_test : (t : Bool) → (k == l) ≡ t → (if t then Some more else behind_label l more) ≡ Some there → (behind_label l more ≡ Some there → OpsAt story names labels (labels l) (ops_of_acts there) × (at ≤ labels l)) → OpsAt story names labels (labels l) (ops_of_acts there) × (at ≤ labels l)
     by_test true q i more_is =
         let same = eqb-true k l q in
         let here : labels l ≡ at = ap labels (sym same) ∙ h.0 in
-        (subst (λ (a : ℕ). Placed story names labels a (code there)) (sym here) (subst (λ (x : List Act). Placed story names labels at (code x)) (same_Some more there i) h.1), omega arith)
+        (subst (λ (a : ℕ). OpsAt story names labels a (ops_of_acts there)) (sym here) (subst (λ (x : List Act). OpsAt story names labels at (ops_of_acts x)) (same_Some more there i) h.1), omega arith)
     by_test false q i more_is = more_is i
 behind_placed story names labels l (acts.Goto k ∷ more) there at e h = let r = behind_placed story names labels l more there _ e h.1 in (r.0, omega arith)
 behind_placed story names labels l (acts.When t k ∷ more) there at e h = let r = behind_placed story names labels l more there _ e h.1 in (r.0, omega arith)
@@ -82,7 +82,7 @@ many (args.Three a b c) = 4
 abbrev triple : ℕ → ℕ → ℕ → ℕ × ℕ × ℕ
 triple x y z = (x, y, z)
 
-args_values : (p : Program) (s : State) (c : Context) (pc : ℕ) (labels : ℕ → ℕ) (end : ℕ) (v : Option ℕ) (a : Atom) (x : ℕ) (xs : Args) (ys : ℕ × ℕ × ℕ) → value p s a ≡ Some x → arguments p s xs ≡ Some ys → values_of p.world.layout (machine_at s c pc) (filled p.names labels end (call_op v a xs) (target a ∷ arg_targets xs) None).operands ≡ the_args (args_of (many xs) x ys.0 ys.1 ys.2) (machine_at s c pc)
+args_values : (p : Program) (s : State) (c : Context) (pc : ℕ) (labels : ℕ → ℕ) (end : ℕ) (v : Option ℕ) (a : Atom) (x : ℕ) (xs : Args) (ys : ℕ × ℕ × ℕ) → value p s a ≡ Some x → arguments p s xs ≡ Some ys → operand_values p.world.layout (machine_at s c pc) (filled p.names labels end (call_op v a xs) (target a ∷ arg_targets xs) None).operands ≡ the_args (args_of (many xs) x ys.0 ys.1 ys.2) (machine_at s c pc)
 args_values p s c pc labels end v a x args.Zero ys e f =
     values_one p.world.layout (machine_at s c pc) _ x (operand_is p s c pc labels end a x e)
     ∙ ap (λ (t : ℕ × ℕ × ℕ). the_args (args_of 1 x t.0 t.1 t.2) (machine_at s c pc)) (same_Some (triple 0 0 0) ys f)
@@ -107,13 +107,13 @@ unfolding do_instr do_several
 calls_by w z end word (Some v) op a m e = rw e refl
 calls_by w z end word None op a m e = rw e refl
 
-module _ (p : Program) (story : List ℕ) (stands : Stands p story) where
+module _ (p : Program) (story : List ℕ) (stands : RoutinesStand p story) where
   abbrev pub base : ℕ
   base = p.world.layout.base
 
   -- the first instruction of a routine comes next
   pub call_step : (s : State) (c : Context) (labels : ℕ → ℕ) (pc : ℕ) (v : Option ℕ) (x : ℕ) (a : Atom) (xs : Args) (ys : ℕ × ℕ × ℕ) (r : Routine) → Here p story labels s pc (call_op v a xs) (target a ∷ arg_targets xs) None → value p s a ≡ Some x → arguments p s xs ≡ Some ys → StandsAt p story x r → length c.callers + 1 < 8192 → words_in c.callers + length s.locals + r.locals ≤ 65536 →
-      zstep p.world (state_at s c pc) ≡ on (state_at (entered s r.locals ys) (within s c (end_at pc (call_op v a xs)) v (many xs - 1)) (8 * x + 1))
+      zstep p.world (state_at s c pc) ≡ on (state_at (routine_entered s r.locals ys) (within s c (end_at pc (call_op v a xs)) v (many xs - 1)) (8 * x + 1))
   call_step s c labels pc v x a xs ys r here e f at frames room =
       let end = end_at pc (call_op v a xs) in
       by_row p story labels s c pc (call_op v a xs) (target a ∷ arg_targets xs) None (args_of (many xs) x ys.0 ys.1 ys.2) _ stands.laid_out here (args_values p s c pc labels end v a x xs ys e f) (call_rows v a xs p.names labels end (target a ∷ arg_targets xs))
@@ -121,17 +121,17 @@ module _ (p : Program) (story : List ℕ) (stands : Stands p story) where
 
   -- ---- a stretch of acts
 
-  step_follows : (labels : ℕ → ℕ) (c : Context) (o : Outcome) (s' : State) (n : ℕ) (z z1 : ZState) → zstep p.world z ≡ on z1 → Follows p story labels c o s' n z1 → Follows p story labels c o s' (suc n) z
+  step_follows : (labels : ℕ → ℕ) (c : Context) (o : ActsOutcome) (s' : State) (n : ℕ) (z z1 : ZState) → zstep p.world z ≡ on z1 → Follows p story labels c o s' n z1 → Follows p story labels c o s' (suc n) z
   step_follows labels c o s' n z z1 e h = record { kept = h.kept; comes = comes_step p story labels c o s' n z z1 e h.comes }
 
   -- a single act is done, and the others stand behind it
   record Done (labels : ℕ → ℕ) (c : Context) (s s1 : State) (pc : ℕ) (more : List Act) : Type 0 where
     next : ℕ
     step : zstep p.world (state_at s c pc) ≡ on (state_at s1 c next)
-    placed : Placed story p.names labels next (code more)
+    placed : OpsAt story p.names labels next (ops_of_acts more)
     from : base ≤ next
 
-  act_done : (c : Context) (labels : ℕ → ℕ) (s s1 : State) (pc : ℕ) (act : Act) (more : List Act) → Placed story p.names labels pc (code (act ∷ more)) → base ≤ pc → IsKept base story s.memory → does p act s ≡ Some s1 → Done labels c s s1 pc more
+  act_done : (c : Context) (labels : ℕ → ℕ) (s s1 : State) (pc : ℕ) (act : Act) (more : List Act) → OpsAt story p.names labels pc (ops_of_acts (act ∷ more)) → base ≤ pc → IsKept base story s.memory → does p act s ≡ Some s1 → Done labels c s s1 pc more
   act_done c labels s s1 pc (acts.Copy v a) more h le k e = record { next = _; step = copy_step p story labels c stands.laid_out s s1 pc v a (record { fits = h.0; kept = k; from = le }) e; placed = h.1; from = omega arith }
   act_done c labels s s1 pc (acts.Compute v f a b) more h le k e = record { next = _; step = compute_step p story labels c stands.laid_out s s1 pc v f a b (record { fits = h.0; kept = k; from = le }) e; placed = h.1; from = omega arith }
   act_done c labels s s1 pc (acts.Write w a b d) more h le k e = record { next = _; step = write_step p story labels c stands.laid_out s s1 pc w a b d (record { fits = h.0; kept = k; from = le }) e; placed = h.1; from = omega arith }
@@ -141,7 +141,7 @@ module _ (p : Program) (story : List ℕ) (stands : Stands p story) where
   act_done c labels s s1 pc act more h le k e = absurd (cc)
 
   -- the room that is left in the routine that is called
-  pub room_within : (c : Context) (s : State) (f w f' w' end : ℕ) (v : Option ℕ) (k n : ℕ) (ys : ℕ × ℕ × ℕ) → HasRoom c s f w → f' < f → n + w' ≤ w → n ≤ 15 → HasRoom (within s c end v k) (entered s n ys) f' w'
+  pub room_within : (c : Context) (s : State) (f w f' w' end : ℕ) (v : Option ℕ) (k n : ℕ) (ys : ℕ × ℕ × ℕ) → HasRoom c s f w → f' < f → n + w' ≤ w → n ≤ 15 → HasRoom (within s c end v k) (routine_entered s n ys) f' w'
   room_within c s f w f' w' end v k n ys room lt le few =
       let a = room.frames in
       let b = room.words in
@@ -151,7 +151,7 @@ module _ (p : Program) (story : List ℕ) (stands : Stands p story) where
   room_kept : (c : Context) (s s1 : State) (f w : ℕ) → length s1.locals ≡ length s.locals → HasRoom c s f w → HasRoom c s1 f w
   room_kept c s s1 f w e room = let a = room.words in record { frames = room.frames; words = omega arith }
 
-  pub follows : {f w n : ℕ} {body acts : List Act} {s s' : State} {o : Outcome} (c : Context) (labels : ℕ → ℕ) (start pc : ℕ) → Placed story p.names labels start (code body) → base ≤ start → Placed story p.names labels pc (code acts) → base ≤ pc → IsKept base story s.memory → HasRoom c s f w → Runs p f w body acts s o s' n → Follows p story labels c o s' n (state_at s c pc)
+  pub follows : {f w n : ℕ} {body acts : List Act} {s s' : State} {o : ActsOutcome} (c : Context) (labels : ℕ → ℕ) (start pc : ℕ) → OpsAt story p.names labels start (ops_of_acts body) → base ≤ start → OpsAt story p.names labels pc (ops_of_acts acts) → base ≤ pc → IsKept base story s.memory → HasRoom c s f w → ActsRun p f w body acts s o s' n → Follows p story labels c o s' n (state_at s c pc)
   follows c labels start pc pb sb pa ba k room (rests {s = s}) = record { kept = k; comes = record { pc = pc; placed = pa; from = ba; leads = leads_none p.world (state_at s c pc) } }
   follows c labels start pc pb sb pa ba k room (at_label r) = follows c labels start pc pb sb pa.1 ba k room r
   follows {s = s} {s' = s'} {o = o} c labels start pc pb sb pa ba k room (jumps {l = l} {n = n} {body = body} {there = there} e r) =
@@ -177,8 +177,8 @@ module _ (p : Program) (story : List ℕ) (stands : Stands p story) where
       let routine = follows within' place.labels (8 * x + 1) (8 * x + 1) place.code_is (omega arith) place.code_is (omega arith) k (room_within c s f w f' w' end v (many xs - 1) r.locals ys room lt le place.few) inner in
       let put_is = put_if_keeps p v y (left_with s s1) s2 stored in
       let back = routine.comes (machine_at s2 c end) (call_returns p s s1 s2 c end v (many xs - 1) y stored) in
-      let back2 = subst (λ (z : ZState). Leads p.world n (state_at (entered s r.locals ys) within' (8 * x + 1)) z) (outside_same (left_with s s1) s2 (machine_at s2 c end) put_is.same) back in
-      let all = leads_step p.world n (state_at s c pc) (state_at (entered s r.locals ys) within' (8 * x + 1)) (state_at s2 c end) begins back2 in
+      let back2 = subst (λ (z : ZState). Leads p.world n (state_at (routine_entered s r.locals ys) within' (8 * x + 1)) z) (outside_same (left_with s s1) s2 (machine_at s2 c end) put_is.same) back in
+      let all = leads_step p.world n (state_at s c pc) (state_at (routine_entered s r.locals ys) within' (8 * x + 1)) (state_at s2 c end) begins back2 in
       let kept2 = stretch_kept p.world story (suc n) (state_at s c pc) (state_at s2 c end) stands.laid_out.laid all k in
       let later = follows c labels start end pb sb pa.1 (omega arith) kept2 (room_kept c s s2 f w put_is.locals room) rest in
       record { kept = later.kept; comes = comes_then p story labels c o s' (suc n) n' (state_at s c pc) (state_at s2 c end) all later.comes }
@@ -191,16 +191,16 @@ module _ (p : Program) (story : List ℕ) (stands : Stands p story) where
       let begins = call_step s c labels pc v x a xs ys r (record { fits = pa.0; kept = k; from = ba }) va vs place (omega arith) (omega arith) in
       let from = place.within in
       let routine = follows within' place.labels (8 * x + 1) (8 * x + 1) place.code_is (omega arith) place.code_is (omega arith) k (room_within c s f w f' w' end v (many xs - 1) r.locals ys room lt le place.few) inner in
-      record { kept = routine.kept; comes = comes_step p story labels c (Stops halt) s' n (state_at s c pc) (state_at (entered s r.locals ys) within' (8 * x + 1)) begins routine.comes }
+      record { kept = routine.kept; comes = comes_step p story labels c (Stops halt) s' n (state_at s c pc) (state_at (routine_entered s r.locals ys) within' (8 * x + 1)) begins routine.comes }
   follows c labels start pc pb sb pa ba k room (ends_input {v = v} {x = x} {most = most} {a = a} {s = s} {tried = tried} e r t none) =
       record { kept = k; comes = (state_at s c (end_at pc (read_op p story labels c stands.laid_out v a)), refl, ends_last p.world (state_at s c pc) (state_at s c (end_at pc (read_op p story labels c stands.laid_out v a))) AtInput (input_step p story labels c stands.laid_out s tried pc v x most a (record { fits = pa.0; kept = k; from = ba }) e r t none)) }
   follows c labels start pc pb sb pa ba k room (returns {x = x} {a = a} {s = s} e) =
-      record { kept = k; comes = λ m r. leads_step p.world 0 (state_at s c pc) (outside s m) (outside s m) (return_step p story labels c stands.laid_out s pc x a m (record { fits = pa.0; kept = k; from = ba }) e r) (leads_none p.world (outside s m)) }
+      record { kept = k; comes = λ m r. leads_step p.world 0 (state_at s c pc) (machine_state s m) (machine_state s m) (return_step p story labels c stands.laid_out s pc x a m (record { fits = pa.0; kept = k; from = ba }) e r) (leads_none p.world (machine_state s m)) }
   follows c labels start pc pb sb pa ba k room (quits {s = s}) =
       record { kept = k; comes = (state_at s c (end_at pc quit_op), refl, ends_last p.world (state_at s c pc) (state_at s c (end_at pc quit_op)) AtQuit (quit_step p story labels c stands.laid_out s pc (record { fits = pa.0; kept = k; from = ba }))) }
 
 -- a whole routine
-pub routine_follows : (p : Program) (story : List ℕ) → Stands p story → (x : ℕ) (r : Routine) → p.routine_at x ≡ Some r → (labels : ℕ → ℕ) → Placed story p.names labels (8 * x + 1) (code r.body) → (c : Context) (f w n : ℕ) (s s' : State) (o : Outcome) → IsKept p.world.layout.base story s.memory → HasRoom c s f w → Runs p f w r.body r.body s o s' n → Follows p story labels c o s' n (state_at s c (8 * x + 1))
+pub routine_follows : (p : Program) (story : List ℕ) → RoutinesStand p story → (x : ℕ) (r : Routine) → p.routine_at x ≡ Some r → (labels : ℕ → ℕ) → OpsAt story p.names labels (8 * x + 1) (ops_of_acts r.body) → (c : Context) (f w n : ℕ) (s s' : State) (o : ActsOutcome) → IsKept p.world.layout.base story s.memory → HasRoom c s f w → ActsRun p f w r.body r.body s o s' n → Follows p story labels c o s' n (state_at s c (8 * x + 1))
 routine_follows p story stands x r at labels placed c f w n s s' o k room runs =
     let place = stands.each x r at in
     let from = place.within in
@@ -208,15 +208,15 @@ routine_follows p story stands x r at labels placed c f w n s s' o k room runs =
 
 -- ---- stretches of acts, one behind another
 
-in_count : (p : Program) (f w n n' : ℕ) (body acts : List Act) (s s' : State) (o : Outcome) → n ≡ n' → Runs p f w body acts s o s' n → Runs p f w body acts s o s' n'
-in_count p f w n n' body acts s s' o e r = subst (λ (i : ℕ). Runs p f w body acts s o s' i) e r
+in_count : (p : Program) (f w n n' : ℕ) (body acts : List Act) (s s' : State) (o : ActsOutcome) → n ≡ n' → ActsRun p f w body acts s o s' n → ActsRun p f w body acts s o s' n'
+in_count p f w n n' body acts s s' o e r = subst (λ (i : ℕ). ActsRun p f w body acts s o s' i) e r
 
 same_acts : (xs ys : List Act) → Rests xs ≡ Rests ys → xs ≡ ys
 same_acts xs ys e = cc
 
 -- Acts that come to others, and what these come to.
-pub runs_then : (p : Program) (m : ℕ) (next : List Act) (s' : State) (o : Outcome) {f w n : ℕ} {body acts : List Act} {s s1 : State} {o1 : Outcome} → o1 ≡ Rests next → Runs p f w body acts s o1 s1 n → Runs p f w body next s1 o s' m → Runs p f w body acts s o s' (n + m)
-runs_then p m next s' o e (rests {f = f} {w = w} {body = body} {acts = acts} {s = s}) later = in_count p f w m (0 + m) body acts s s' o (omega arith) (subst (λ (xs : List Act). Runs p f w body xs s o s' m) (sym (same_acts acts next e)) later)
+pub runs_then : (p : Program) (m : ℕ) (next : List Act) (s' : State) (o : ActsOutcome) {f w n : ℕ} {body acts : List Act} {s s1 : State} {o1 : ActsOutcome} → o1 ≡ Rests next → ActsRun p f w body acts s o1 s1 n → ActsRun p f w body next s1 o s' m → ActsRun p f w body acts s o s' (n + m)
+runs_then p m next s' o e (rests {f = f} {w = w} {body = body} {acts = acts} {s = s}) later = in_count p f w m (0 + m) body acts s s' o (omega arith) (subst (λ (xs : List Act). ActsRun p f w body xs s o s' m) (sym (same_acts acts next e)) later)
 runs_then p m next s' o e (at_label r) later = at_label (runs_then p m next s' o e r later)
 runs_then p m next s' o e (jumps {f = f} {w = w} {l = l} {n = n} {body = body} {more = more} {s = s} b r) later = in_count p f w (suc (n + m)) (suc n + m) body _ s s' o (omega arith) (jumps b (runs_then p m next s' o e r later))
 runs_then p m next s' o e (taken {f = f} {w = w} {n = n} {body = body} {s = s} a b r) later = in_count p f w (suc (n + m)) (suc n + m) body _ s s' o (omega arith) (taken a b (runs_then p m next s' o e r later))

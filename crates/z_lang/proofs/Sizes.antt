@@ -13,7 +13,7 @@ use Rattle.z_lang.specs.declared.act.Comparison.TheVariants as comparisons
 use Rattle.z_lang.specs.declared.act.Args.TheVariants as args
 use Rattle.z_lang.specs.declared.act.Act.{Act}
 use Rattle.z_lang.specs.declared.act.Act.TheVariants as acts
-use Rattle.z_lang.specs.Code.{operand, instruction, code}
+use Rattle.z_lang.specs.Code.{operand, instruction, ops_of_acts}
 use Rattle.z_lang.specs.Sizes.{atom_bytes, act_bytes, body_bytes, TakesBytes}
 
 -- the bytes of an operand
@@ -83,7 +83,7 @@ act_takes (acts.Call (Some v) a (args.Three b c d)) = let x = four_size a b c d 
 act_takes (acts.Return a) = let x = one_size a [] in omega arith
 act_takes acts.Quit = refl
 
-body_takes : (body : List Act) → ops_size (code body) ≡ body_bytes body
+body_takes : (body : List Act) → ops_size (ops_of_acts body) ≡ body_bytes body
 body_takes [] = refl
 body_takes (act ∷ more) = let x = act_takes act in let y = body_takes more in omega arith
 

@@ -11,7 +11,7 @@ use Rattle.z_lang.specs.declared.act.Comparison.TheVariants as comparisons
 use Rattle.z_lang.specs.declared.act.Test.{Test}
 use Rattle.z_lang.specs.declared.act.Act.{Act}
 use Rattle.z_lang.specs.declared.act.Act.TheVariants as acts
-use Rattle.z_lang.specs.Code.{code}
+use Rattle.z_lang.specs.Code.{ops_of_acts}
 
 -- a number within its width, or the name of something that is there
 abbrev pub FitsAtom : Counts → Atom → Type 0
@@ -58,8 +58,8 @@ FitsAct counts all behind acts.Quit = Unit {0}
 
 abbrev pub AreFit : Counts → List LOp → List Act → Type 0
 AreFit counts all [] = Unit {0}
-AreFit counts all (act ∷ more) = FitsAct counts all (code more) act × AreFit counts all more
+AreFit counts all (act ∷ more) = FitsAct counts all (ops_of_acts more) act × AreFit counts all more
 
 -- The instructions of such a body are open ones, as the assembler takes them.
 pub record Opens (counts : Counts) (body : List Act) : Type 0 where
-  pub opens : AreFit counts (code body) body → AreOpen counts (code body) (code body)
+  pub opens : AreFit counts (ops_of_acts body) body → AreOpen counts (ops_of_acts body) (ops_of_acts body)

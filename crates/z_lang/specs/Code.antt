@@ -41,20 +41,20 @@ target (atoms.Routine r) = Some (targets.Routine r)
 target (atoms.Table t) = Some (targets.Table t)
 target (atoms.Text t) = Some (targets.Text t)
 
-abbrev pub nothing : Operand
-nothing = operands.Small 0
+abbrev pub no_operand : Operand
+no_operand = operands.Small 0
 
 abbrev pub none_of : Operands
-none_of = record { count = 0; first = nothing; second = nothing; third = nothing; fourth = nothing }
+none_of = record { count = 0; first = no_operand; second = no_operand; third = no_operand; fourth = no_operand }
 
 abbrev pub one_of : Operand → Operands
-one_of a = record { count = 1; first = a; second = nothing; third = nothing; fourth = nothing }
+one_of a = record { count = 1; first = a; second = no_operand; third = no_operand; fourth = no_operand }
 
 abbrev pub two_of : Operand → Operand → Operands
-two_of a b = record { count = 2; first = a; second = b; third = nothing; fourth = nothing }
+two_of a b = record { count = 2; first = a; second = b; third = no_operand; fourth = no_operand }
 
 abbrev pub three_of : Operand → Operand → Operand → Operands
-three_of a b c = record { count = 3; first = a; second = b; third = c; fourth = nothing }
+three_of a b c = record { count = 3; first = a; second = b; third = c; fourth = no_operand }
 
 abbrev pub four_of : Operand → Operand → Operand → Operand → Operands
 four_of a b c d = record { count = 4; first = a; second = b; third = c; fourth = d }
@@ -65,16 +65,16 @@ short_op number a = record { form = forms.Short; number = number; operands = one
 abbrev pub variable_op : ℕ → Operands → Option ℕ → Option Branch → Op
 variable_op number xs store branch = record { form = forms.Variable; number = number; operands = xs; store = store; branch = branch; text = 0 }
 
-abbrev pub number_of : Function → ℕ
-number_of functions.Add = 20
-number_of functions.Sub = 21
-number_of functions.Mul = 22
-number_of functions.Div = 23
-number_of functions.Mod = 24
-number_of functions.And = 9
-number_of functions.Or = 8
-number_of functions.Word = 15
-number_of functions.Byte = 16
+abbrev pub function_number : Function → ℕ
+function_number functions.Add = 20
+function_number functions.Sub = 21
+function_number functions.Mul = 22
+function_number functions.Div = 23
+function_number functions.Mod = 24
+function_number functions.And = 9
+function_number functions.Or = 8
+function_number functions.Word = 15
+function_number functions.Byte = 16
 
 abbrev pub write_number : Width → ℕ
 write_number widths.Word = 33
@@ -145,7 +145,7 @@ instruction (acts.Goto l) = lops.Do (short_op 12 (operands.Large 0)) (Some (targ
 instruction (acts.When t l) = lops.Do (variable_op (compare_number t.comparison) (test_operands t) None (Some (branch_on t.answer))) (test_targets t) (Some l)
 instruction (acts.Copy v a) = lops.Do (variable_op 13 (two_of (operands.Small v) (operand a)) None None) (None ∷ target a ∷ None ∷ None ∷ []) None
 instruction (acts.Compute v f a b) =
-    lops.Do (variable_op (number_of f) (two_of (operand a) (operand b)) (Some v) None) (target a ∷ target b ∷ None ∷ None ∷ []) None
+    lops.Do (variable_op (function_number f) (two_of (operand a) (operand b)) (Some v) None) (target a ∷ target b ∷ None ∷ None ∷ []) None
 instruction (acts.Write w a b c) =
     lops.Do (variable_op (write_number w) (three_of (operand a) (operand b) (operand c)) None None) (target a ∷ target b ∷ target c ∷ None ∷ []) None
 instruction (acts.Print k a) = lops.Do (print_op k (operand a)) (target a ∷ None ∷ None ∷ None ∷ []) None
@@ -155,5 +155,5 @@ instruction (acts.Call v a xs) = lops.Do (variable_op (call_number v) (with_args
 instruction (acts.Return a) = lops.Do (short_op 11 (operand a)) (target a ∷ None ∷ None ∷ None ∷ []) None
 instruction acts.Quit = lops.Do quit_op (None ∷ None ∷ None ∷ None ∷ []) None
 
-abbrev pub code : List Act → List LOp
-code body = map instruction body
+abbrev pub ops_of_acts : List Act → List LOp
+ops_of_acts body = map instruction body

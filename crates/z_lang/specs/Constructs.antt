@@ -9,7 +9,7 @@ use Rattle.z_lang.specs.declared.lines.Line.TheVariants as lines
 use Rattle.z_lang.specs.declared.lines.Open.{Open}
 use Rattle.z_lang.specs.State.{State, Program}
 use Rattle.z_lang.specs.Acts.{answer_of}
-use Rattle.z_lang.specs.Runs.{Outcome, Rests, Runs, behind}
+use Rattle.z_lang.specs.Runs.{ActsOutcome, Rests, ActsRun, behind_label}
 use Rattle.z_lang.specs.Lines.{opposite, next_label, flattened, first_label}
 
 -- ---- lines whose constructs are ended
@@ -76,7 +76,7 @@ AreOwn (line ∷ more) = IsOwn line × AreOwn more
 
 -- Each label of a construct leads to its place in the acts of lines: to what stands behind it.
 pub record LabelsLead (xs : List Line) (body : List Act) : Type 0 where
-  pub leads : AreOwn xs → (l : ℕ) (front more : List Act) → first_label ≤ l → body ≡ front ++ (acts.Label l ∷ more) → behind l body ≡ Some more
+  pub leads : AreOwn xs → (l : ℕ) (front more : List Act) → first_label ≤ l → body ≡ front ++ (acts.Label l ∷ more) → behind_label l body ≡ Some more
 
 -- ---- what they do
 
@@ -90,22 +90,22 @@ Fails p s t = answer_of p s t ≡ Some (not t.answer)
 -- The part of a loop is run as long as its test holds: a turn costs the test, the part, and the way back; the last test costs one.
 pub data Loops (p : Program) (f w : ℕ) (body : List Act) (t : Test) (part rest : List Act) : State → State → ℕ → Type 0 where
   over : {s : State} → Fails p s t → Loops p f w body t part rest s s 1
-  again : {s s1 s' : State} {n m : ℕ} → Holds p s t → Runs p f w body (part ++ rest) s (Rests rest) s1 n →
+  again : {s s1 s' : State} {n m : ℕ} → Holds p s t → ActsRun p f w body (part ++ rest) s (Rests rest) s1 n →
       Loops p f w body t part rest s1 s' m → Loops p f w body t part rest s s' (n + 2 + m)
 
 -- Each construct comes to what stands behind it, where its labels lead to their places in the body.
 pub record ConstructsRun (p : Program) (f w : ℕ) (body : List Act) (t : Test) (l e : ℕ) (first other more : List Act)
     (s s' : State) (n : ℕ) : Type 0 where
-  pub if_holds : Holds p s t → Runs p f w body (first ++ end_if l more) s (Rests (end_if l more)) s' n →
-      Runs p f w body (if_acts t l first more) s (Rests more) s' (n + 1)
-  pub if_fails : Fails p s t → behind l body ≡ Some more → Runs p f w body (if_acts t l first more) s (Rests more) s 1
-  pub choice_holds : Holds p s t → behind e body ≡ Some more →
-      Runs p f w body (first ++ end_first l e other more) s (Rests (end_first l e other more)) s' n →
-      Runs p f w body (choice_acts t l e first other more) s (Rests more) s' (n + 2)
-  pub choice_fails : Fails p s t → behind l body ≡ Some (other ++ end_if e more) →
-      Runs p f w body (other ++ end_if e more) s (Rests (end_if e more)) s' n →
-      Runs p f w body (choice_acts t l e first other more) s (Rests more) s' (n + 1)
-  pub loops : behind l body ≡ Some (test_acts t l e first more) → behind e body ≡ Some more →
-      Loops p f w body t first (end_loop l e more) s s' n → Runs p f w body (loop_acts t l e first more) s (Rests more) s' n
-  pub leaves : (o : Outcome) (rest : List Act) → Holds p s t → Runs p f w body (first ++ rest) s o s' n →
-      Runs p f w body (acts.When (opposite t) l ∷ first ++ rest) s o s' (n + 1)
+  pub if_holds : Holds p s t → ActsRun p f w body (first ++ end_if l more) s (Rests (end_if l more)) s' n →
+      ActsRun p f w body (if_acts t l first more) s (Rests more) s' (n + 1)
+  pub if_fails : Fails p s t → behind_label l body ≡ Some more → ActsRun p f w body (if_acts t l first more) s (Rests more) s 1
+  pub choice_holds : Holds p s t → behind_label e body ≡ Some more →
+      ActsRun p f w body (first ++ end_first l e other more) s (Rests (end_first l e other more)) s' n →
+      ActsRun p f w body (choice_acts t l e first other more) s (Rests more) s' (n + 2)
+  pub choice_fails : Fails p s t → behind_label l body ≡ Some (other ++ end_if e more) →
+      ActsRun p f w body (other ++ end_if e more) s (Rests (end_if e more)) s' n →
+      ActsRun p f w body (choice_acts t l e first other more) s (Rests more) s' (n + 1)
+  pub loops : behind_label l body ≡ Some (test_acts t l e first more) → behind_label e body ≡ Some more →
+      Loops p f w body t first (end_loop l e more) s s' n → ActsRun p f w body (loop_acts t l e first more) s (Rests more) s' n
+  pub leaves : (o : ActsOutcome) (rest : List Act) → Holds p s t → ActsRun p f w body (first ++ rest) s o s' n →
+      ActsRun p f w body (acts.When (opposite t) l ∷ first ++ rest) s o s' (n + 1)

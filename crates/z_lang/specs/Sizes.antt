@@ -10,7 +10,7 @@ use Rattle.z_lang.specs.declared.act.Args.{Args}
 use Rattle.z_lang.specs.declared.act.Args.TheVariants as args
 use Rattle.z_lang.specs.declared.act.Act.{Act}
 use Rattle.z_lang.specs.declared.act.Act.TheVariants as acts
-use Rattle.z_lang.specs.Code.{instruction, code}
+use Rattle.z_lang.specs.Code.{instruction, ops_of_acts}
 use Rattle.z_code.specs.Targets.{op_size, ops_size}
 
 -- a value's bytes: two for a number above 255 and for a name
@@ -68,4 +68,4 @@ body_bytes (act ∷ more) = act_bytes act + body_bytes more
 -- Acts take so many bytes, and one is at most one instruction.
 pub record TakesBytes (body : List Act) : Type 0 where
   pub each : (act : Act) → op_size (instruction act) ≡ act_bytes act
-  pub all : ops_size (code body) ≡ body_bytes body
+  pub all : ops_size (ops_of_acts body) ≡ body_bytes body

@@ -4,20 +4,20 @@ use Rattle.z_model.specs.declared.fault.ZFault.{ZFault}
 use Rattle.z_model.specs.declared.story.Layout.{Layout}
 use Rattle.z_model.specs.Flow.{return_to}
 use Rattle.z_model.specs.Machine.{Frame, Machine, words_in}
-use Rattle.z_model.specs.Table.{rows_of}
+use Rattle.z_model.specs.Table.{player_rows}
 use Rattle.z_model.specs.Laws.{IsLaid}
-use Rattle.z_model.specs.Run.{ZGiven, ZState, end_of}
-use Rattle.z_code.specs.Targets.{Names, label_from, Placed}
+use Rattle.z_model.specs.Run.{ZGiven, ZState, ending_of}
+use Rattle.z_code.specs.Targets.{Names, label_from, OpsAt}
 use Rattle.z_lang.specs.declared.act.Routine.{Routine}
 use Rattle.z_lang.specs.declared.act.Act.{Act}
 use Rattle.z_lang.specs.State.{State, Program}
-use Rattle.z_lang.specs.Runs.{Outcome, Returns, Stops, Rests, Runs}
-use Rattle.z_lang.specs.Code.{code}
+use Rattle.z_lang.specs.Runs.{ActsOutcome, Returns, Stops, Rests, ActsRun}
+use Rattle.z_lang.specs.Code.{ops_of_acts}
 use Rattle.z_lang.specs.Leads.{Leads, Ends}
 
 -- The player's table, and a story whose globals lie before the static base.
 pub record IsLaidOut (given : ZGiven) : Type 0 where
-  pub rows : given.rows ≡ rows_of
+  pub rows : given.rows ≡ player_rows
   pub laid : IsLaid given.layout
 
 -- A routine stands at a packed address.
@@ -27,10 +27,10 @@ pub record StandsAt (p : Program) (story : List ℕ) (x : ℕ) (r : Routine) : T
   pub within : p.world.layout.base ≤ 8 * x
   pub few : r.locals ≤ 15
   pub count : slice_get story (8 * x) ≡ Some r.locals
-  pub code_is : Placed story p.names labels (8 * x + 1) (code r.body)
+  pub code_is : OpsAt story p.names labels (8 * x + 1) (ops_of_acts r.body)
 
 -- All routines of a program stand in a story.
-pub record Stands (p : Program) (story : List ℕ) : Type 0 where
+pub record RoutinesStand (p : Program) (story : List ℕ) : Type 0 where
   pub laid_out : IsLaidOut p.world
   pub each : (x : ℕ) (r : Routine) → p.routine_at x ≡ Some r → StandsAt p story x r
 
@@ -51,12 +51,12 @@ frame_of s c = record { back = c.back; store = c.store; args = c.args; locals = 
 abbrev pub machine_at : State → Context → ℕ → Machine
 machine_at s c pc = record { memory = s.memory; pc = pc; here = frame_of s c; callers = c.callers; tables = [] }
 
-abbrev pub outside : State → Machine → ZState
-outside s m = record { machine = m; typed = s.typed; drawn = s.drawn; output = s.output }
+abbrev pub machine_state : State → Machine → ZState
+machine_state s m = record { machine = m; typed = s.typed; drawn = s.drawn; output = s.output }
 
 -- the player's state where a routine's instructions go on at an address
 abbrev pub state_at : State → Context → ℕ → ZState
-state_at s c pc = outside s (machine_at s c pc)
+state_at s c pc = machine_state s (machine_at s c pc)
 
 -- the machine behind a return
 abbrev pub resumed : Layout → State → Context → ℕ → Result Machine ZFault
@@ -70,27 +70,27 @@ pub record HasRoom (c : Context) (s : State) (f w : ℕ) : Type 0 where
 -- Acts stand at an address, and a state comes to it.
 pub record ComesAt (p : Program) (story : List ℕ) (labels : ℕ → ℕ) (c : Context) (acts : List Act) (s : State) (n : ℕ) (z : ZState) : Type 0 where
   pub pc : ℕ
-  pub placed : Placed story p.names labels pc (code acts)
+  pub placed : OpsAt story p.names labels pc (ops_of_acts acts)
   pub from : p.world.layout.base ≤ pc
   pub leads : Leads p.world n z (state_at s c pc)
 
 -- where a state comes to with an outcome
-abbrev pub ComesTo : Program → List ℕ → (ℕ → ℕ) → Context → Outcome → State → ℕ → ZState → Type 0
-ComesTo p story labels c (Returns x) s n z = (m : Machine) → resumed p.world.layout s c x ≡ Ok m → Leads p.world n z (outside s m)
-ComesTo p story labels c (Stops halt) s n z = (last : ZState) × (last.output ≡ s.output) × Ends p.world n z (record { end = end_of halt; state = last })
-ComesTo p story labels c (Rests acts) s n z = ComesAt p story labels c acts s n z
+abbrev pub ArrivesAt : Program → List ℕ → (ℕ → ℕ) → Context → ActsOutcome → State → ℕ → ZState → Type 0
+ArrivesAt p story labels c (Returns x) s n z = (m : Machine) → resumed p.world.layout s c x ≡ Ok m → Leads p.world n z (machine_state s m)
+ArrivesAt p story labels c (Stops halt) s n z = (last : ZState) × (last.output ≡ s.output) × Ends p.world n z (record { end = ending_of halt; state = last })
+ArrivesAt p story labels c (Rests acts) s n z = ComesAt p story labels c acts s n z
 
 -- What comes of acts: memory is kept, and the player's state comes to the outcome.
-pub record Follows (p : Program) (story : List ℕ) (labels : ℕ → ℕ) (c : Context) (o : Outcome) (s' : State) (n : ℕ) (z : ZState) : Type 0 where
+pub record Follows (p : Program) (story : List ℕ) (labels : ℕ → ℕ) (c : Context) (o : ActsOutcome) (s' : State) (n : ℕ) (z : ZState) : Type 0 where
   pub kept : IsKept p.world.layout.base story s'.memory
-  pub comes : ComesTo p story labels c o s' n z
+  pub comes : ArrivesAt p story labels c o s' n z
 
 -- Where a routine that stands in a story begins, its instructions do what its acts mean.
 abbrev pub RoutinesFollow : Type 0
-RoutinesFollow = (p : Program) (story : List ℕ) → Stands p story → (x : ℕ) (r : Routine) → p.routine_at x ≡ Some r →
-    (labels : ℕ → ℕ) → Placed story p.names labels (8 * x + 1) (code r.body) → (c : Context) (f w n : ℕ) (s s' : State) (o : Outcome) →
+RoutinesFollow = (p : Program) (story : List ℕ) → RoutinesStand p story → (x : ℕ) (r : Routine) → p.routine_at x ≡ Some r →
+    (labels : ℕ → ℕ) → OpsAt story p.names labels (8 * x + 1) (ops_of_acts r.body) → (c : Context) (f w n : ℕ) (s s' : State) (o : ActsOutcome) →
     IsKept p.world.layout.base story s.memory → HasRoom c s f w →
-    Runs p f w r.body r.body s o s' n → Follows p story labels c o s' n (state_at s c (8 * x + 1))
+    ActsRun p f w r.body r.body s o s' n → Follows p story labels c o s' n (state_at s c (8 * x + 1))
 
 -- ---- the routines of a list
 
@@ -108,9 +108,9 @@ pub record StandsAs (given : ZGiven) (names : Names) (story : List ℕ) (k : ℕ
   pub some : 0 < names.routine k
   pub behind : given.layout.base ≤ 8 * names.routine k
   pub count : slice_get story (8 * names.routine k) ≡ Some r.locals
-  pub code_is : let at = 8 * names.routine k + 1 in Placed story names (label_from at (code r.body)) at (code r.body)
+  pub code_is : let at = 8 * names.routine k + 1 in OpsAt story names (label_from at (ops_of_acts r.body)) at (ops_of_acts r.body)
 
 -- Routines that stand so are the routines of a program.
 pub record ListStands (given : ZGiven) (names : Names) (rs : List Routine) (story : List ℕ) : Type 0 where
   pub stands : IsLaidOut given → ((k : ℕ) (r : Routine) → slice_get rs k ≡ Some r → StandsAs given names story k r) →
-      Stands (program_of given names rs) story
+      RoutinesStand (program_of given names rs) story

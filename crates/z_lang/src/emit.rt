@@ -1,6 +1,6 @@
 // From acts to instructions.
 ghost use Rattle.std.specs.Prelude.{◌≡◌, ◌∷◌, [], IfOk};
-ghost use Rattle.z_lang.specs.Code.{operand, target, none_of, one_of, two_of, three_of, four_of, short_op, variable_op, number_of, write_number, compare_number, test_operands, test_targets, call_number, branch_on, print_op, with_args, arg_targets, quit_op, instruction, code};
+ghost use Rattle.z_lang.specs.Code.{operand, target, none_of, one_of, two_of, three_of, four_of, short_op, variable_op, function_number, write_number, compare_number, test_operands, test_targets, call_number, branch_on, print_op, with_args, arg_targets, quit_op, instruction, ops_of_acts};
 
 use crate::act::{Act, Args, Atom, Comparison, Function, Print, Routine, Test, Width};
 use std::alloc::{AllocError, Global};
@@ -8,7 +8,7 @@ use z_code::{Branch, Form, LOp, Op, Operand, Operands, Target};
 
 /// The instructions of a routine.
 pub fn compile(alloc: Global, routine: &Routine) -> Result<Vec<LOp>, AllocError>
-    ensures { IfOk result (λ ops. ops.items ≡ code routine.now.body) }
+    ensures { IfOk result (λ ops. ops.items ≡ ops_of_acts routine.now.body) }
 {
     let mut ops = Vec::new(alloc);
     for act in routine.body.as_slice() {
@@ -124,7 +124,7 @@ fn variable_of(number: u8, operands: Operands, store: Option<u8>, branch: Option
 }
 
 fn number_of(function: Function) -> u8
-    ensures { result ≡ number_of function }
+    ensures { result ≡ function_number function }
 {
     match function {
         Function::Add => 20,

@@ -16,27 +16,27 @@ use Rattle.z_model.specs.declared.table.Row.{Row}
 use Rattle.z_model.specs.declared.op.OperandType.{OperandType}
 use Rattle.z_model.specs.declared.op.OperandType.TheVariants.{Large, Small, Variable, Omitted}
 use Rattle.z_model.specs.declared.op.OperandTypes.{OperandTypes}
-use Rattle.z_model.specs.Decode.{byte_at, known, variable_row, short_kind, text_at, operand_at, store_at, branch_at, body_at, found, long_at, short_at, variable_at, extended_at, op_at, type_of, long_type, long_types, one_type, types_of, on_true, signed_14}
-use Rattle.z_model.specs.Spelling.{types_in, code, type_byte, long_bit, head_bytes, operand_bytes, store_bytes, branch_bytes, bit, row_of, IsByteType, FitsForm, FitsType, FitsStore, FitsBranch, FitsOffset, unsigned_14, offset_bytes, IsOp, Stands, IsInstruction}
+use Rattle.z_model.specs.Decode.{byte_at, known, variable_row, short_kind, text_at, operand_at, store_at, branch_at, body_at, op_found, long_at, short_at, variable_at, extended_at, op_at, type_of, long_type, long_types, one_type, types_of, on_true, signed_14}
+use Rattle.z_model.specs.Spelling.{types_in, type_code, type_byte, long_bit, head_bytes, operand_bytes, store_bytes, branch_bytes, bit, row_of, IsByteType, FitsForm, FitsType, FitsStore, FitsBranch, FitsOffset, unsigned_14, offset_bytes, IsOp, BytesAt, IsInstruction}
 
 -- ---- lists that stand at a place
 
-pub front_stands : (bytes : List ℕ) (at : ℕ) (xs ys : List ℕ) → Stands bytes at (xs ++ ys) → Stands bytes at xs
+pub front_stands : (bytes : List ℕ) (at : ℕ) (xs ys : List ℕ) → BytesAt bytes at (xs ++ ys) → BytesAt bytes at xs
 front_stands bytes at [] ys h = tt
 front_stands bytes at (x ∷ xs) ys h = (h.0, front_stands bytes (at + 1) xs ys h.1)
 
-pub rest_stands : (bytes : List ℕ) (at : ℕ) (xs ys : List ℕ) → Stands bytes at (xs ++ ys) → Stands bytes (at + length xs) ys
-rest_stands bytes at [] ys h = subst (λ (k : ℕ). Stands bytes k ys) (sym (add-zero at)) h
+pub rest_stands : (bytes : List ℕ) (at : ℕ) (xs ys : List ℕ) → BytesAt bytes at (xs ++ ys) → BytesAt bytes (at + length xs) ys
+rest_stands bytes at [] ys h = subst (λ (k : ℕ). BytesAt bytes k ys) (sym (add-zero at)) h
 rest_stands bytes at (x ∷ xs) ys h =
     let e : at + 1 + length xs ≡ at + suc (length xs) = omega arith in
-    subst (λ (k : ℕ). Stands bytes k ys) e (rest_stands bytes (at + 1) xs ys h.1)
+    subst (λ (k : ℕ). BytesAt bytes k ys) e (rest_stands bytes (at + 1) xs ys h.1)
 
 byte_again : (bytes : List ℕ) (at b : ℕ) → slice_get bytes at ≡ Some b → byte_at bytes at ≡ Ok b
 byte_again bytes at b h = rw h refl
 
 -- ---- the parts
 
-operand_again : (bytes : List ℕ) (at : ℕ) (s : OperandType) (x : Operand) → FitsType s x → Stands bytes at (operand_bytes s x) → operand_at bytes s at ≡ Ok (x, at + length (operand_bytes s x))
+operand_again : (bytes : List ℕ) (at : ℕ) (s : OperandType) (x : Operand) → FitsType s x → BytesAt bytes at (operand_bytes s x) → operand_at bytes s at ≡ Ok (x, at + length (operand_bytes s x))
 unfolding operand_at
 operand_again bytes at Omitted (operands.Small b) fits h = rw (fits, add-zero) refl
 operand_again bytes at Omitted (operands.Large b) fits h = absurd fits
@@ -53,7 +53,7 @@ operand_again bytes at Variable (operands.Variable b) fits h = rw h.0 refl
 operand_again bytes at Variable (operands.Small b) fits h = absurd fits
 operand_again bytes at Variable (operands.Large b) fits h = absurd fits
 
-store_again : (bytes : List ℕ) (at : ℕ) (wanted : Bool) (o : Option ℕ) → FitsStore wanted o → Stands bytes at (store_bytes o) → store_at bytes wanted at ≡ Ok (o, at + length (store_bytes o))
+store_again : (bytes : List ℕ) (at : ℕ) (wanted : Bool) (o : Option ℕ) → FitsStore wanted o → BytesAt bytes at (store_bytes o) → store_at bytes wanted at ≡ Ok (o, at + length (store_bytes o))
 unfolding store_at
 store_again bytes at true (Some b) fits h = rw h.0 refl
 store_again bytes at true None fits h = absurd fits
@@ -86,7 +86,7 @@ offset_below : (z : ℤ) → FitsOffset false z → unsigned_14 z < 16384
 offset_below (pos n) fits = omega arith
 offset_below (negsuc n) fits = omega arith
 
-short_again : (bytes : List ℕ) (at : ℕ) (when : Bool) (offset : ℤ) → FitsOffset true offset → Stands bytes at (offset_bytes true (bit when) (unsigned_14 offset)) → branch_at bytes true at ≡ Ok (Some (record { when = when; offset = offset; short = true }), at + 1)
+short_again : (bytes : List ℕ) (at : ℕ) (when : Bool) (offset : ℤ) → FitsOffset true offset → BytesAt bytes at (offset_bytes true (bit when) (unsigned_14 offset)) → branch_at bytes true at ≡ Ok (Some (record { when = when; offset = offset; short = true }), at + 1)
 unfolding branch_at
 short_again bytes at when (pos n) fits h =
     let two = bit_below when in
@@ -97,7 +97,7 @@ short_again bytes at when (pos n) fits h =
     rw (h.0, low, on, six) refl
 short_again bytes at when (negsuc n) fits h = absurd fits
 
-long_branch_again : (bytes : List ℕ) (at : ℕ) (when : Bool) (offset : ℤ) → FitsOffset false offset → Stands bytes at (offset_bytes false (bit when) (unsigned_14 offset)) → branch_at bytes true at ≡ Ok (Some (record { when = when; offset = offset; short = false }), at + 2)
+long_branch_again : (bytes : List ℕ) (at : ℕ) (when : Bool) (offset : ℤ) → FitsOffset false offset → BytesAt bytes at (offset_bytes false (bit when) (unsigned_14 offset)) → branch_at bytes true at ≡ Ok (Some (record { when = when; offset = offset; short = false }), at + 2)
 unfolding branch_at
 long_branch_again bytes at when offset fits h =
     let two = bit_below when in
@@ -108,14 +108,14 @@ long_branch_again bytes at when offset fits h =
     let whole : 256 * ((128 * bit when + unsigned_14 offset / 256) % 64) + unsigned_14 offset % 256 ≡ unsigned_14 offset = omega arith in
     rw (h.0, low, h.1.0, on, whole, offset_again offset fits) refl
 
-branch_again : (bytes : List ℕ) (at : ℕ) (wanted : Bool) (o : Option Branch) → FitsBranch wanted o → Stands bytes at (branch_bytes o) → branch_at bytes wanted at ≡ Ok (o, at + length (branch_bytes o))
+branch_again : (bytes : List ℕ) (at : ℕ) (wanted : Bool) (o : Option Branch) → FitsBranch wanted o → BytesAt bytes at (branch_bytes o) → branch_at bytes wanted at ≡ Ok (o, at + length (branch_bytes o))
 unfolding branch_at
 branch_again bytes at true None fits h = absurd fits
 branch_again bytes at false None fits h = rw add-zero refl
 branch_again bytes at false (Some b) fits h = absurd fits
 branch_again bytes at true (Some b) fits h = by_length b.short b.when b.offset fits h
   where
-    by_length : (short when : Bool) (offset : ℤ) → FitsOffset short offset → Stands bytes at (offset_bytes short (bit when) (unsigned_14 offset)) → branch_at bytes true at ≡ Ok (Some (record { when = when; offset = offset; short = short }), at + length (offset_bytes short (bit when) (unsigned_14 offset)))
+    by_length : (short when : Bool) (offset : ℤ) → FitsOffset short offset → BytesAt bytes at (offset_bytes short (bit when) (unsigned_14 offset)) → branch_at bytes true at ≡ Ok (Some (record { when = when; offset = offset; short = short }), at + length (offset_bytes short (bit when) (unsigned_14 offset)))
     by_length true when offset fits h = short_again bytes at when offset fits h
     by_length false when offset fits h = long_branch_again bytes at when offset fits h
 
@@ -125,7 +125,7 @@ branch_again bytes at true (Some b) fits h = by_length b.short b.when b.offset f
 abbrev tail_bytes : Op → List ℕ
 tail_bytes op = let s = types_in op.operands in operand_bytes s.first op.operands.first ++ (operand_bytes s.second op.operands.second ++ (operand_bytes s.third op.operands.third ++ (operand_bytes s.fourth op.operands.fourth ++ (store_bytes op.store ++ branch_bytes op.branch))))
 
-body_again : (rows : Rows) (bytes : List ℕ) (at : ℕ) (row : Row) (op : Op) (end : ℕ) → IsOp rows row op → Stands bytes at (tail_bytes op) → text_at bytes row.text (at + length (tail_bytes op)) ≡ Ok (op.text, end) → body_at bytes op.form op.number row (types_in op.operands) at ≡ Ok (found row op end)
+body_again : (rows : Rows) (bytes : List ℕ) (at : ℕ) (row : Row) (op : Op) (end : ℕ) → IsOp rows row op → BytesAt bytes at (tail_bytes op) → text_at bytes row.text (at + length (tail_bytes op)) ≡ Ok (op.text, end) → body_at bytes op.form op.number row (types_in op.operands) at ≡ Ok (op_found row op end)
 unfolding body_at
 body_again rows bytes at row op end is h text =
     let s = types_in op.operands in
@@ -170,13 +170,13 @@ long_bit_below Small = omega arith
 long_bit_below Variable = omega arith
 long_bit_below Omitted = omega arith
 
-code_below : (s : OperandType) → code s < 4
+code_below : (s : OperandType) → type_code s < 4
 code_below Large = omega arith
 code_below Small = omega arith
 code_below Variable = omega arith
 code_below Omitted = omega arith
 
-code_again : (s : OperandType) → type_of (code s) ≡ s
+code_again : (s : OperandType) → type_of (type_code s) ≡ s
 code_again Large = refl
 code_again Small = refl
 code_again Variable = refl
@@ -188,10 +188,10 @@ types_again s =
     let b = code_below s.second in
     let c = code_below s.third in
     let d = code_below s.fourth in
-    let e1 : type_byte s / 64 % 4 ≡ code s.first = omega arith in
-    let e2 : type_byte s / 16 % 4 ≡ code s.second = omega arith in
-    let e3 : type_byte s / 4 % 4 ≡ code s.third = omega arith in
-    let e4 : type_byte s % 4 ≡ code s.fourth = omega arith in
+    let e1 : type_byte s / 64 % 4 ≡ type_code s.first = omega arith in
+    let e2 : type_byte s / 16 % 4 ≡ type_code s.second = omega arith in
+    let e3 : type_byte s / 4 % 4 ≡ type_code s.third = omega arith in
+    let e4 : type_byte s % 4 ≡ type_code s.fourth = omega arith in
     rw (e1, e2, e3, e4, code_again s.first, code_again s.second, code_again s.third, code_again s.fourth) refl
 
 same_types : (s : OperandTypes) (a b c d : OperandType) → s.first ≡ a → s.second ≡ b → s.third ≡ c → s.fourth ≡ d → record { first = a; second = b; third = c; fourth = d } ≡ s
@@ -223,7 +223,7 @@ not_below n m h = le-ltb n m h
 not_190 : (n : ℕ) → n ≢ 190 → eqb n 190 ≡ false
 not_190 n h = ne_eqb n 190 h
 
-by_form : (rows : Rows) (form : Form) (bytes : List ℕ) (at : ℕ) (row : Row) (op : Op) (end : ℕ) → op.form ≡ form → IsOp rows row op → Stands bytes at (head_bytes form op.number (types_in op.operands)) → Stands bytes (at + length (head_bytes form op.number (types_in op.operands))) (tail_bytes op) → text_after bytes row op (at + length (head_bytes form op.number (types_in op.operands))) end → op_at rows bytes at ≡ Ok (found row op end)
+by_form : (rows : Rows) (form : Form) (bytes : List ℕ) (at : ℕ) (row : Row) (op : Op) (end : ℕ) → op.form ≡ form → IsOp rows row op → BytesAt bytes at (head_bytes form op.number (types_in op.operands)) → BytesAt bytes (at + length (head_bytes form op.number (types_in op.operands))) (tail_bytes op) → text_after bytes row op (at + length (head_bytes form op.number (types_in op.operands))) end → op_at rows bytes at ≡ Ok (op_found row op end)
 unfolding op_at long_at short_at variable_at extended_at
 by_form rows forms.Long bytes at row op end e is head tail text =
     let s = types_in op.operands in
@@ -235,7 +235,7 @@ by_form rows forms.Long bytes at row op end e is head tail text =
     let small : ltb (64 * long_bit s.first + 32 * long_bit s.second + op.number) 128 ≡ true = below_128 _ (omega arith) in
     let number : (64 * long_bit s.first + 32 * long_bit s.second + op.number) % 32 ≡ op.number = omega arith in
     let types = long_types_again s op.number fits in
-    let body : body_at bytes forms.Long op.number row s (at + 1) ≡ Ok (found row op end) = subst (λ (f : Form). body_at bytes f op.number row s (at + 1) ≡ Ok (found row op end)) e (body_again rows bytes (at + 1) row op end is tail text) in
+    let body : body_at bytes forms.Long op.number row s (at + 1) ≡ Ok (op_found row op end) = subst (λ (f : Form). body_at bytes f op.number row s (at + 1) ≡ Ok (op_found row op end)) e (body_again rows bytes (at + 1) row op end is tail text) in
     rw (head.0, small, number, known', types, body) refl
 by_form rows forms.Short bytes at row op end e is head tail text =
     let s = types_in op.operands in
@@ -243,13 +243,13 @@ by_form rows forms.Short bytes at row op end e is head tail text =
     let known' : known rows (short_kind s.first) op.number ≡ Ok row = subst (λ (f : Form). row_of rows f op.number s ≡ Ok row) e is.known in
     let a = code_below s.first in
     let lt : op.number < 16 = fits.0 in
-    let big : ltb (128 + 16 * code s.first + op.number) 128 ≡ false = not_below _ _ (omega arith) in
-    let other : eqb (128 + 16 * code s.first + op.number) 190 ≡ false = not_190 _ fits.4 in
-    let small : ltb (128 + 16 * code s.first + op.number) 192 ≡ true = lt-ltb _ _ (omega arith) in
-    let number : (128 + 16 * code s.first + op.number) % 16 ≡ op.number = omega arith in
-    let bits : (128 + 16 * code s.first + op.number) / 16 % 4 ≡ code s.first = omega arith in
+    let big : ltb (128 + 16 * type_code s.first + op.number) 128 ≡ false = not_below _ _ (omega arith) in
+    let other : eqb (128 + 16 * type_code s.first + op.number) 190 ≡ false = not_190 _ fits.4 in
+    let small : ltb (128 + 16 * type_code s.first + op.number) 192 ≡ true = lt-ltb _ _ (omega arith) in
+    let number : (128 + 16 * type_code s.first + op.number) % 16 ≡ op.number = omega arith in
+    let bits : (128 + 16 * type_code s.first + op.number) / 16 % 4 ≡ type_code s.first = omega arith in
     let types = one_type_again s op.number fits in
-    let body : body_at bytes forms.Short op.number row s (at + 1) ≡ Ok (found row op end) = subst (λ (f : Form). body_at bytes f op.number row s (at + 1) ≡ Ok (found row op end)) e (body_again rows bytes (at + 1) row op end is tail text) in
+    let body : body_at bytes forms.Short op.number row s (at + 1) ≡ Ok (op_found row op end) = subst (λ (f : Form). body_at bytes f op.number row s (at + 1) ≡ Ok (op_found row op end)) e (body_again rows bytes (at + 1) row op end is tail text) in
     rw (head.0, big, other, small, number, bits, code_again s.first, known', types, body) refl
 by_form rows forms.Variable bytes at row op end e is head tail text =
     let s = types_in op.operands in
@@ -259,18 +259,18 @@ by_form rows forms.Variable bytes at row op end e is head tail text =
     let other : eqb (192 + op.number) 190 ≡ false = not_190 _ (omega arith) in
     let large : ltb (192 + op.number) 192 ≡ false = not_below _ _ (omega arith) in
     let number : (192 + op.number) % 64 ≡ op.number = omega arith in
-    let body : body_at bytes forms.Variable op.number row s (at + 2) ≡ Ok (found row op end) = subst (λ (f : Form). body_at bytes f op.number row s (at + 2) ≡ Ok (found row op end)) e (body_again rows bytes (at + 2) row op end is tail text) in
+    let body : body_at bytes forms.Variable op.number row s (at + 2) ≡ Ok (op_found row op end) = subst (λ (f : Form). body_at bytes f op.number row s (at + 2) ≡ Ok (op_found row op end)) e (body_again rows bytes (at + 2) row op end is tail text) in
     rw (head.0, big, other, large, number, known', head.1.0, types_again s, body) refl
 by_form rows forms.Extended bytes at row op end e is head tail text =
     let s = types_in op.operands in
     let known' : known rows kinds.Extended op.number ≡ Ok row = subst (λ (f : Form). row_of rows f op.number s ≡ Ok row) e is.known in
     let two : at + 1 + 1 ≡ at + 2 = omega arith in
     let third : slice_get bytes (at + 2) ≡ Some (type_byte s) = subst (λ (k : ℕ). slice_get bytes k ≡ Some (type_byte s)) two head.1.1.0 in
-    let body : body_at bytes forms.Extended op.number row s (at + 3) ≡ Ok (found row op end) = subst (λ (f : Form). body_at bytes f op.number row s (at + 3) ≡ Ok (found row op end)) e (body_again rows bytes (at + 3) row op end is tail text) in
+    let body : body_at bytes forms.Extended op.number row s (at + 3) ≡ Ok (op_found row op end) = subst (λ (f : Form). body_at bytes f op.number row s (at + 3) ≡ Ok (op_found row op end)) e (body_again rows bytes (at + 3) row op end is tail text) in
     rw (head.0, head.1.0, known', third, types_again s, body) refl
 
 -- An instruction that stands at a place is what is decoded there.
-pub instruction_again : (rows : Rows) (bytes : List ℕ) (at : ℕ) (op : Op) (end : ℕ) → (i : IsInstruction rows bytes at op end) → op_at rows bytes at ≡ Ok (found i.row op end)
+pub instruction_again : (rows : Rows) (bytes : List ℕ) (at : ℕ) (op : Op) (end : ℕ) → (i : IsInstruction rows bytes at op end) → op_at rows bytes at ≡ Ok (op_found i.row op end)
 instruction_again rows bytes at op end i =
     let head : List ℕ = head_bytes op.form op.number (types_in op.operands) in
     let long : at + length (head ++ tail_bytes op) ≡ at + length head + length (tail_bytes op) = simp length-append (omega arith) in

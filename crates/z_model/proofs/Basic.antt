@@ -3,7 +3,7 @@ use Rattle.std.proofs.Common.{◌≡◌, ℕ, zero, suc, Bool, true, false, cond
 use Rattle.std.specs.Prelude.{slice_get}
 use Rattle.z_model.specs.declared.table.Kind.{Kind}
 use Rattle.z_model.specs.declared.table.Row.{Row}
-use Rattle.z_model.specs.Table.{Rows, rows_of, entry, row_at}
+use Rattle.z_model.specs.Table.{Rows, player_rows, entry, row_at}
 use Rattle.z_model.specs.Parts.{IsPartOf, RunsStay}
 use Rattle.z_model.specs.Basic.{is_basic, basic_row, basic_rows, by_rows, BasicRunsStay}
 use Rattle.z_model.specs.Run.{ZGiven, ZState}
@@ -25,8 +25,8 @@ row_within [] number row e = e
 row_within (o ∷ rows) zero row e = kept_row o row e
 row_within (o ∷ rows) (suc number) row e = row_within rows number row e
 
-basic_part : IsPartOf basic_rows rows_of
-basic_part kind number row e = row_within (rows_of kind) number row e
+basic_part : IsPartOf basic_rows player_rows
+basic_part kind number row e = row_within (player_rows kind) number row e
 
 pub basic_runs_stay : (w : ZGiven) (s : ZState) → BasicRunsStay w s
-basic_runs_stay w s = record { same = λ n whole. (runs_stay (by_rows basic_rows w) s).same rows_of basic_part n whole }
+basic_runs_stay w s = record { same = λ n whole. (runs_stay (by_rows basic_rows w) s).same player_rows basic_part n whole }

@@ -11,7 +11,7 @@ use Rattle.z_model.specs.declared.table.Row.{Row}
 use Rattle.z_model.specs.declared.op.OperandType.{OperandType}
 use Rattle.z_model.specs.declared.op.OperandType.TheVariants.{Large, Small, Variable, Omitted}
 use Rattle.z_model.specs.declared.op.OperandTypes.{OperandTypes}
-use Rattle.z_model.specs.Decode.{◌>>=◌, or_fault, byte_at, counted, text_at, text_end, operand_at, store_at, branch_at, short_branch, long_branch, body_at}
+use Rattle.z_model.specs.Decode.{◌>>=◌, or_fault, byte_at, count_in_row, text_at, text_end, operand_at, store_at, branch_at, short_branch, long_branch, body_at}
 
 -- ---- what comes behind the bytes
 
@@ -88,12 +88,12 @@ text_whole front true at room =
 
 -- ---- what stands behind the types
 
-pub body_whole : (front : List ℕ) (form : Form) (number : ℕ) (row : Row) (s : OperandTypes) (at : ℕ) → at + length ample ≤ length front → Gives (counted row s) AnyNumber → Gives (body_at (front ++ marked) form number row s at) (Done Found)
+pub body_whole : (front : List ℕ) (form : Form) (number : ℕ) (row : Row) (s : OperandTypes) (at : ℕ) → at + length ample ≤ length front → Gives (count_in_row row s) AnyNumber → Gives (body_at (front ++ marked) form number row s at) (Done Found)
 unfolding body_at
 body_whole front form number row s at room count =
     let bytes : List ℕ = front ++ marked in
     let long : length (front ++ marked) ≡ length front + 3 = length-append front marked in
-    gives_bind (counted row s) _ AnyNumber _ count (λ n _.
+    gives_bind (count_in_row row s) _ AnyNumber _ count (λ n _.
     gives_bind (operand_at bytes s.first at) _ (Until Operand (at + 2)) _ (operand_whole bytes s.first at (omega arith)) (λ a ha.
     gives_bind (operand_at bytes s.second a.1) _ (Until Operand (at + 4)) _ (later (operand_at bytes s.second a.1) (operand_whole bytes s.second a.1 (omega arith)) (omega arith)) (λ b hb.
     gives_bind (operand_at bytes s.third b.1) _ (Until Operand (at + 6)) _ (later (operand_at bytes s.third b.1) (operand_whole bytes s.third b.1 (omega arith)) (omega arith)) (λ c hc.

@@ -11,12 +11,12 @@ use Rattle.z_model.specs.declared.op.Form.TheVariants as forms
 use Rattle.z_model.specs.declared.op.Op.{Op}
 use Rattle.z_model.specs.declared.op.OperandTypes.{OperandTypes}
 use Rattle.z_model.specs.Decode.{or_fault, text_end, text_at}
-use Rattle.z_model.specs.Spelling.{spelling, head_bytes, types_in, Stands, IsInstruction}
+use Rattle.z_model.specs.Spelling.{spelling, head_bytes, types_in, BytesAt, IsInstruction}
 use Rattle.z_model.proofs.Sought.{bind_ok, or_ok}
 
 -- ---- bytes that stand at a place
 
-stands_within : (bytes : List ℕ) (at : ℕ) (xs : List ℕ) → 0 < length xs → Stands bytes at xs → at + length xs ≤ length bytes
+stands_within : (bytes : List ℕ) (at : ℕ) (xs : List ℕ) → 0 < length xs → BytesAt bytes at xs → at + length xs ≤ length bytes
 stands_within bytes at [] some h = absurd (omega arith)
 stands_within bytes at (x ∷ []) some h = let lt = slice_get_within bytes at x h.0 in omega arith
 stands_within bytes at (x ∷ y ∷ xs) some h = let more = stands_within bytes (at + 1) (y ∷ xs) (omega arith) h.1 in omega arith
@@ -26,7 +26,7 @@ byte_front [] more i x lt e = absurd (omega arith)
 byte_front (b ∷ bytes) more zero x lt e = e
 byte_front (b ∷ bytes) more (suc i) x lt e = byte_front bytes more i x (omega arith) e
 
-stands_front : (bytes more : List ℕ) (at : ℕ) (xs : List ℕ) → at + length xs ≤ length bytes → Stands (bytes ++ more) at xs → Stands bytes at xs
+stands_front : (bytes more : List ℕ) (at : ℕ) (xs : List ℕ) → at + length xs ≤ length bytes → BytesAt (bytes ++ more) at xs → BytesAt bytes at xs
 stands_front bytes more at [] le h = tt
 stands_front bytes more at (x ∷ xs) le h = (byte_front bytes more at x (omega arith) h.0, stands_front bytes more (at + 1) xs (omega arith) h.1)
 

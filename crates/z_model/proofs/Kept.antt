@@ -32,21 +32,21 @@ use Rattle.z_model.specs.declared.table.Extended.{Extended}
 use Rattle.z_model.specs.declared.table.Extended.TheVariants as extended
 use Rattle.z_model.specs.Table.{Rows}
 use Rattle.z_model.specs.Decode.{◌>>=◌, op_at}
-use Rattle.z_model.specs.Memory.{Memory, guarded, is_writable, byte_in, word_in, with_byte, with_word, with_bytes}
-use Rattle.z_model.specs.Machine.{Frame, Machine, pushed, popped, global_at, global_set, local_of, local_set, variable_of, stored, stored_if, held_in, placed, value_of, value_if, values_of}
+use Rattle.z_model.specs.Memory.{Memory, guarded, is_writable, byte_in, memory_word, with_byte, with_word, with_bytes}
+use Rattle.z_model.specs.Machine.{Frame, Machine, pushed, popped, global_at, global_set, local_of, local_set, variable_of, stored, stored_if, held_in, placed, operand_value, value_if, operand_values}
 use Rattle.z_model.specs.Numbers.{signed_16}
-use Rattle.z_model.specs.Flow.{at_pc, address, jumped, return_to, returned, in_frames, thrown, branch_taken, agrees, branched, local_count, entered, called}
+use Rattle.z_model.specs.Flow.{at_pc, jump_address, jumped, return_to, returned, in_frames, frames_thrown, branch_taken, agrees, branched, local_count, frame_entered, called}
 use Rattle.z_model.specs.Objects.{parent_at, sibling_at, child_at, some_object, some_attribute, with_attribute, link_to, passed_by, unchained, removed, inserted}
 use Rattle.z_model.specs.Properties.{property_of, with_value, with_property, name_place}
-use Rattle.z_model.specs.Tables.{or_zero, size_of, bytes_in, cleared, copied_on, copied}
-use Rattle.z_model.specs.Streams.{codes_in, into_table, opened, closed, streamed}
-use Rattle.z_model.specs.Effects.{goes, answers, answers_or, written, tests_or, answers_and_tests, objects_in, answers_object, answers_place}
-use Rattle.z_model.specs.Effects.{fault_in, unless, let_out, printed, then_returned, prints_line, prints_text_if, prints_name}
-use Rattle.z_model.specs.Effects.{added, adds, adds_and_tests, pulls, returns_popped, most_typed, reads, reads_key, random_of}
+use Rattle.z_model.specs.Tables.{found_or_zero, table_size, bytes_in, cleared, copied_on, table_copied}
+use Rattle.z_model.specs.Streams.{codes_in, into_table, stream_opened, stream_closed, streamed}
+use Rattle.z_model.specs.Effects.{goes, answers, answers_or, write_effect, tests_or, answers_and_tests, objects_in, answers_object, answers_place}
+use Rattle.z_model.specs.Effects.{effect_fault, unless, let_out, print_effect, then_returned, prints_line, prints_text_if, prints_name}
+use Rattle.z_model.specs.Effects.{added, adds, adds_and_tests, pulls, returns_popped, most_typed, read_effect, reads_key, random_of}
 use Rattle.z_model.specs.Step.{do_two, do_one, do_zero, do_several, do_extended, do_instr, machine_step}
 use Rattle.z_model.specs.Text.{string_at, text_bytes}
 use Rattle.z_model.specs.Typed.{typed_line, typed_left}
-use Rattle.z_model.specs.Run.{ZGiven, ZState, Next, On, Ended, go_on, zstep, zrun, next_by, shown, effect_on, on_unless, line_taken, line_read, key_taken, key_code, with_line, word_at}
+use Rattle.z_model.specs.Run.{ZGiven, ZState, Next, On, Ended, go_on, zstep, zrun, next_by, with_output, effect_on, on_unless, line_taken, line_read, key_taken, key_code, with_line, word_at}
 use Rattle.z_model.specs.Laws.{IsLaid, KeepsCode, CodeStays, state_behind}
 
 -- ---- answers of which something holds
@@ -176,7 +176,7 @@ module _ (layout : Layout) (laid : IsLaid layout) where
 
     passed_kept : (mem : Memory) (objects a : ℕ) (place : Option ℕ) → KeptBy old mem → Gives (passed_by mem objects a place) (KeptBy old)
     passed_kept mem objects a None k = given k
-    passed_kept mem objects a (Some place) k = if_any (word_in mem (sibling_at objects a)) _ (KeptBy old) (λ next. word_kept old mem place next k)
+    passed_kept mem objects a (Some place) k = if_any (memory_word mem (sibling_at objects a)) _ (KeptBy old) (λ next. word_kept old mem place next k)
 
     unchained_kept : (mem : Memory) (objects a parent : ℕ) → KeptBy old mem → Gives (unchained mem objects a parent) (KeptBy old)
     unfolding unchained
@@ -185,7 +185,7 @@ module _ (layout : Layout) (laid : IsLaid layout) where
     removed_kept : (mem : Memory) (objects a : ℕ) → KeptBy old mem → Gives (removed mem objects a) (KeptBy old)
     unfolding removed
     removed_kept mem objects a k =
-        if_object a _ (KeptBy old) (if_any (word_in mem (parent_at objects a)) _ (KeptBy old) (λ parent.
+        if_object a _ (KeptBy old) (if_any (memory_word mem (parent_at objects a)) _ (KeptBy old) (λ parent.
         if_bind (unchained mem objects a parent) _ (KeptBy old) (KeptBy old) (unchained_kept mem objects a parent k) (λ out h.
         if_bind (with_word out (parent_at objects a) 0) _ (KeptBy old) (KeptBy old) (word_kept old out (parent_at objects a) 0 h) (λ alone j.
         word_kept old alone (sibling_at objects a) 0 j))))
@@ -194,7 +194,7 @@ module _ (layout : Layout) (laid : IsLaid layout) where
     unfolding inserted
     inserted_kept mem objects a b k =
         if_object b _ (KeptBy old) (if_bind (removed mem objects a) _ (KeptBy old) (KeptBy old) (removed_kept mem objects a k) (λ out h.
-        if_any (word_in out (child_at objects b)) _ (KeptBy old) (λ first.
+        if_any (memory_word out (child_at objects b)) _ (KeptBy old) (λ first.
         if_bind (with_word out (parent_at objects a) b) _ (KeptBy old) (KeptBy old) (word_kept old out (parent_at objects a) b h) (λ below j.
         if_bind (with_word below (sibling_at objects a) first) _ (KeptBy old) (KeptBy old) (word_kept old below (sibling_at objects a) first j) (λ beside i.
         word_kept old beside (child_at objects b) a i)))))
@@ -219,11 +219,11 @@ module _ (layout : Layout) (laid : IsLaid layout) where
         if_any (byte_in mem a) _ (KeptBy old) (λ byte. if_bind (with_byte mem b byte) _ (KeptBy old) (KeptBy old) (byte_kept old mem b byte k) (λ first h.
         copied_on_kept first ((a + 1) % 65536) ((b + 1) % 65536) more h))
 
-    copied_kept : (mem : Memory) (a b n : ℕ) → KeptBy old mem → Gives (copied mem a b n) (KeptBy old)
-    unfolding copied
+    copied_kept : (mem : Memory) (a b n : ℕ) → KeptBy old mem → Gives (table_copied mem a b n) (KeptBy old)
+    unfolding table_copied
     copied_kept mem a b n k =
-        if_cond _ _ _ (KeptBy old) (cleared_kept mem a (size_of n) k) (
-        if_cond _ _ _ (KeptBy old) (if_any (bytes_in mem a n) _ (KeptBy old) (λ bytes. bytes_kept old mem b bytes k)) (copied_on_kept mem a b (size_of n) k))
+        if_cond _ _ _ (KeptBy old) (cleared_kept mem a (table_size n) k) (
+        if_cond _ _ _ (KeptBy old) (if_any (bytes_in mem a n) _ (KeptBy old) (λ bytes. bytes_kept old mem b bytes k)) (copied_on_kept mem a b (table_size n) k))
 
   -- ---- the machine
 
@@ -273,14 +273,14 @@ module _ (layout : Layout) (laid : IsLaid layout) where
     placed_kept m v x k = if_cond (eqb v 0) _ _ (Kept old) (if_bind (popped m) _ (KeptWith ℕ old) (Kept old) (popped_kept m k) (λ p h. pushed_kept p.1 x h)) (stored_kept m v x k)
 
     value_kept : (m : Machine) (there : Bool) (o : Operand) → Kept old m → Gives (value_if layout m there o) (KeptWith ℕ old)
-    unfolding value_if value_of
+    unfolding value_if operand_value
     value_kept m false o k = given k
     value_kept m true (operands.Large w) k = given k
     value_kept m true (operands.Small b) k = given k
     value_kept m true (operands.Variable v) k = variable_kept m v k
 
-    values_kept : (m : Machine) (o : Operands) → Kept old m → Gives (values_of layout m o) (KeptWith Args old)
-    unfolding values_of
+    values_kept : (m : Machine) (o : Operands) → Kept old m → Gives (operand_values layout m o) (KeptWith Args old)
+    unfolding operand_values
     values_kept m o k =
         if_bind (value_if layout m (ltb 0 o.count) o.first) _ (KeptWith ℕ old) (KeptWith Args old) (value_kept m (ltb 0 o.count) o.first k) (λ a ha.
         if_bind (value_if layout a.1 (ltb 1 o.count) o.second) _ (KeptWith ℕ old) (KeptWith Args old) (value_kept a.1 (ltb 1 o.count) o.second ha) (λ b hb.
@@ -291,7 +291,7 @@ module _ (layout : Layout) (laid : IsLaid layout) where
 
     jumped_kept : (m : Machine) (end : ℕ) (offset : ℤ) → Kept old m → Gives (jumped m end offset) (Kept old)
     unfolding jumped
-    jumped_kept m end offset k = if_any (address _) _ (Kept old) (λ pc. given k)
+    jumped_kept m end offset k = if_any (jump_address _) _ (Kept old) (λ pc. given k)
 
     return_kept : (m : Machine) (callers : List Frame) (x : ℕ) → Kept old m → Gives (return_to layout m callers x) (Kept old)
     return_kept m [] x k = refused
@@ -305,8 +305,8 @@ module _ (layout : Layout) (laid : IsLaid layout) where
     in_frames_kept m [] k = k
     in_frames_kept m (f ∷ fs) k = k
 
-    thrown_kept : (m : Machine) (x frame : ℕ) → Kept old m → Gives (thrown layout m x frame) (Kept old)
-    unfolding thrown
+    thrown_kept : (m : Machine) (x frame : ℕ) → Kept old m → Gives (frames_thrown layout m x frame) (Kept old)
+    unfolding frames_thrown
     thrown_kept m x frame k = if_cond _ _ _ (Kept old) refused (returned_kept (in_frames m (drop (length m.callers - frame) (m.here ∷ m.callers))) x (in_frames_kept m (drop (length m.callers - frame) (m.here ∷ m.callers)) k))
 
     taken_kept : (m : Machine) (end : ℕ) (offset : ℤ) → Kept old m → Gives (branch_taken layout m end offset) (Kept old)
@@ -321,8 +321,8 @@ module _ (layout : Layout) (laid : IsLaid layout) where
     branched_kept m end None test k = given k
     branched_kept m end (Some b) test k = if_cond (agrees b.when test) _ _ (Kept old) (taken_kept m end b.offset k) (given k)
 
-    entered_kept : (m : Machine) (end : ℕ) (store : Option ℕ) (a : Args) → Kept old m → Gives (entered m end store a) (Kept old)
-    unfolding entered
+    entered_kept : (m : Machine) (end : ℕ) (store : Option ℕ) (a : Args) → Kept old m → Gives (frame_entered m end store a) (Kept old)
+    unfolding frame_entered
     entered_kept m end store a k = if_cond _ _ _ (Kept old) (if_any (local_count m.memory (8 * a.first)) _ (Kept old) (λ n. if_cond _ _ _ (Kept old) refused (given k))) refused
 
     called_kept : (m : Machine) (end : ℕ) (store : Option ℕ) (a : Args) → Kept old m → Gives (called layout m end store a) (Kept old)
@@ -343,7 +343,7 @@ module _ (layout : Layout) (laid : IsLaid layout) where
     answers_or_kept : (m : Machine) (end : ℕ) (store : Option ℕ) (r : Result ℕ ZFault) → Kept old m → Gives (answers_or layout m end store r) KeptBehind
     answers_or_kept m end store r k = if_any r _ KeptBehind (λ x. answers_kept m end store x k)
 
-    written_kept : (m : Machine) (end : ℕ) (r : Result Memory ZFault) → Gives r (KeptBy old) → Gives (written m end r) KeptBehind
+    written_kept : (m : Machine) (end : ℕ) (r : Result Memory ZFault) → Gives r (KeptBy old) → Gives (write_effect m end r) KeptBehind
     written_kept m end r h = if_bind r _ (KeptBy old) KeptBehind h (λ mem k. given k.code)
 
     tests_or_kept : (m : Machine) (end : ℕ) (b : Option Branch) (r : Result Bool ZFault) → Kept old m → Gives (tests_or layout m end b r) KeptBehind
@@ -356,7 +356,7 @@ module _ (layout : Layout) (laid : IsLaid layout) where
     object_kept m end store b r k = if_any r _ KeptBehind (λ x. both_kept m end store b x _ k)
 
     place_kept : (m : Machine) (end : ℕ) (store : Option ℕ) (b : Option Branch) (r : Result (Option ℕ) ZFault) → Kept old m → Gives (answers_place layout m end store b r) KeptBehind
-    place_kept m end store b r k = if_any r _ KeptBehind (λ found. both_kept m end store b (or_zero found) _ k)
+    place_kept m end store b r k = if_any r _ KeptBehind (λ found. both_kept m end store b (found_or_zero found) _ k)
 
     -- ---- printing, and tables into which it goes
 
@@ -367,12 +367,12 @@ module _ (layout : Layout) (laid : IsLaid layout) where
     unfolding into_table
     into_kept m t ts codes k = if_bind (with_bytes (guarded layout m.memory) ((t.at + 2 + t.count) % 65536) codes) _ (KeptBy old) (Kept old) (bytes_kept old (guarded layout m.memory) ((t.at + 2 + t.count) % 65536) codes (story_kept m k)) (λ mem h. given h.code)
 
-    closed_kept : (m : Machine) (tables : List OpenTable) → Kept old m → Gives (closed layout m tables) (Kept old)
+    closed_kept : (m : Machine) (tables : List OpenTable) → Kept old m → Gives (stream_closed layout m tables) (Kept old)
     closed_kept m [] k = given k
     closed_kept m (t ∷ ts) k = if_bind (with_word (guarded layout m.memory) t.at t.count) _ (KeptBy old) (Kept old) (word_kept old (guarded layout m.memory) t.at t.count (story_kept m k)) (λ mem h. given h.code)
 
-    opened_kept : (m : Machine) (at : ℕ) → Kept old m → Gives (opened m at) (Kept old)
-    unfolding opened
+    opened_kept : (m : Machine) (at : ℕ) → Kept old m → Gives (stream_opened m at) (Kept old)
+    unfolding stream_opened
     opened_kept m at k = if_cond _ _ _ (Kept old) (given k) refused
 
     streamed_kept : (m : Machine) (a : Args) → Kept old m → Gives (streamed layout m a) (Kept old)
@@ -388,9 +388,9 @@ module _ (layout : Layout) (laid : IsLaid layout) where
     out_kept [] effect m k = given k
     out_kept (t ∷ ts) effect m k = goes_kept (into_table layout m t ts (codes_in effect m)) (into_kept m t ts (codes_in effect m) k)
 
-    printed_kept : (effect : Effect) (m : Machine) → Kept old m → Gives (printed layout effect m) KeptBehind
-    unfolding printed
-    printed_kept effect m k = unless_kept (fault_in effect m) (let_out layout m.tables effect m) (out_kept m.tables effect m k)
+    printed_kept : (effect : Effect) (m : Machine) → Kept old m → Gives (print_effect layout effect m) KeptBehind
+    unfolding print_effect
+    printed_kept effect m k = unless_kept (effect_fault effect m) (let_out layout m.tables effect m) (out_kept m.tables effect m k)
 
     behind_kept : (tables : List OpenTable) (p : Effect × Machine) (after : Machine) → KeptBehind p → Kept old after → KeptBehind (then_returned tables p after)
     behind_kept [] p after h k = h
@@ -398,7 +398,7 @@ module _ (layout : Layout) (laid : IsLaid layout) where
 
     line_printed_kept : (m : Machine) (at : ℕ) → Kept old m → Gives (prints_line layout m at) KeptBehind
     unfolding prints_line
-    line_printed_kept m at k = if_bind (printed layout (PrintsLine at) m) _ KeptBehind KeptBehind (printed_kept (PrintsLine at) m k) (λ p h. if_bind (returned layout p.1 1) _ (Kept old) KeptBehind (returned_kept p.1 1 h) (λ after j. given (behind_kept m.tables p after h j)))
+    line_printed_kept m at k = if_bind (print_effect layout (PrintsLine at) m) _ KeptBehind KeptBehind (printed_kept (PrintsLine at) m k) (λ p h. if_bind (returned layout p.1 1) _ (Kept old) KeptBehind (returned_kept p.1 1 h) (λ after j. given (behind_kept m.tables p after h j)))
 
     text_printed_kept : (m : Machine) (found : Option ℕ) → Kept old m → Gives (prints_text_if layout m found) KeptBehind
     text_printed_kept m None k = given k
@@ -423,8 +423,8 @@ module _ (layout : Layout) (laid : IsLaid layout) where
     returns_kept : (m : Machine) → Kept old m → Gives (returns_popped layout m) KeptBehind
     returns_kept m k = if_bind (popped m) _ (KeptWith ℕ old) KeptBehind (popped_kept m k) (λ p h. goes_kept (returned layout p.1 p.0) (returned_kept p.1 p.0 h))
 
-    reads_kept : (m : Machine) (end : ℕ) (store : Option ℕ) (a : Args) → Kept old m → Gives (reads layout m end store a) KeptBehind
-    unfolding reads
+    reads_kept : (m : Machine) (end : ℕ) (store : Option ℕ) (a : Args) → Kept old m → Gives (read_effect layout m end store a) KeptBehind
+    unfolding read_effect
     reads_kept m end store a k = if_any (most_typed layout m a) _ KeptBehind (λ most. if_any (stored_if layout (at_pc m end) store 13) _ KeptBehind (λ after. given k))
 
     key_kept : (m : Machine) (end : ℕ) (store : Option ℕ) → Kept old m → Gives (reads_key layout m end store) KeptBehind
@@ -481,7 +481,7 @@ module _ (layout : Layout) (laid : IsLaid layout) where
     two_kept two.Call2s op end a = goes_kept m.memory (called layout m end op.store a) (called_kept m.memory m end op.store a here)
     two_kept two.Call2n op end a = goes_kept m.memory (called layout m end op.store a) (called_kept m.memory m end op.store a here)
     two_kept two.SetColour op end a = given here
-    two_kept two.Throw op end a = goes_kept m.memory (thrown layout m a.first a.second) (thrown_kept m.memory m a.first a.second here)
+    two_kept two.Throw op end a = goes_kept m.memory (frames_thrown layout m a.first a.second) (thrown_kept m.memory m a.first a.second here)
 
     one_kept : (i : One) (op : Op) (end : ℕ) (a : Args) → Gives (do_one layout i op end a m) SameBehind
     unfolding do_one
@@ -568,7 +568,7 @@ module _ (layout : Layout) (laid : IsLaid layout) where
   machine_kept : (rows : Rows) (word : ℕ) (m : Machine) → Gives (machine_step rows layout word m) (λ p. KeepsCode layout m.memory p.1.memory)
   unfolding machine_step
   machine_kept rows word m =
-      if_any (op_at rows m.memory m.pc) _ _ (λ found. if_bind (values_of layout m found.op.operands) _ (KeptWith Args m.memory) _ (values_kept m.memory m found.op.operands (same_kept m.memory)) (λ a k.
+      if_any (op_at rows m.memory m.pc) _ _ (λ found. if_bind (operand_values layout m found.op.operands) _ (KeptWith Args m.memory) _ (values_kept m.memory m found.op.operands (same_kept m.memory)) (λ a k.
       later_kept m.memory a.1 (do_instr layout word found.row.instr found.op found.end a.0 a.1) k (instr_kept a.1 word found.row.instr found.op found.end a.0)))
 
 -- ---- the player's step, and a run
@@ -602,7 +602,7 @@ module _ (w : ZGiven) (laid : IsLaid w.layout) where
   effect_after s (PrintsUnicode c) m k = k
   effect_after s (PrintsNumber x) m k = k
   effect_after s (PrintsText at) m k = k
-  effect_after s (PrintsLine at) m k = unless_after s (shown s m (text_bytes (string_at m.memory at) ++ 10 ∷ [])) (returned w.layout m 1) (returned_kept w.layout laid s.machine.memory m 1 k)
+  effect_after s (PrintsLine at) m k = unless_after s (with_output s m (text_bytes (string_at m.memory at) ++ 10 ∷ [])) (returned w.layout m 1) (returned_kept w.layout laid s.machine.memory m 1 k)
   effect_after s Draws m k = k
   effect_after s (Reads buffer most store) m k = line_after s m buffer most store s.typed k
   effect_after s (ReadsKey store) m k = key_after s m store s.typed k

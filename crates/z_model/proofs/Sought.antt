@@ -16,8 +16,8 @@ use Rattle.z_model.specs.declared.table.Row.{Row}
 use Rattle.z_model.specs.declared.op.OperandType.{OperandType}
 use Rattle.z_model.specs.declared.op.OperandType.TheVariants.{Large, Small, Variable, Omitted}
 use Rattle.z_model.specs.declared.op.OperandTypes.{OperandTypes}
-use Rattle.z_model.specs.Decode.{◌>>=◌, or_fault, byte_at, present, count_of, counted, text_at, operand_at, store_at, branch_at, body_at, found, short_branch, long_branch, on_true, signed_14}
-use Rattle.z_model.specs.Spelling.{type_if, type_of_operand, types_in, operand_bytes, store_bytes, branch_bytes, FitsType, FitsStore, FitsBranch, FitsOffset, unsigned_14, bit, Stands, AreBytes}
+use Rattle.z_model.specs.Decode.{◌>>=◌, or_fault, byte_at, present, operand_count, count_in_row, text_at, operand_at, store_at, branch_at, body_at, op_found, short_branch, long_branch, on_true, signed_14}
+use Rattle.z_model.specs.Spelling.{type_if, type_of_operand, types_in, operand_bytes, store_bytes, branch_bytes, FitsType, FitsStore, FitsBranch, FitsOffset, unsigned_14, bit, BytesAt, AreBytes}
 
 pub bind_ok : {A B : Type 0} (r : Result A ZFault) (f : A → Result B ZFault) (y : B) → (r >>= f) ≡ Ok y → (x : A) × (r ≡ Ok x) × (f x ≡ Ok y)
 bind_ok (Ok x) f y e = (x, refl, e)
@@ -37,7 +37,7 @@ ok_is x y e = cc
 pub record Read (bytes : List ℕ) (at : ℕ) (s : OperandType) (x : Operand × ℕ) : Type 0 where
   pub fits : FitsType s x.0
   pub kind : (s ≡ Omitted → ⊥) → type_of_operand x.0 ≡ s
-  pub stands : Stands bytes at (operand_bytes s x.0)
+  pub stands : BytesAt bytes at (operand_bytes s x.0)
   pub ends : x.1 ≡ at + length (operand_bytes s x.0)
 
 operand_found : (bytes : List ℕ) (at : ℕ) (s : OperandType) (x : Operand × ℕ) → AreBytes bytes → operand_at bytes s at ≡ Ok x → Read bytes at s x
@@ -81,18 +81,18 @@ pub record InOrder (s : OperandTypes) (count : ℕ) : Type 0 where
   pub third : present s.fourth ≤ present s.third
   pub sum : present s.first + present s.second + present s.third + present s.fourth ≡ count
 
-in_order : (s : OperandTypes) (count : ℕ) → count_of s ≡ Ok count → InOrder s count
-unfolding count_of
+in_order : (s : OperandTypes) (count : ℕ) → operand_count s ≡ Ok count → InOrder s count
+unfolding operand_count
 in_order s count e =
     let a = guard_ok (ltb (present s.first) (present s.second)) _ count e in
     let b = guard_ok (ltb (present s.second) (present s.third)) _ count a.1 in
     let c = guard_ok (ltb (present s.third) (present s.fourth)) _ count b.1 in
     record { first = ltb-false _ _ a.0; second = ltb-false _ _ b.0; third = ltb-false _ _ c.0; sum = ok_is _ _ c.1 }
 
-counted_is : (row : Row) (s : OperandTypes) (count : ℕ) → counted row s ≡ Ok count → count_of s ≡ Ok count
-unfolding counted
+counted_is : (row : Row) (s : OperandTypes) (count : ℕ) → count_in_row row s ≡ Ok count → operand_count s ≡ Ok count
+unfolding count_in_row
 counted_is row s count e =
-    let a = bind_ok (count_of s) _ count e in
+    let a = bind_ok (operand_count s) _ count e in
     let b = guard_ok (ltb a.0 row.fewest) _ count a.2 in
     let c = guard_ok (ltb row.most a.0) _ count b.1 in
     a.1 ∙ c.1
@@ -108,7 +108,7 @@ type_back Variable x k count there none kind = rw (lt-ltb k count (there refl)) 
 
 pub record ReadStore (bytes : List ℕ) (at : ℕ) (wanted : Bool) (x : Option ℕ × ℕ) : Type 0 where
   pub fits : FitsStore wanted x.0
-  pub stands : Stands bytes at (store_bytes x.0)
+  pub stands : BytesAt bytes at (store_bytes x.0)
   pub ends : x.1 ≡ at + length (store_bytes x.0)
 
 store_found : (bytes : List ℕ) (at : ℕ) (wanted : Bool) (x : Option ℕ × ℕ) → AreBytes bytes → store_at bytes wanted at ≡ Ok x → ReadStore bytes at wanted x
@@ -153,7 +153,7 @@ zero_of (suc (suc n)) lt h = absurd (omega arith)
 
 pub record ReadBranch (bytes : List ℕ) (at : ℕ) (wanted : Bool) (x : Option Branch × ℕ) : Type 0 where
   pub fits : FitsBranch wanted x.0
-  pub stands : Stands bytes at (branch_bytes x.0)
+  pub stands : BytesAt bytes at (branch_bytes x.0)
   pub ends : x.1 ≡ at + length (branch_bytes x.0)
 
 branch_found : (bytes : List ℕ) (at : ℕ) (wanted : Bool) (x : Option Branch × ℕ) → AreBytes bytes → branch_at bytes wanted at ≡ Ok x → ReadBranch bytes at wanted x
@@ -192,8 +192,8 @@ branch_found bytes at true x fits e =
 abbrev pub tail_of : OperandTypes → Op → List ℕ
 tail_of s op = operand_bytes s.first op.operands.first ++ (operand_bytes s.second op.operands.second ++ (operand_bytes s.third op.operands.third ++ (operand_bytes s.fourth op.operands.fourth ++ (store_bytes op.store ++ branch_bytes op.branch))))
 
-pub stands_both : (bytes : List ℕ) (at at' : ℕ) (xs ys : List ℕ) → at' ≡ at + length xs → Stands bytes at xs → Stands bytes at' ys → Stands bytes at (xs ++ ys)
-stands_both bytes at at' [] ys e h k = let same : at' ≡ at = e ∙ add-zero at in subst (λ (p : ℕ). Stands bytes p ys) same k
+pub stands_both : (bytes : List ℕ) (at at' : ℕ) (xs ys : List ℕ) → at' ≡ at + length xs → BytesAt bytes at xs → BytesAt bytes at' ys → BytesAt bytes at (xs ++ ys)
+stands_both bytes at at' [] ys e h k = let same : at' ≡ at = e ∙ add-zero at in subst (λ (p : ℕ). BytesAt bytes p ys) same k
 stands_both bytes at at' (x ∷ xs) ys e h k = (h.0, stands_both bytes (at + 1) at' xs ys (omega arith) h.1 k)
 
 six_long : (k1 k2 k3 k4 k5 k6 : List ℕ) (at a b c d f g : ℕ) → a ≡ at + length k1 → b ≡ a + length k2 → c ≡ b + length k3 → d ≡ c + length k4 → f ≡ d + length k5 → g ≡ f + length k6 → g ≡ at + length (k1 ++ (k2 ++ (k3 ++ (k4 ++ (k5 ++ k6)))))
@@ -204,14 +204,14 @@ pub record BodyFound (bytes : List ℕ) (at : ℕ) (f : Form) (n : ℕ) (row : R
   pub form : x.op.form ≡ f
   pub number : x.op.number ≡ n
   pub types : types_in x.op.operands ≡ s
-  pub count : counted row s ≡ Ok x.op.operands.count
+  pub count : count_in_row row s ≡ Ok x.op.operands.count
   pub first : FitsType s.first x.op.operands.first
   pub second : FitsType s.second x.op.operands.second
   pub third : FitsType s.third x.op.operands.third
   pub fourth : FitsType s.fourth x.op.operands.fourth
   pub store : FitsStore row.store x.op.store
   pub branch : FitsBranch row.branch x.op.branch
-  pub stands : Stands bytes at (tail_of s x.op)
+  pub stands : BytesAt bytes at (tail_of s x.op)
   pub text : text_at bytes row.text (at + length (tail_of s x.op)) ≡ Ok (x.op.text, x.end)
 
 four_same : (s t : OperandTypes) → s.first ≡ t.first → s.second ≡ t.second → s.third ≡ t.third → s.fourth ≡ t.fourth → s ≡ t
@@ -223,7 +223,7 @@ four_same s t p q r u = rebuilt t s.first s.second s.third s.fourth p q r u
 pub body_found : (bytes : List ℕ) (at : ℕ) (form : Form) (number : ℕ) (row : Row) (s : OperandTypes) (x : Found) → AreBytes bytes → body_at bytes form number row s at ≡ Ok x → BodyFound bytes at form number row s x
 unfolding body_at
 body_found bytes at form number row s x fits e =
-    let n = bind_ok (counted row s) _ x e in
+    let n = bind_ok (count_in_row row s) _ x e in
     let a = bind_ok (operand_at bytes s.first at) _ x n.2 in
     let b = bind_ok (operand_at bytes s.second a.0.1) _ x a.2 in
     let c = bind_ok (operand_at bytes s.third b.0.1) _ x b.2 in
@@ -247,7 +247,7 @@ body_found bytes at form number row s x fits e =
     let s3 : type_if (ltb 2 n.0) c.0.0 ≡ s.third = type_back s.third c.0.0 2 n.0 (λ p. omega arith) (λ p. omega arith) rc.kind in
     let s4 : type_if (ltb 3 n.0) d.0.0 ≡ s.fourth = type_back s.fourth d.0.0 3 n.0 (λ p. omega arith) (λ p. omega arith) rd.kind in
     let op : Op = record { form = form; number = number; operands = record { count = n.0; first = a.0.0; second = b.0.0; third = c.0.0; fourth = d.0.0 }; store = f.0.0; branch = g.0.0; text = h.0.0 } in
-    let made : Found = found row op h.0.1 in
+    let made : Found = op_found row op h.0.1 in
     let k6 : List ℕ = branch_bytes g.0.0 in
     let k5 : List ℕ = store_bytes f.0.0 in
     let k4 : List ℕ = operand_bytes s.fourth d.0.0 in

@@ -10,17 +10,17 @@ use Rattle.z_model.specs.declared.op.Found.{Found}
 use Rattle.z_model.specs.declared.table.Kind.TheVariants as kinds
 use Rattle.z_model.specs.declared.table.Row.{Row}
 use Rattle.z_model.specs.declared.op.OperandTypes.{OperandTypes}
-use Rattle.z_model.specs.Decode.{byte_at, known, variable_row, short_kind, counted, text_at, long_at, short_at, variable_at, extended_at, op_at, type_of, long_type, long_types, one_type, types_of}
-use Rattle.z_model.specs.Spelling.{types_in, code, type_byte, long_bit, head_bytes, row_of, IsByteType, FitsForm, FitsType, Stands, IsInstruction, AreBytes}
+use Rattle.z_model.specs.Decode.{byte_at, known, variable_row, short_kind, count_in_row, text_at, long_at, short_at, variable_at, extended_at, op_at, type_of, long_type, long_types, one_type, types_of}
+use Rattle.z_model.specs.Spelling.{types_in, type_code, type_byte, long_bit, head_bytes, row_of, IsByteType, FitsForm, FitsType, BytesAt, IsInstruction, AreBytes}
 use Rattle.z_model.proofs.Sought.{BodyFound, body_found, tail_of, bind_ok, or_ok, chosen, stands_both}
 
 moved : (P : Form → ℕ → OperandTypes → Type 0) (f f' : Form) (n n' : ℕ) (s s' : OperandTypes) → f' ≡ f → n' ≡ n → s' ≡ s → P f n s → P f' n' s'
 moved P f f' n n' s s' p q r h = subst (λ (g : Form). P g n' s') (sym p) (subst (λ (m : ℕ). P f m s') (sym q) (subst (λ (t : OperandTypes). P f n t) (sym r) h))
 
-finish : (rows : Rows) (bytes : List ℕ) (at : ℕ) (form : Form) (number : ℕ) (row : Row) (s : OperandTypes) (x : Found) → row_of rows form number s ≡ Ok row → FitsForm form number s → Stands bytes at (head_bytes form number s) → BodyFound bytes (at + length (head_bytes form number s)) form number row s x → IsInstruction rows bytes at x.op x.end
+finish : (rows : Rows) (bytes : List ℕ) (at : ℕ) (form : Form) (number : ℕ) (row : Row) (s : OperandTypes) (x : Found) → row_of rows form number s ≡ Ok row → FitsForm form number s → BytesAt bytes at (head_bytes form number s) → BodyFound bytes (at + length (head_bytes form number s)) form number row s x → IsInstruction rows bytes at x.op x.end
 finish rows bytes at form number row s x is fits head b =
     let long : at + length (head_bytes form number s) + length (tail_of s x.op) ≡ at + length (head_bytes form number s ++ tail_of s x.op) = omega (arith, length-append (head_bytes form number s) (tail_of s x.op)) in
-    let stands : Stands bytes at (head_bytes form number s ++ tail_of s x.op) = stands_both bytes at (at + length (head_bytes form number s)) (head_bytes form number s) (tail_of s x.op) refl head b.stands in
+    let stands : BytesAt bytes at (head_bytes form number s ++ tail_of s x.op) = stands_both bytes at (at + length (head_bytes form number s)) (head_bytes form number s) (tail_of s x.op) refl head b.stands in
     let text : text_at bytes row.text (at + length (head_bytes form number s ++ tail_of s x.op)) ≡ Ok (x.op.text, x.end) = subst (λ (p : ℕ). text_at bytes row.text p ≡ Ok (x.op.text, x.end)) long b.text in
     let f' = x.op.form in
     let n' = x.op.number in
@@ -30,7 +30,7 @@ finish rows bytes at form number row s x is fits head b =
       is = record {
         known = moved (λ f n t. row_of rows f n t ≡ Ok row) form f' number n' s s' b.form b.number b.types is;
         form = moved (λ f n t. FitsForm f n t) form f' number n' s s' b.form b.number b.types fits;
-        count = subst (λ (t : OperandTypes). counted row t ≡ Ok x.op.operands.count) (sym b.types) b.count;
+        count = subst (λ (t : OperandTypes). count_in_row row t ≡ Ok x.op.operands.count) (sym b.types) b.count;
         first = subst (λ (t : OperandTypes). FitsType t.first x.op.operands.first) (sym b.types) b.first;
         second = subst (λ (t : OperandTypes). FitsType t.second x.op.operands.second) (sym b.types) b.second;
         third = subst (λ (t : OperandTypes). FitsType t.third x.op.operands.third) (sym b.types) b.third;
@@ -38,7 +38,7 @@ finish rows bytes at form number row s x is fits head b =
         store = b.store;
         branch = b.branch;
       };
-      stands = moved (λ f n t. Stands bytes at (head_bytes f n t ++ tail_of t x.op)) form f' number n' s s' b.form b.number b.types stands;
+      stands = moved (λ f n t. BytesAt bytes at (head_bytes f n t ++ tail_of t x.op)) form f' number n' s s' b.form b.number b.types stands;
       text = moved (λ f n t. text_at bytes row.text (at + length (head_bytes f n t ++ tail_of t x.op)) ≡ Ok (x.op.text, x.end)) form f' number n' s s' b.form b.number b.types text;
     }
 
@@ -51,7 +51,7 @@ long_is_byte : (n : ℕ) → IsByteType (long_type n)
 long_is_byte zero = tt
 long_is_byte (suc n) = tt
 
-code_back : (n : ℕ) → n < 4 → code (type_of n) ≡ n
+code_back : (n : ℕ) → n < 4 → type_code (type_of n) ≡ n
 code_back zero lt = refl
 code_back (suc zero) lt = refl
 code_back (suc (suc zero)) lt = refl
@@ -81,7 +81,7 @@ module _ (rows : Rows) (bytes : List ℕ) (at : ℕ) (fits : AreBytes bytes) (x 
   short_found b byte ge lt other e =
       let r = bind_ok (known rows (short_kind (type_of (b / 16 % 4))) (b % 16)) _ x e in
       let e1 = code_back (b / 16 % 4) (omega arith) in
-      let whole : 128 + 16 * code (type_of (b / 16 % 4)) + b % 16 ≡ b = omega (arith, e1) in
+      let whole : 128 + 16 * type_code (type_of (b / 16 % 4)) + b % 16 ≡ b = omega (arith, e1) in
       finish rows bytes at forms.Short (b % 16) r.0 (one_type (type_of (b / 16 % 4))) x r.1 (omega arith, refl, refl, refl, λ p. other (sym whole ∙ p)) (rw whole byte, tt) (body_found bytes (at + 1) forms.Short (b % 16) r.0 (one_type (type_of (b / 16 % 4))) x fits r.2)
 
   variable_found : (b : ℕ) → slice_get bytes at ≡ Some b → 192 ≤ b → b < 256 → variable_at rows bytes at b ≡ Ok x → IsInstruction rows bytes at x.op x.end

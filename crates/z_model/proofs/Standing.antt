@@ -8,9 +8,9 @@ use Rattle.z_model.specs.declared.op.Found.{Found}
 use Rattle.z_model.specs.declared.story.Layout.{Layout}
 use Rattle.z_model.specs.Table.{Rows}
 use Rattle.z_model.specs.Decode.{◌>>=◌, op_at, text_at}
-use Rattle.z_model.specs.Spelling.{spelling, Stands, FitsText, IsOfTable, IsInstruction}
+use Rattle.z_model.specs.Spelling.{spelling, BytesAt, FitsText, IsOfTable, IsInstruction}
 use Rattle.z_model.specs.Text.{string_at}
-use Rattle.z_model.specs.Machine.{Machine, values_of}
+use Rattle.z_model.specs.Machine.{Machine, operand_values}
 use Rattle.z_model.specs.Step.{do_instr, machine_step}
 use Rattle.z_model.specs.Laws.{KeepsCode, StandsOn, IsDone, IsTextless, InARow}
 use Rattle.z_model.proofs.Again.{front_stands, rest_stands, instruction_again}
@@ -37,7 +37,7 @@ module _ (layout : Layout) (old new : List ℕ) (kept : KeepsCode layout old new
       let e : layout.base + (at - layout.base) ≡ at = omega arith in
       subst (λ (a : ℕ). drop a new ≡ drop a old) e (drop_behind new layout.base (at - layout.base) ∙ ap (drop (at - layout.base)) kept.code ∙ sym (drop_behind old layout.base (at - layout.base)))
 
-  bytes_on : (at : ℕ) (bytes : List ℕ) → layout.base ≤ at → Stands old at bytes → Stands new at bytes
+  bytes_on : (at : ℕ) (bytes : List ℕ) → layout.base ≤ at → BytesAt old at bytes → BytesAt new at bytes
   bytes_on at [] le h = tt
   bytes_on at (b ∷ bytes) le h = (get_kept at le ∙ h.0, bytes_on (at + 1) bytes (omega arith) h.1)
 
@@ -72,7 +72,7 @@ pub is_done : (rows : Rows) (layout : Layout) (word : ℕ) (m : Machine) → IsD
 unfolding machine_step
 is_done rows layout word m = record { is = λ op end i. by_found op end i (instruction_again rows m.memory m.pc op end i) }
   where
-    by_found : (op : Op) (end : ℕ) (i : IsInstruction rows m.memory m.pc op end) → op_at rows m.memory m.pc ≡ Ok (record { row = i.row; op = op; end = end }) → machine_step rows layout word m ≡ (values_of layout m op.operands >>= λ a. do_instr layout word i.row.instr op end a.0 a.1)
+    by_found : (op : Op) (end : ℕ) (i : IsInstruction rows m.memory m.pc op end) → op_at rows m.memory m.pc ≡ Ok (record { row = i.row; op = op; end = end }) → machine_step rows layout word m ≡ (operand_values layout m op.operands >>= λ a. do_instr layout word i.row.instr op end a.0 a.1)
     by_found op end i e = rw e refl
 
 -- ---- instructions in a row
@@ -92,13 +92,13 @@ at_seam (x ∷ front) rest op d = at_seam front rest op d
 seam_within : (front rest : List Op) (op : Op) → length front < length (front ++ op ∷ rest)
 seam_within front rest op = omega (arith, length-append front (op ∷ rest))
 
-pub in_a_row : (rows : Rows) (bytes : List ℕ) (at : ℕ) (ops : List Op) → All (IsTextless rows) ops → Stands bytes at (flat_map spelling ops) → InARow rows bytes at ops
-in_a_row rows bytes at ops all stands = record { each = λ front rest op e. instruction front rest op (subst (λ (l : List Op). All (IsTextless rows) l) e all) (subst (λ (l : List Op). Stands bytes at (flat_map spelling l)) e stands) }
+pub in_a_row : (rows : Rows) (bytes : List ℕ) (at : ℕ) (ops : List Op) → All (IsTextless rows) ops → BytesAt bytes at (flat_map spelling ops) → InARow rows bytes at ops
+in_a_row rows bytes at ops all stands = record { each = λ front rest op e. instruction front rest op (subst (λ (l : List Op). All (IsTextless rows) l) e all) (subst (λ (l : List Op). BytesAt bytes at (flat_map spelling l)) e stands) }
   where
-    instruction : (front rest : List Op) (op : Op) → All (IsTextless rows) (front ++ op ∷ rest) → Stands bytes at (flat_map spelling (front ++ op ∷ rest)) → IsInstruction rows bytes (at + length (flat_map spelling front)) op (at + length (flat_map spelling front) + length (spelling op))
+    instruction : (front rest : List Op) (op : Op) → All (IsTextless rows) (front ++ op ∷ rest) → BytesAt bytes at (flat_map spelling (front ++ op ∷ rest)) → IsInstruction rows bytes (at + length (flat_map spelling front)) op (at + length (flat_map spelling front) + length (spelling op))
     instruction front rest op all stands =
         let textless : IsTextless rows op = subst (IsTextless rows) (at_seam front rest op op) (all (length front) op (seam_within front rest op)) in
-        let split : Stands bytes at (flat_map spelling front ++ (spelling op ++ flat_map spelling rest)) = subst (Stands bytes at) (flat_map-append spelling front (op ∷ rest)) stands in
+        let split : BytesAt bytes at (flat_map spelling front ++ (spelling op ++ flat_map spelling rest)) = subst (BytesAt bytes at) (flat_map-append spelling front (op ∷ rest)) stands in
         let behind = rest_stands bytes at (flat_map spelling front) (spelling op ++ flat_map spelling rest) split in
         record {
           row = textless.of_table.row;

@@ -10,7 +10,7 @@ use Rattle.z_model.specs.declared.table.Row.{Row}
 use Rattle.z_model.specs.declared.op.OperandType.{OperandType}
 use Rattle.z_model.specs.declared.op.OperandType.TheVariants.{Large, Small, Variable, Omitted}
 use Rattle.z_model.specs.declared.op.OperandTypes.{OperandTypes}
-use Rattle.z_model.specs.Decode.{◌>>=◌, or_fault, byte_at, known, counted, text_at, text_end, operand_at, store_at, branch_at, short_branch, long_branch, body_at, found, long_at, short_at, variable_at, variable_row, extended_at, op_at, short_kind, type_of, types_of, one_type, long_types}
+use Rattle.z_model.specs.Decode.{◌>>=◌, or_fault, byte_at, known, count_in_row, text_at, text_end, operand_at, store_at, branch_at, short_branch, long_branch, body_at, op_found, long_at, short_at, variable_at, variable_row, extended_at, op_at, short_kind, type_of, types_of, one_type, long_types}
 use Rattle.z_model.specs.declared.table.Kind.TheVariants as kinds
 use Rattle.z_model.specs.Spelling.{IsInstruction}
 use Rattle.z_model.proofs.Again.{instruction_again}
@@ -77,7 +77,7 @@ module _ (more : List ℕ) where
   body_stays : (bytes : List ℕ) (form : Form) (number : ℕ) (row : Row) (s : OperandTypes) (at : ℕ) → Stays (body_at bytes form number row s at) (body_at (bytes ++ more) form number row s at)
   unfolding body_at
   body_stays bytes form number row s at =
-      bind_same (counted row s) _ _ (λ n. bind_stays _ _ _ _ (operand_stays bytes s.first at) (λ a. bind_stays _ _ _ _ (operand_stays bytes s.second a.1) (λ b. bind_stays _ _ _ _ (operand_stays bytes s.third b.1) (λ c. bind_stays _ _ _ _ (operand_stays bytes s.fourth c.1) (λ d. bind_stays _ _ _ _ (store_stays bytes row.store d.1) (λ f. bind_stays _ _ _ _ (branch_stays bytes row.branch f.1) (λ g. bind_stays _ _ _ _ (text_stays bytes row.text g.1) (λ t. inr refl))))))))
+      bind_same (count_in_row row s) _ _ (λ n. bind_stays _ _ _ _ (operand_stays bytes s.first at) (λ a. bind_stays _ _ _ _ (operand_stays bytes s.second a.1) (λ b. bind_stays _ _ _ _ (operand_stays bytes s.third b.1) (λ c. bind_stays _ _ _ _ (operand_stays bytes s.fourth c.1) (λ d. bind_stays _ _ _ _ (store_stays bytes row.store d.1) (λ f. bind_stays _ _ _ _ (branch_stays bytes row.branch f.1) (λ g. bind_stays _ _ _ _ (text_stays bytes row.text g.1) (λ t. inr refl))))))))
 
 module _ (rows : Rows) (more : List ℕ) where
   long_stays : (bytes : List ℕ) (at b : ℕ) → Stays (long_at rows bytes at b) (long_at rows (bytes ++ more) at b)
@@ -112,4 +112,4 @@ not_both r x p q = cc
 
 -- where the bytes show that no instruction stands there, none does, whatever comes behind
 pub bad_opcode : (rows : Rows) (bytes : List ℕ) (at : ℕ) → op_at rows bytes at ≡ Err BadOpcode → (more : List ℕ) (op : Op) (end : ℕ) → IsInstruction rows (bytes ++ more) at op end → ⊥
-bad_opcode rows bytes at bad more op end i = not_both (op_at rows (bytes ++ more) at) (found i.row op end) (still_bad (op_at rows bytes at) (op_at rows (bytes ++ more) at) (op_stays rows more bytes at) bad) (instruction_again rows (bytes ++ more) at op end i)
+bad_opcode rows bytes at bad more op end i = not_both (op_at rows (bytes ++ more) at) (op_found i.row op end) (still_bad (op_at rows bytes at) (op_at rows (bytes ++ more) at) (op_stays rows more bytes at) bad) (instruction_again rows (bytes ++ more) at op end i)

@@ -4,23 +4,23 @@ use Rattle.std.proofs.Math.Seq.{drop-append_seam}
 use Rattle.z_model.specs.Table.{Rows}
 use Rattle.z_model.specs.declared.op.Op.{Op}
 use Rattle.z_model.specs.Decode.{text_end, text_at}
-use Rattle.z_model.specs.Spelling.{spelling, Stands, IsOfTable, IsText, IsInstruction, Written}
+use Rattle.z_model.specs.Spelling.{spelling, BytesAt, IsOfTable, IsText, IsInstruction, Written}
 use Rattle.z_model.proofs.Again.{instruction_again}
 use Rattle.z_model.proofs.Stays.{end_stays}
 
-behind_one : (b : ℕ) (bytes : List ℕ) (at : ℕ) (xs : List ℕ) → Stands bytes at xs → Stands (b ∷ bytes) (at + 1) xs
+behind_one : (b : ℕ) (bytes : List ℕ) (at : ℕ) (xs : List ℕ) → BytesAt bytes at xs → BytesAt (b ∷ bytes) (at + 1) xs
 behind_one b bytes at [] h = tt
 behind_one b bytes at (x ∷ xs) h = (rw add-one h.0, behind_one b bytes (at + 1) xs h.1)
 
-at_front : (xs ys : List ℕ) → Stands (xs ++ ys) 0 xs
+at_front : (xs ys : List ℕ) → BytesAt (xs ++ ys) 0 xs
 at_front [] ys = tt
 at_front (x ∷ xs) ys = (refl, behind_one x (xs ++ ys) 0 xs (at_front xs ys))
 
-stands_between : (front xs ys : List ℕ) → Stands (front ++ (xs ++ ys)) (length front) xs
+stands_between : (front xs ys : List ℕ) → BytesAt (front ++ (xs ++ ys)) (length front) xs
 stands_between [] xs ys = at_front xs ys
 stands_between (b ∷ front) xs ys =
     let e : length front + 1 ≡ suc (length front) = omega arith in
-    subst (λ (k : ℕ). Stands (b ∷ front ++ (xs ++ ys)) k xs) e (behind_one b (front ++ (xs ++ ys)) (length front) xs (stands_between front xs ys))
+    subst (λ (k : ℕ). BytesAt (b ∷ front ++ (xs ++ ys)) k xs) e (behind_one b (front ++ (xs ++ ys)) (length front) xs (stands_between front xs ys))
 
 -- ---- the text
 

@@ -13,7 +13,7 @@ use Rattle.z_model.specs.declared.table.Several.{Several}
 use Rattle.z_model.specs.declared.table.Several.TheVariants as several
 use Rattle.z_model.specs.declared.table.Extended.{Extended}
 use Rattle.z_model.specs.declared.table.Extended.TheVariants as extended
-use Rattle.z_model.specs.Table.{Rows, rows_of}
+use Rattle.z_model.specs.Table.{Rows, player_rows}
 use Rattle.z_model.specs.Run.{ZGiven, ZState, zrun}
 use Rattle.z_model.specs.Parts.{IsBroken}
 
@@ -96,7 +96,7 @@ basic_row (Some row) = if is_basic row.instr then Some row else None
 
 -- the part of the table that has the basic instructions
 abbrev pub basic_rows : Rows
-basic_rows kind = map basic_row (rows_of kind)
+basic_rows kind = map basic_row (player_rows kind)
 
 -- the same run by another table
 abbrev pub by_rows : Rows → ZGiven → ZGiven
@@ -104,4 +104,4 @@ by_rows rows w = record w { rows = rows }
 
 -- A run by the basic instructions that doesn't break has the same output and end by all of them.
 pub record BasicRunsStay (w : ZGiven) (s : ZState) : Type 0 where
-  pub same : (n : ℕ) → (IsBroken (zrun (by_rows basic_rows w) n s).end → ⊥) → zrun (by_rows rows_of w) n s ≡ zrun (by_rows basic_rows w) n s
+  pub same : (n : ℕ) → (IsBroken (zrun (by_rows basic_rows w) n s).end → ⊥) → zrun (by_rows player_rows w) n s ≡ zrun (by_rows basic_rows w) n s

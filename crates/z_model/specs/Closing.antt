@@ -2,7 +2,7 @@
 use Rattle.std.specs.Prelude.{ℕ, List, [], ◌∷◌, ◌++◌, Bool, true, false, not, codes, decimal, ◌==◌}
 use Rattle.z_model.specs.declared.end.ZEnd.{ZEnd}
 use Rattle.z_model.specs.declared.end.ZEnd.TheVariants as ends
-use Rattle.z_model.specs.Fault.{number_of}
+use Rattle.z_model.specs.Fault.{printed_number}
 use Rattle.z_model.specs.Run.{ZRun}
 
 -- the line of an end, with its newline; a story that quits has none
@@ -10,7 +10,7 @@ abbrev pub end_line : ZEnd → List ℕ
 end_line ends.Quit = []
 end_line ends.InputEnded = codes "[End of input]\n"
 end_line ends.StepLimit = codes "[Step limit]\n"
-end_line (ends.Broken fault at) = codes "[Broken: " ++ decimal (number_of fault) ++ codes " at " ++ decimal at ++ codes "]\n"
+end_line (ends.Broken fault at) = codes "[Broken: " ++ decimal (printed_number fault) ++ codes " at " ++ decimal at ++ codes "]\n"
 
 -- the line where a byte can't be read from the input
 abbrev pub unread_line : List ℕ

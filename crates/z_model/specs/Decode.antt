@@ -63,17 +63,17 @@ present Variable = 1
 present Omitted = 0
 
 -- how many there are, where none stands behind one that is omitted
-unfoldable pub count_of : OperandTypes → Result ℕ ZFault
-count_of s =
+unfoldable pub operand_count : OperandTypes → Result ℕ ZFault
+operand_count s =
     if nat_lt (present s.first) (present s.second) then Err BadOpcode
     else if nat_lt (present s.second) (present s.third) then Err BadOpcode
     else if nat_lt (present s.third) (present s.fourth) then Err BadOpcode
     else Ok (present s.first + present s.second + present s.third + present s.fourth)
 
 -- how many there are, where the row allows it
-unfoldable pub counted : Row → OperandTypes → Result ℕ ZFault
-counted row types = do
-  count ← count_of types
+unfoldable pub count_in_row : Row → OperandTypes → Result ℕ ZFault
+count_in_row row types = do
+  count ← operand_count types
   if nat_lt count row.fewest then Err BadOpcode else if nat_lt row.most count then Err BadOpcode else Ok count
 
 -- an operand, and the place behind it
@@ -132,13 +132,13 @@ text_at bytes true at = do
   Ok (end - at, end)
 
 -- an op of a row, and the place behind it
-abbrev pub found : Row → Op → ℕ → Found
-found row op end = record { row = row; op = op; end = end }
+abbrev pub op_found : Row → Op → ℕ → Found
+op_found row op end = record { row = row; op = op; end = end }
 
 -- the instruction of a row, once what stands behind the types is read
 unfoldable pub body_at : List ℕ → Form → ℕ → Row → OperandTypes → ℕ → Result Found ZFault
 body_at bytes form number row types at = do
-  count ← counted row types
+  count ← count_in_row row types
   first ← operand_at bytes types.first at
   second ← operand_at bytes types.second first.1
   third ← operand_at bytes types.third second.1
@@ -146,7 +146,7 @@ body_at bytes form number row types at = do
   store ← store_at bytes row.store fourth.1
   branch ← branch_at bytes row.branch store.1
   text ← text_at bytes row.text branch.1
-  Ok (found row (record {
+  Ok (op_found row (record {
     form = form;
     number = number;
     store = store.0;

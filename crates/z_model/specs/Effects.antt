@@ -14,7 +14,7 @@ use Rattle.z_model.specs.Text.{string_at, print_fault}
 use Rattle.z_model.specs.Memory.{Memory, word_of, guarded, is_writable, byte_in, have_right}
 use Rattle.z_model.specs.Machine.{Machine, popped, stored_if, held_in, placed}
 use Rattle.z_model.specs.Flow.{at_pc, returned, branched}
-use Rattle.z_model.specs.Tables.{usual_form, or_zero, scanned}
+use Rattle.z_model.specs.Tables.{usual_form, found_or_zero, scanned}
 use Rattle.z_model.specs.Properties.{name_place}
 use Rattle.z_model.specs.Streams.{codes_in, into_table}
 
@@ -32,8 +32,8 @@ abbrev pub answers_or : Layout → Machine → ℕ → Option ℕ → Result ℕ
 answers_or layout m end store r = r >>= λ x. answers layout m end store x
 
 -- the machine with other bytes in its memory, unless there is a fault
-abbrev pub written : Machine → ℕ → Result Memory ZFault → Result (Effect × Machine) ZFault
-written m end r = r >>= λ memory. Ok (Goes, record m { memory = memory.bytes; pc = end })
+abbrev pub write_effect : Machine → ℕ → Result Memory ZFault → Result (Effect × Machine) ZFault
+write_effect m end r = r >>= λ memory. Ok (Goes, record m { memory = memory.bytes; pc = end })
 
 -- a test, unless there is a fault
 abbrev pub tests_or : Layout → Machine → ℕ → Option Branch → Result Bool ZFault → Result (Effect × Machine) ZFault
@@ -55,7 +55,7 @@ answers_object layout m end store branch r = r >>= λ x. answers_and_tests layou
 
 -- a place is stored, or 0, and it is tested whether there is one
 abbrev pub answers_place : Layout → Machine → ℕ → Option ℕ → Option Branch → Result (Option ℕ) ZFault → Result (Effect × Machine) ZFault
-answers_place layout m end store branch r = r >>= λ found. answers_and_tests layout m end store branch (or_zero found) (is_some found)
+answers_place layout m end store branch r = r >>= λ found. answers_and_tests layout m end store branch (found_or_zero found) (is_some found)
 
 -- where a value stands in a table; the fourth operand is the form of its entries
 abbrev pub sought : Layout → Machine → Args → Result (Option ℕ) ZFault
@@ -64,17 +64,17 @@ sought layout m a = scanned (guarded layout m.memory) a.first (if nat_lt 3 a.cou
 -- ---- printing
 
 -- why what an effect prints may not be printed, if it may not
-abbrev pub fault_in : Effect → Machine → Option ZFault
-fault_in Goes m = None
-fault_in (PrintsCode c) m = if is_printed c then None else Some BadCharacter
-fault_in (PrintsUnicode c) m = if is_character c then None else Some BadCharacter
-fault_in (PrintsNumber x) m = None
-fault_in (PrintsText at) m = print_fault (string_at m.memory at)
-fault_in (PrintsLine at) m = print_fault (string_at m.memory at)
-fault_in Draws m = None
-fault_in (Reads buffer most store) m = None
-fault_in (ReadsKey store) m = None
-fault_in Quits m = None
+abbrev pub effect_fault : Effect → Machine → Option ZFault
+effect_fault Goes m = None
+effect_fault (PrintsCode c) m = if is_printed c then None else Some BadCharacter
+effect_fault (PrintsUnicode c) m = if is_character c then None else Some BadCharacter
+effect_fault (PrintsNumber x) m = None
+effect_fault (PrintsText at) m = print_fault (string_at m.memory at)
+effect_fault (PrintsLine at) m = print_fault (string_at m.memory at)
+effect_fault Draws m = None
+effect_fault (Reads buffer most store) m = None
+effect_fault (ReadsKey store) m = None
+effect_fault Quits m = None
 
 -- this, unless there is a fault
 abbrev pub unless : Option ZFault → Result (Effect × Machine) ZFault → Result (Effect × Machine) ZFault
@@ -87,8 +87,8 @@ let_out layout [] effect m = Ok (effect, m)
 let_out layout (t ∷ ts) effect m = goes (into_table layout m t ts (codes_in effect m))
 
 -- Each instruction that prints does so by this alone.
-unfoldable pub printed : Layout → Effect → Machine → Result (Effect × Machine) ZFault
-printed layout effect m = unless (fault_in effect m) (let_out layout m.tables effect m)
+unfoldable pub print_effect : Layout → Effect → Machine → Result (Effect × Machine) ZFault
+print_effect layout effect m = unless (effect_fault effect m) (let_out layout m.tables effect m)
 
 -- a return behind what is printed: it is tried here, and made once the text is out
 abbrev pub then_returned : List OpenTable → Effect × Machine → Machine → Effect × Machine
@@ -97,12 +97,12 @@ then_returned (t ∷ ts) p after = (Goes, after)
 
 -- the text is followed by a newline and a return
 unfoldable pub prints_line : Layout → Machine → ℕ → Result (Effect × Machine) ZFault
-prints_line layout m at = printed layout (PrintsLine at) m >>= λ p. returned layout p.1 1 >>= λ after. Ok (then_returned m.tables p after)
+prints_line layout m at = print_effect layout (PrintsLine at) m >>= λ p. returned layout p.1 1 >>= λ after. Ok (then_returned m.tables p after)
 
 -- a string, if there is one
 abbrev pub prints_text_if : Layout → Machine → Option ℕ → Result (Effect × Machine) ZFault
 prints_text_if layout m None = Ok (Goes, m)
-prints_text_if layout m (Some at) = printed layout (PrintsText at) m
+prints_text_if layout m (Some at) = print_effect layout (PrintsText at) m
 
 -- the short name of an object
 unfoldable pub prints_name : Layout → Machine → ℕ → ℕ → Result (Effect × Machine) ZFault
@@ -142,8 +142,8 @@ most_typed layout m a =
     if have_right (is_writable layout) ((a.first + 1) % 65536) (most + 1) then Ok most else Err BadWrite)
 
 -- what is stored behind a reading is tried before the line is taken
-unfoldable pub reads : Layout → Machine → ℕ → Option ℕ → Args → Result (Effect × Machine) ZFault
-reads layout m end store a =
+unfoldable pub read_effect : Layout → Machine → ℕ → Option ℕ → Args → Result (Effect × Machine) ZFault
+read_effect layout m end store a =
     most_typed layout m a >>= λ most. stored_if layout (at_pc m end) store 13 >>= λ after. Ok (Reads a.first most store, at_pc m end)
 
 -- the same of a typed byte, whose code is stored

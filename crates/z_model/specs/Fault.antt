@@ -5,23 +5,23 @@ use Rattle.z_model.specs.declared.fault.ZFault.TheVariants.{BadOpcode, OffEnd, B
 use Rattle.z_model.specs.declared.fault.ZFault.TheVariants.{BadCall, BadString, BadCharacter, BadReturn, Unsupported, BadObject, BadProperty, BadStream}
 
 -- the number that is printed
-abbrev pub number_of : ZFault → ℕ
-number_of BadOpcode = 50
-number_of OffEnd = 51
-number_of BadAddress = 52
-number_of BadWrite = 53
-number_of StackEmpty = 54
-number_of StackFull = 55
-number_of BadLocal = 56
-number_of DivideByZero = 57
-number_of BadCall = 58
-number_of BadString = 59
-number_of BadCharacter = 60
-number_of BadReturn = 61
-number_of Unsupported = 62
-number_of BadObject = 63
-number_of BadProperty = 64
-number_of BadStream = 65
+abbrev pub printed_number : ZFault → ℕ
+printed_number BadOpcode = 50
+printed_number OffEnd = 51
+printed_number BadAddress = 52
+printed_number BadWrite = 53
+printed_number StackEmpty = 54
+printed_number StackFull = 55
+printed_number BadLocal = 56
+printed_number DivideByZero = 57
+printed_number BadCall = 58
+printed_number BadString = 59
+printed_number BadCharacter = 60
+printed_number BadReturn = 61
+printed_number Unsupported = 62
+printed_number BadObject = 63
+printed_number BadProperty = 64
+printed_number BadStream = 65
 
 -- its text, for a reader of the error
 abbrev pub text_of_fault : ZFault → List ℕ

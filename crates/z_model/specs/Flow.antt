@@ -15,14 +15,14 @@ abbrev pub at_pc : Machine → ℕ → Machine
 at_pc m pc = record m { pc = pc }
 
 -- an address, which may not be below 0
-abbrev pub address : ℤ → Result ℕ ZFault
-address (pos n) = Ok n
-address (negsuc n) = Err OffEnd
+abbrev pub jump_address : ℤ → Result ℕ ZFault
+jump_address (pos n) = Ok n
+jump_address (negsuc n) = Err OffEnd
 
 -- the address behind, plus the offset, minus 2
 unfoldable pub jumped : Machine → ℕ → ℤ → Result Machine ZFault
 jumped m end offset = do
-  pc ← address (pos end +ℤ offset -ℤ pos 2)
+  pc ← jump_address (pos end +ℤ offset -ℤ pos 2)
   Ok (at_pc m pc)
 
 -- the answer of a routine, for its caller to store
@@ -39,8 +39,8 @@ in_frames m [] = m
 in_frames m (f ∷ fs) = record m { here = f; callers = fs }
 
 -- The frames above that of a number are dropped, and it returns an answer; the opening frame is 0.
-unfoldable pub thrown : Layout → Machine → ℕ → ℕ → Result Machine ZFault
-thrown layout m x frame =
+unfoldable pub frames_thrown : Layout → Machine → ℕ → ℕ → Result Machine ZFault
+frames_thrown layout m x frame =
     if (frame == 0) || nat_lt (length m.callers) frame then Err BadReturn
     else returned layout (in_frames m (drop (length m.callers - frame) (m.here ∷ m.callers))) x
 
@@ -79,8 +79,8 @@ abbrev pub callee : ℕ → Option ℕ → Args → ℕ → Frame
 callee end store a n = record { back = end; store = store; args = a.count - 1; locals = locals_from n a; stack = [] }
 
 -- at most 8,192 frames and 65,536 words
-unfoldable pub entered : Machine → ℕ → Option ℕ → Args → Result Machine ZFault
-entered m end store a =
+unfoldable pub frame_entered : Machine → ℕ → Option ℕ → Args → Result Machine ZFault
+frame_entered m end store a =
     if nat_lt (length m.callers + 1) 8192 then
     (local_count m.memory (8 * a.first) >>= λ n.
     if nat_lt 65536 (words m + n) then Err StackFull
@@ -89,4 +89,4 @@ entered m end store a =
 
 -- the routine at the packed address 0 answers 0
 unfoldable pub called : Layout → Machine → ℕ → Option ℕ → Args → Result Machine ZFault
-called layout m end store a = if a.first == 0 then stored_if layout (at_pc m end) store 0 else entered m end store a
+called layout m end store a = if a.first == 0 then stored_if layout (at_pc m end) store 0 else frame_entered m end store a

@@ -8,9 +8,9 @@ use Rattle.z_model.specs.declared.end.ZEnd.{ZEnd}
 use Rattle.z_model.specs.declared.end.ZEnd.TheVariants as ends
 use Rattle.z_model.specs.Table.{Rows}
 use Rattle.z_model.specs.Decode.{◌>>=◌, op_at}
-use Rattle.z_model.specs.Spelling.{spelling, Stands, IsOfTable, IsInstruction}
+use Rattle.z_model.specs.Spelling.{spelling, BytesAt, IsOfTable, IsInstruction}
 use Rattle.z_model.specs.Text.{string_at}
-use Rattle.z_model.specs.Machine.{Machine, values_of}
+use Rattle.z_model.specs.Machine.{Machine, operand_values}
 use Rattle.z_model.specs.Step.{do_instr, machine_step}
 use Rattle.z_model.specs.Run.{ZGiven, ZState, Next, On, Ended, ZRun, zstep, zrun}
 
@@ -54,7 +54,7 @@ pub record CodeStays (w : ZGiven) (s : ZState) : Type 0 where
 
 -- What stands from the static base on stands in each memory that keeps the code.
 pub record StandsOn (layout : Layout) (old new : List ℕ) : Type 0 where
-  pub bytes : (at : ℕ) (bytes : List ℕ) → layout.base ≤ at → Stands old at bytes → Stands new at bytes
+  pub bytes : (at : ℕ) (bytes : List ℕ) → layout.base ≤ at → BytesAt old at bytes → BytesAt new at bytes
   pub instruction : (rows : Rows) (at : ℕ) (op : Op) (end : ℕ) → layout.base ≤ at → IsInstruction rows old at op end → IsInstruction rows new at op end
   pub decoded : (rows : Rows) (at : ℕ) (x : Found) → layout.base ≤ at → IsInstruction rows old at x.op x.end →
       op_at rows old at ≡ Ok x → op_at rows new at ≡ Ok x
@@ -65,7 +65,7 @@ pub record StandsOn (layout : Layout) (old new : List ℕ) : Type 0 where
 -- The operands of the instruction at the counter are taken, and then it does what its row says.
 pub record IsDone (rows : Rows) (layout : Layout) (word : ℕ) (m : Machine) : Type 0 where
   pub is : (op : Op) (end : ℕ) (i : IsInstruction rows m.memory m.pc op end) →
-      machine_step rows layout word m ≡ (values_of layout m op.operands >>= λ a. do_instr layout word i.row.instr op end a.0 a.1)
+      machine_step rows layout word m ≡ (operand_values layout m op.operands >>= λ a. do_instr layout word i.row.instr op end a.0 a.1)
 
 -- an op of the table without literal text
 pub record IsTextless (rows : Rows) (op : Op) : Type 0 where

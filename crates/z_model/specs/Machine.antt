@@ -30,16 +30,16 @@ pub record Machine : Type 0 where
 
 -- ---- words on the stacks
 
-abbrev pub words_of : Frame → ℕ
-words_of f = length f.locals + length f.stack
+abbrev pub frame_words : Frame → ℕ
+frame_words f = length f.locals + length f.stack
 
 abbrev pub words_in : List Frame → ℕ
 words_in [] = 0
-words_in (f ∷ fs) = words_in fs + words_of f
+words_in (f ∷ fs) = words_in fs + frame_words f
 
 -- the words of all frames
 abbrev pub words : Machine → ℕ
-words m = words_in m.callers + words_of m.here
+words m = words_in m.callers + frame_words m.here
 
 abbrev pub with_stack : Machine → List ℕ → Machine
 with_stack m stack = record m { here = record m.here { stack = stack } }
@@ -109,17 +109,17 @@ placed layout m v x = if v == 0 then (popped m >>= λ p. pushed p.1 x) else stor
 
 -- ---- operands, from left to right
 
-unfoldable pub value_of : Layout → Machine → Operand → Result (ℕ × Machine) ZFault
-value_of layout m (operands.Large w) = Ok (w, m)
-value_of layout m (operands.Small b) = Ok (b, m)
-value_of layout m (operands.Variable v) = variable_of layout m v
+unfoldable pub operand_value : Layout → Machine → Operand → Result (ℕ × Machine) ZFault
+operand_value layout m (operands.Large w) = Ok (w, m)
+operand_value layout m (operands.Small b) = Ok (b, m)
+operand_value layout m (operands.Variable v) = variable_of layout m v
 
 unfoldable pub value_if : Layout → Machine → Bool → Operand → Result (ℕ × Machine) ZFault
 value_if layout m false x = Ok (0, m)
-value_if layout m true x = value_of layout m x
+value_if layout m true x = operand_value layout m x
 
-unfoldable pub values_of : Layout → Machine → Operands → Result (Args × Machine) ZFault
-values_of layout m o = do
+unfoldable pub operand_values : Layout → Machine → Operands → Result (Args × Machine) ZFault
+operand_values layout m o = do
   first ← value_if layout m (nat_lt 0 o.count) o.first
   second ← value_if layout first.1 (nat_lt 1 o.count) o.second
   third ← value_if layout second.1 (nat_lt 2 o.count) o.third

@@ -29,8 +29,8 @@ abbrev pub word_of : ℕ → ℕ → ℕ
 word_of high low = 256 * high + low
 
 -- the word at an address; behind 65,535 comes 0
-unfoldable pub word_in : Memory → ℕ → Result ℕ ZFault
-word_in mem a = do
+unfoldable pub memory_word : Memory → ℕ → Result ℕ ZFault
+memory_word mem a = do
   high ← byte_in mem a
   low ← byte_in mem ((a + 1) % 65536)
   Ok (word_of high low)

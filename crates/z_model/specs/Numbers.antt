@@ -10,17 +10,17 @@ abbrev pub signed_16 : ℕ → ℤ
 signed_16 n = if nat_lt n 32768 then pos n else pos n -ℤ pos 65536
 
 -- the word of such a number, which wraps
-abbrev pub word_from : ℤ → ℕ
-word_from (pos n) = n % 65536
-word_from (negsuc n) = 65535 - n % 65536
+abbrev pub wrapped_word : ℤ → ℕ
+wrapped_word (pos n) = n % 65536
+wrapped_word (negsuc n) = 65535 - n % 65536
 
 -- truncated towards zero
 unfoldable pub quotient : ℕ → ℕ → Result ℕ ZFault
-quotient a b = if b == 0 then Err DivideByZero else Ok (word_from (int_div (signed_16 a) (signed_16 b)))
+quotient a b = if b == 0 then Err DivideByZero else Ok (wrapped_word (int_div (signed_16 a) (signed_16 b)))
 
 -- with the sign of the dividend
 unfoldable pub remainder : ℕ → ℕ → Result ℕ ZFault
-remainder a b = if b == 0 then Err DivideByZero else Ok (word_from (int_rem (signed_16 a) (signed_16 b)))
+remainder a b = if b == 0 then Err DivideByZero else Ok (wrapped_word (int_rem (signed_16 a) (signed_16 b)))
 
 -- bits that are shifted by 16 places or more are all out
 abbrev pub left_by : ℕ → ℕ → ℕ

@@ -3,7 +3,7 @@ use Rattle.std.specs.Prelude.{ℕ, zero, suc, ◌+◌, ◌-◌, ◌*◌, ◌/◌
 use Rattle.z_model.specs.declared.fault.ZFault.{ZFault}
 use Rattle.z_model.specs.declared.fault.ZFault.TheVariants.{BadObject}
 use Rattle.z_model.specs.Decode.{◌>>=◌}
-use Rattle.z_model.specs.Memory.{Memory, byte_in, with_byte, word_in, with_word}
+use Rattle.z_model.specs.Memory.{Memory, byte_in, with_byte, memory_word, with_word}
 
 -- ---- the entries of objects
 
@@ -22,15 +22,15 @@ child_at objects n = (entry_at objects n + 10) % 65536
 
 -- a word of the object tree; that of no object is 0
 unfoldable pub link_in : Memory → ℕ → ℕ → Result ℕ ZFault
-link_in mem n place = if n == 0 then Ok 0 else word_in mem place
+link_in mem n place = if n == 0 then Ok 0 else memory_word mem place
 
 -- Objects that are named have to be there.
 unfoldable pub some_object : {A : Type 0} → ℕ → Result A ZFault → Result A ZFault
 some_object n r = if n == 0 then Err BadObject else r
 
 -- whether the parent of an object is another
-unfoldable pub is_in : Memory → ℕ → ℕ → ℕ → Result Bool ZFault
-is_in mem objects a b = some_object a (some_object b (word_in mem (parent_at objects a) >>= λ parent. Ok (parent == b)))
+unfoldable pub is_inside : Memory → ℕ → ℕ → ℕ → Result Bool ZFault
+is_inside mem objects a b = some_object a (some_object b (memory_word mem (parent_at objects a) >>= λ parent. Ok (parent == b)))
 
 -- ---- attributes
 
@@ -62,13 +62,13 @@ with_attribute mem objects n a on =
 unfoldable pub link_to : Memory → ℕ → ℕ → ℕ → ℕ → Result (Option ℕ) ZFault
 link_to mem objects a zero place = Err BadObject
 link_to mem objects a (suc more) place = do
-  x ← word_in mem place
+  x ← memory_word mem place
   if x == a then Ok (Some place) else if x == 0 then Ok None else link_to mem objects a more (sibling_at objects x)
 
 -- its sibling comes into its place there
 abbrev pub passed_by : Memory → ℕ → ℕ → Option ℕ → Result Memory ZFault
 passed_by mem objects a None = Ok mem
-passed_by mem objects a (Some place) = word_in mem (sibling_at objects a) >>= λ next. with_word mem place next
+passed_by mem objects a (Some place) = memory_word mem (sibling_at objects a) >>= λ next. with_word mem place next
 
 -- out of the children of its parent, if it has one; a chain has at most 65,535 links
 unfoldable pub unchained : Memory → ℕ → ℕ → ℕ → Result Memory ZFault
@@ -78,7 +78,7 @@ unchained mem objects a parent =
 -- An object is taken out of the tree; its children stay its own.
 unfoldable pub removed : Memory → ℕ → ℕ → Result Memory ZFault
 removed mem objects a = some_object a (do
-  parent ← word_in mem (parent_at objects a)
+  parent ← memory_word mem (parent_at objects a)
   out ← unchained mem objects a parent
   alone ← with_word out (parent_at objects a) 0
   with_word alone (sibling_at objects a) 0)
@@ -87,7 +87,7 @@ removed mem objects a = some_object a (do
 unfoldable pub inserted : Memory → ℕ → ℕ → ℕ → Result Memory ZFault
 inserted mem objects a b = some_object b (do
   out ← removed mem objects a
-  first ← word_in out (child_at objects b)
+  first ← memory_word out (child_at objects b)
   below ← with_word out (parent_at objects a) b
   beside ← with_word below (sibling_at objects a) first
   with_word beside (child_at objects b) a)

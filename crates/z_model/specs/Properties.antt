@@ -4,11 +4,11 @@ use Rattle.z_model.specs.declared.fault.ZFault.{ZFault}
 use Rattle.z_model.specs.declared.fault.ZFault.TheVariants.{BadProperty}
 use Rattle.z_model.specs.declared.property.Property.{Property}
 use Rattle.z_model.specs.Decode.{◌>>=◌}
-use Rattle.z_model.specs.Memory.{Memory, byte_in, with_byte, word_in, with_word}
+use Rattle.z_model.specs.Memory.{Memory, byte_in, with_byte, memory_word, with_word}
 use Rattle.z_model.specs.Objects.{entry_at, some_object}
 
-abbrev pub behind : Property → ℕ
-behind p = (p.at + p.size) % 65536
+abbrev pub property_end : Property → ℕ
+property_end p = (p.at + p.size) % 65536
 
 -- the length in a second byte, where 0 means 64
 abbrev pub long_length : ℕ → ℕ
@@ -35,7 +35,7 @@ property_at mem limit place = do
 
 abbrev pub or_later : ℕ → (ℕ → ℕ → Result (Option Property) ZFault) → Option Property → Result (Option Property) ZFault
 or_later number more None = Ok None
-or_later number more (Some p) = if p.number == number then Ok (Some p) else more p.number (behind p)
+or_later number more (Some p) = if p.number == number then Ok (Some p) else more p.number (property_end p)
 
 -- The property of a number, among those from a place on; their numbers fall, so that no list is longer than 64.
 unfoldable pub property_from : Memory → ℕ → ℕ → ℕ → ℕ → Result (Option Property) ZFault
@@ -45,14 +45,14 @@ property_from mem number (suc more) limit place = property_at mem limit place >>
 -- behind the short name, whose first byte is its length in words
 unfoldable pub first_place : Memory → ℕ → ℕ → Result ℕ ZFault
 first_place mem objects n = some_object n (do
-  table ← word_in mem ((entry_at objects n + 12) % 65536)
+  table ← memory_word mem ((entry_at objects n + 12) % 65536)
   words ← byte_in mem table
   Ok ((table + 1 + 2 * words) % 65536))
 
 -- where the short name of an object stands, if it has one; its end is marked in it
 unfoldable pub name_place : Memory → ℕ → ℕ → Result (Option ℕ) ZFault
 name_place mem objects n = some_object n (do
-  table ← word_in mem ((entry_at objects n + 12) % 65536)
+  table ← memory_word mem ((entry_at objects n + 12) % 65536)
   words ← byte_in mem table
   Ok (if words == 0 then None else Some ((table + 1) % 65536)))
 
@@ -62,13 +62,13 @@ property_of mem objects n number = first_place mem objects n >>= λ place. prope
 -- ---- what the instructions answer
 
 -- a property of one byte or of two
-abbrev pub value_at : Memory → Property → Result ℕ ZFault
-value_at mem p = if p.size == 1 then byte_in mem p.at else if p.size == 2 then word_in mem p.at else Err BadProperty
+abbrev pub value_in_property : Memory → Property → Result ℕ ZFault
+value_in_property mem p = if p.size == 1 then byte_in mem p.at else if p.size == 2 then memory_word mem p.at else Err BadProperty
 
 -- the default word of a number, which need not be there
 abbrev pub value_or_default : Memory → ℕ → ℕ → Option Property → Result ℕ ZFault
-value_or_default mem objects number None = word_in mem ((objects + 2 * (number + 65535)) % 65536)
-value_or_default mem objects number (Some p) = value_at mem p
+value_or_default mem objects number None = memory_word mem ((objects + 2 * (number + 65535)) % 65536)
+value_or_default mem objects number (Some p) = value_in_property mem p
 
 unfoldable pub property_value : Memory → ℕ → ℕ → ℕ → Result ℕ ZFault
 property_value mem objects n number = property_of mem objects n number >>= λ found. value_or_default mem objects number found
@@ -89,15 +89,15 @@ abbrev pub number_at : Memory → ℕ → ℕ → Result ℕ ZFault
 number_at mem limit place = property_at mem limit place >>= λ found. Ok (number_or_zero found)
 
 -- the number of the property behind one
-abbrev pub number_behind : Memory → Option Property → Result ℕ ZFault
-number_behind mem None = Err BadProperty
-number_behind mem (Some p) = number_at mem p.number (behind p)
+abbrev pub following_number : Memory → Option Property → Result ℕ ZFault
+following_number mem None = Err BadProperty
+following_number mem (Some p) = number_at mem p.number (property_end p)
 
 -- the number of the property behind that of a number, or of the first for 0; 0 behind the last
 unfoldable pub next_number : Memory → ℕ → ℕ → ℕ → Result ℕ ZFault
 next_number mem objects n number =
     if number == 0 then (first_place mem objects n >>= λ place. number_at mem 64 place)
-    else (property_of mem objects n number >>= λ found. number_behind mem found)
+    else (property_of mem objects n number >>= λ found. following_number mem found)
 
 abbrev pub with_value : Memory → ℕ → Option Property → Result Memory ZFault
 with_value mem x None = Err BadProperty

@@ -11,7 +11,7 @@ use Rattle.z_model.specs.declared.end.Effect.{Effect}
 use Rattle.z_model.specs.declared.end.Effect.TheVariants.{Goes, PrintsCode, PrintsUnicode, PrintsNumber, PrintsText, PrintsLine, Draws, Reads, ReadsKey, Quits}
 use Rattle.z_model.specs.Table.{Rows}
 use Rattle.z_model.specs.Decode.{◌>>=◌}
-use Rattle.z_model.specs.Zscii.{code_bytes}
+use Rattle.z_model.specs.Zscii.{code_utf8}
 use Rattle.z_model.specs.Text.{string_at, text_bytes}
 use Rattle.z_model.specs.Typed.{typed_line, typed_left}
 use Rattle.z_model.specs.Memory.{Memory, guarded, with_byte, with_bytes}
@@ -50,8 +50,8 @@ abbrev pub broken_at : ZState → ZFault → Next
 broken_at s fault = Ended (AtFault fault s.machine.pc) s
 
 -- a state with another machine, and more output
-abbrev pub shown : ZState → Machine → List ℕ → ZState
-shown s m text = record s { machine = m; output = s.output ++ text }
+abbrev pub with_output : ZState → Machine → List ℕ → ZState
+with_output s m text = record s { machine = m; output = s.output ++ text }
 
 abbrev pub on_unless : ZState → ZState → Result Machine ZFault → Next
 on_unless s after (Ok m) = On (record after { machine = m })
@@ -87,11 +87,11 @@ key_taken w s m store (byte ∷ typed) = on_unless s (record s { typed = typed }
 -- the outside's part of an instruction, behind which the machine is m
 abbrev pub effect_on : ZGiven → ZState → Effect → Machine → Next
 effect_on w s Goes m = On (record s { machine = m })
-effect_on w s (PrintsCode c) m = On (shown s m (code_bytes c))
-effect_on w s (PrintsUnicode c) m = On (shown s m (encode_utf8 c))
-effect_on w s (PrintsNumber x) m = On (shown s m (signed_decimal (signed_16 x)))
-effect_on w s (PrintsText at) m = On (shown s m (text_bytes (string_at m.memory at)))
-effect_on w s (PrintsLine at) m = on_unless s (shown s m (text_bytes (string_at m.memory at) ++ 10 ∷ [])) (returned w.layout m 1)
+effect_on w s (PrintsCode c) m = On (with_output s m (code_utf8 c))
+effect_on w s (PrintsUnicode c) m = On (with_output s m (encode_utf8 c))
+effect_on w s (PrintsNumber x) m = On (with_output s m (signed_decimal (signed_16 x)))
+effect_on w s (PrintsText at) m = On (with_output s m (text_bytes (string_at m.memory at)))
+effect_on w s (PrintsLine at) m = on_unless s (with_output s m (text_bytes (string_at m.memory at) ++ 10 ∷ [])) (returned w.layout m 1)
 effect_on w s Draws m = On (record s { machine = m; drawn = next_drawn w s.drawn })
 effect_on w s (Reads buffer most store) m = line_taken w s m buffer most store s.typed
 effect_on w s (ReadsKey store) m = key_taken w s m store s.typed
@@ -110,14 +110,14 @@ pub record ZRun : Type 0 where
   pub end : ZEnd
   pub state : ZState
 
-abbrev pub end_of : Halt → ZEnd
-end_of AtQuit = ends.Quit
-end_of AtInput = ends.InputEnded
-end_of (AtFault fault at) = ends.Broken fault at
+abbrev pub ending_of : Halt → ZEnd
+ending_of AtQuit = ends.Quit
+ending_of AtInput = ends.InputEnded
+ending_of (AtFault fault at) = ends.Broken fault at
 
 abbrev pub go_on : (ZState → ZRun) → Next → ZRun
 go_on more (On s) = more s
-go_on more (Ended halt s) = record { end = end_of halt; state = s }
+go_on more (Ended halt s) = record { end = ending_of halt; state = s }
 
 -- at most n instructions
 unfoldable pub zrun : ZGiven → ℕ → ZState → ZRun

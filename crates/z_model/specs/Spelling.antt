@@ -15,7 +15,7 @@ use Rattle.z_model.specs.declared.op.OperandType.{OperandType}
 use Rattle.z_model.specs.declared.op.OperandType.TheVariants.{Large, Small, Variable, Omitted}
 use Rattle.z_model.specs.declared.op.OperandTypes.{OperandTypes}
 use Rattle.z_model.specs.Table.{Rows}
-use Rattle.z_model.specs.Decode.{known, found, variable_row, short_kind, counted, text_at, text_end, op_at}
+use Rattle.z_model.specs.Decode.{known, op_found, variable_row, short_kind, count_in_row, text_at, text_end, op_at}
 
 abbrev pub type_of_operand : Operand → OperandType
 type_of_operand (operands.Large w) = Large
@@ -35,14 +35,14 @@ types_in o = record {
   fourth = type_if (nat_lt 3 o.count) o.fourth;
 }
 
-abbrev pub code : OperandType → ℕ
-code Large = 0
-code Small = 1
-code Variable = 2
-code Omitted = 3
+abbrev pub type_code : OperandType → ℕ
+type_code Large = 0
+type_code Small = 1
+type_code Variable = 2
+type_code Omitted = 3
 
 abbrev pub type_byte : OperandTypes → ℕ
-type_byte s = 64 * code s.first + 16 * code s.second + 4 * code s.third + code s.fourth
+type_byte s = 64 * type_code s.first + 16 * type_code s.second + 4 * type_code s.third + type_code s.fourth
 
 -- the bit of a long form
 abbrev pub long_bit : OperandType → ℕ
@@ -53,7 +53,7 @@ long_bit Omitted = 0
 
 abbrev pub head_bytes : Form → ℕ → OperandTypes → List ℕ
 head_bytes forms.Long number s = (64 * long_bit s.first + 32 * long_bit s.second + number) ∷ []
-head_bytes forms.Short number s = (128 + 16 * code s.first + number) ∷ []
+head_bytes forms.Short number s = (128 + 16 * type_code s.first + number) ∷ []
 head_bytes forms.Variable number s = (192 + number) ∷ type_byte s ∷ []
 head_bytes forms.Extended number s = 190 ∷ number ∷ type_byte s ∷ []
 
@@ -117,7 +117,7 @@ IsByteType Omitted = ⊥
 abbrev pub FitsForm : Form → ℕ → OperandTypes → Type 0
 FitsForm forms.Long number s = (number < 32) × IsByteType s.first × IsByteType s.second × (s.third ≡ Omitted) × (s.fourth ≡ Omitted)
 FitsForm forms.Short number s =
-    (number < 16) × (s.second ≡ Omitted) × (s.third ≡ Omitted) × (s.fourth ≡ Omitted) × (128 + 16 * code s.first + number ≢ 190)
+    (number < 16) × (s.second ≡ Omitted) × (s.third ≡ Omitted) × (s.fourth ≡ Omitted) × (128 + 16 * type_code s.first + number ≢ 190)
 FitsForm forms.Variable number s = number < 64
 FitsForm forms.Extended number s = number < 256
 
@@ -158,7 +158,7 @@ FitsBranch false None = Unit {0}
 pub record IsOp (rows : Rows) (row : Row) (op : Op) : Type 0 where
   pub known : row_of rows op.form op.number (types_in op.operands) ≡ Ok row
   pub form : FitsForm op.form op.number (types_in op.operands)
-  pub count : counted row (types_in op.operands) ≡ Ok op.operands.count
+  pub count : count_in_row row (types_in op.operands) ≡ Ok op.operands.count
   pub first : FitsType (types_in op.operands).first op.operands.first
   pub second : FitsType (types_in op.operands).second op.operands.second
   pub third : FitsType (types_in op.operands).third op.operands.third
@@ -167,15 +167,15 @@ pub record IsOp (rows : Rows) (row : Row) (op : Op) : Type 0 where
   pub branch : FitsBranch row.branch op.branch
 
 -- these bytes stand at a place
-abbrev pub Stands : List ℕ → ℕ → List ℕ → Type 0
-Stands bytes at [] = Unit {0}
-Stands bytes at (b ∷ bs) = (slice_get bytes at ≡ Some b) × Stands bytes (at + 1) bs
+abbrev pub BytesAt : List ℕ → ℕ → List ℕ → Type 0
+BytesAt bytes at [] = Unit {0}
+BytesAt bytes at (b ∷ bs) = (slice_get bytes at ≡ Some b) × BytesAt bytes (at + 1) bs
 
 -- An instruction of the table stands at a place, and ends there.
 pub record IsInstruction (rows : Rows) (bytes : List ℕ) (at : ℕ) (op : Op) (end : ℕ) : Type 0 where
   pub row : Row
   pub is : IsOp rows row op
-  pub stands : Stands bytes at (spelling op)
+  pub stands : BytesAt bytes at (spelling op)
   pub text : text_at bytes row.text (at + length (spelling op)) ≡ Ok (op.text, end)
 
 -- the length of a literal text: that of one or more words, where the row has a text
@@ -200,10 +200,10 @@ AreBytes bytes = (i b : ℕ) → slice_get bytes i ≡ Some b → b < 256
 -- What is written for an op, and its literal text behind it, is decoded as that op, whatever stands before and behind.
 pub record Written (rows : Rows) (op : Op) (front text rest : List ℕ) : Type 0 where
   pub written : (is : IsOfTable rows op) → IsText is.row.text op.text text →
-      op_at rows (front ++ (spelling op ++ (text ++ rest))) (length front) ≡ Ok (found is.row op (length front + length (spelling op) + length text))
+      op_at rows (front ++ (spelling op ++ (text ++ rest))) (length front) ≡ Ok (op_found is.row op (length front + length (spelling op) + length text))
 
 -- What is written so is decoded again, and no bytes are two instructions.
 pub record Again (rows : Rows) (bytes : List ℕ) (at : ℕ) : Type 0 where
-  pub again : (op : Op) (end : ℕ) (i : IsInstruction rows bytes at op end) → op_at rows bytes at ≡ Ok (found i.row op end)
+  pub again : (op : Op) (end : ℕ) (i : IsInstruction rows bytes at op end) → op_at rows bytes at ≡ Ok (op_found i.row op end)
   pub one : (op op' : Op) (end end' : ℕ) → IsInstruction rows bytes at op end → IsInstruction rows bytes at op' end' → (op ≡ op') × (end ≡ end')
-  pub there : AreBytes bytes → (row : Row) (op : Op) (end : ℕ) → op_at rows bytes at ≡ Ok (found row op end) → IsInstruction rows bytes at op end
+  pub there : AreBytes bytes → (row : Row) (op : Op) (end : ℕ) → op_at rows bytes at ≡ Ok (op_found row op end) → IsInstruction rows bytes at op end

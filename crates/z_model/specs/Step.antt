@@ -20,16 +20,16 @@ use Rattle.z_model.specs.declared.table.Extended.{Extended}
 use Rattle.z_model.specs.declared.table.Extended.TheVariants as extended
 use Rattle.z_model.specs.Table.{Rows}
 use Rattle.z_model.specs.Decode.{◌>>=◌, op_at}
-use Rattle.z_model.specs.Memory.{guarded, byte_in, with_byte, word_in, with_word}
-use Rattle.z_model.specs.Machine.{Machine, pushed, held_in, placed, values_of}
+use Rattle.z_model.specs.Memory.{guarded, byte_in, with_byte, memory_word, with_word}
+use Rattle.z_model.specs.Machine.{Machine, pushed, held_in, placed, operand_values}
 use Rattle.z_model.specs.Numbers.{signed_16, quotient, remainder, equals_one, log_shifted, art_shifted}
-use Rattle.z_model.specs.Flow.{at_pc, jumped, returned, thrown, branched, called}
-use Rattle.z_model.specs.Objects.{parent_at, sibling_at, child_at, link_in, is_in, has_attribute, with_attribute, removed, inserted}
+use Rattle.z_model.specs.Flow.{at_pc, jumped, returned, frames_thrown, branched, called}
+use Rattle.z_model.specs.Objects.{parent_at, sibling_at, child_at, link_in, is_inside, has_attribute, with_attribute, removed, inserted}
 use Rattle.z_model.specs.Properties.{property_value, property_place, next_number, with_property, length_before}
-use Rattle.z_model.specs.Tables.{copied}
+use Rattle.z_model.specs.Tables.{table_copied}
 use Rattle.z_model.specs.Streams.{streamed}
-use Rattle.z_model.specs.Effects.{goes, answers, answers_or, written, tests_or, objects_in, answers_object, answers_place, sought, printed, prints_line, prints_name}
-use Rattle.z_model.specs.Effects.{adds, adds_and_tests, pulls, returns_popped, reads, reads_key, random_of}
+use Rattle.z_model.specs.Effects.{goes, answers, answers_or, write_effect, tests_or, objects_in, answers_object, answers_place, sought, print_effect, prints_line, prints_name}
+use Rattle.z_model.specs.Effects.{adds, adds_and_tests, pulls, returns_popped, read_effect, reads_key, random_of}
 
 -- the instructions with two operands
 unfoldable pub do_two : Layout → Two → Op → ℕ → Args → Machine → Result (Effect × Machine) ZFault
@@ -38,16 +38,16 @@ do_two layout two.Jl op end a m = goes (branched layout m end op.branch (int_lt 
 do_two layout two.Jg op end a m = goes (branched layout m end op.branch (int_lt (signed_16 a.second) (signed_16 a.first)))
 do_two layout two.DecChk op end a m = adds_and_tests layout m end op.branch a.first 65535 (λ x. int_lt (signed_16 x) (signed_16 a.second))
 do_two layout two.IncChk op end a m = adds_and_tests layout m end op.branch a.first 1 (λ x. int_lt (signed_16 a.second) (signed_16 x))
-do_two layout two.Jin op end a m = tests_or layout m end op.branch (is_in (guarded layout m.memory) (objects_in m) a.first a.second)
+do_two layout two.Jin op end a m = tests_or layout m end op.branch (is_inside (guarded layout m.memory) (objects_in m) a.first a.second)
 do_two layout two.Test op end a m = goes (branched layout m end op.branch (bit_and a.first a.second == a.second))
 do_two layout two.Or op end a m = answers layout m end op.store (bit_or a.first a.second)
 do_two layout two.And op end a m = answers layout m end op.store (bit_and a.first a.second)
 do_two layout two.TestAttr op end a m = tests_or layout m end op.branch (has_attribute (guarded layout m.memory) (objects_in m) a.first a.second)
-do_two layout two.SetAttr op end a m = written m end (with_attribute (guarded layout m.memory) (objects_in m) a.first a.second true)
-do_two layout two.ClearAttr op end a m = written m end (with_attribute (guarded layout m.memory) (objects_in m) a.first a.second false)
+do_two layout two.SetAttr op end a m = write_effect m end (with_attribute (guarded layout m.memory) (objects_in m) a.first a.second true)
+do_two layout two.ClearAttr op end a m = write_effect m end (with_attribute (guarded layout m.memory) (objects_in m) a.first a.second false)
 do_two layout two.Store op end a m = goes (placed layout (at_pc m end) a.first a.second)
-do_two layout two.InsertObj op end a m = written m end (inserted (guarded layout m.memory) (objects_in m) a.first a.second)
-do_two layout two.Loadw op end a m = answers_or layout m end op.store (word_in (guarded layout m.memory) ((a.first + 2 * a.second) % 65536))
+do_two layout two.InsertObj op end a m = write_effect m end (inserted (guarded layout m.memory) (objects_in m) a.first a.second)
+do_two layout two.Loadw op end a m = answers_or layout m end op.store (memory_word (guarded layout m.memory) ((a.first + 2 * a.second) % 65536))
 do_two layout two.Loadb op end a m = answers_or layout m end op.store (byte_in (guarded layout m.memory) ((a.first + a.second) % 65536))
 do_two layout two.GetProp op end a m = answers_or layout m end op.store (property_value (guarded layout m.memory) (objects_in m) a.first a.second)
 do_two layout two.GetPropAddr op end a m = answers_or layout m end op.store (property_place (guarded layout m.memory) (objects_in m) a.first a.second)
@@ -60,7 +60,7 @@ do_two layout two.Mod op end a m = answers_or layout m end op.store (remainder a
 do_two layout two.Call2s op end a m = goes (called layout m end op.store a)
 do_two layout two.Call2n op end a m = goes (called layout m end op.store a)
 do_two layout two.SetColour op end a m = Ok (Goes, at_pc m end)
-do_two layout two.Throw op end a m = goes (thrown layout m a.first a.second)
+do_two layout two.Throw op end a m = goes (frames_thrown layout m a.first a.second)
 
 -- the instructions with one operand
 unfoldable pub do_one : Layout → One → Op → ℕ → Args → Machine → Result (Effect × Machine) ZFault
@@ -73,13 +73,13 @@ do_one layout one.GetParent op end a m = answers_or layout m end op.store (link_
 do_one layout one.GetPropLen op end a m = answers_or layout m end op.store (length_before (guarded layout m.memory) a.first)
 do_one layout one.Inc op end a m = adds layout m end a.first 1
 do_one layout one.Dec op end a m = adds layout m end a.first 65535
-do_one layout one.PrintAddr op end a m = printed layout (PrintsText a.first) (at_pc m end)
+do_one layout one.PrintAddr op end a m = print_effect layout (PrintsText a.first) (at_pc m end)
 do_one layout one.Call1s op end a m = goes (called layout m end op.store a)
-do_one layout one.RemoveObj op end a m = written m end (removed (guarded layout m.memory) (objects_in m) a.first)
+do_one layout one.RemoveObj op end a m = write_effect m end (removed (guarded layout m.memory) (objects_in m) a.first)
 do_one layout one.PrintObj op end a m = prints_name layout m end a.first
 do_one layout one.Ret op end a m = goes (returned layout m a.first)
 do_one layout one.Jump op end a m = goes (jumped m end (signed_16 a.first))
-do_one layout one.PrintPaddr op end a m = printed layout (PrintsText (8 * a.first)) (at_pc m end)
+do_one layout one.PrintPaddr op end a m = print_effect layout (PrintsText (8 * a.first)) (at_pc m end)
 do_one layout one.Load op end a m = answers_or layout m end op.store (held_in layout m a.first)
 do_one layout one.Call1n op end a m = goes (called layout m end op.store a)
 
@@ -87,25 +87,25 @@ do_one layout one.Call1n op end a m = goes (called layout m end op.store a)
 unfoldable pub do_zero : Layout → Zero → Op → ℕ → Args → Machine → Result (Effect × Machine) ZFault
 do_zero layout none.Rtrue op end a m = goes (returned layout m 1)
 do_zero layout none.Rfalse op end a m = goes (returned layout m 0)
-do_zero layout none.Print op end a m = printed layout (PrintsText (end - op.text)) (at_pc m end)
+do_zero layout none.Print op end a m = print_effect layout (PrintsText (end - op.text)) (at_pc m end)
 do_zero layout none.PrintRet op end a m = prints_line layout m (end - op.text)
 do_zero layout none.Nop op end a m = Ok (Goes, at_pc m end)
 do_zero layout none.RetPopped op end a m = returns_popped layout m
 do_zero layout none.Catch op end a m = answers layout m end op.store (length m.callers)
 do_zero layout none.Quit op end a m = Ok (Quits, at_pc m end)
-do_zero layout none.NewLine op end a m = printed layout (PrintsCode 13) (at_pc m end)
+do_zero layout none.NewLine op end a m = print_effect layout (PrintsCode 13) (at_pc m end)
 do_zero layout none.Verify op end a m = goes (branched layout m end op.branch layout.checksum_right)
 do_zero layout none.Piracy op end a m = goes (branched layout m end op.branch true)
 
 -- the instructions with several operands; a word is the next of the dice
 unfoldable pub do_several : Layout → ℕ → Several → Op → ℕ → Args → Machine → Result (Effect × Machine) ZFault
 do_several layout word several.CallVs op end a m = goes (called layout m end op.store a)
-do_several layout word several.Storew op end a m = written m end (with_word (guarded layout m.memory) ((a.first + 2 * a.second) % 65536) a.third)
-do_several layout word several.Storeb op end a m = written m end (with_byte (guarded layout m.memory) ((a.first + a.second) % 65536) (a.third % 256))
-do_several layout word several.PutProp op end a m = written m end (with_property (guarded layout m.memory) (objects_in m) a.first a.second a.third)
-do_several layout word several.Aread op end a m = reads layout m end op.store a
-do_several layout word several.PrintChar op end a m = printed layout (PrintsCode a.first) (at_pc m end)
-do_several layout word several.PrintNum op end a m = printed layout (PrintsNumber a.first) (at_pc m end)
+do_several layout word several.Storew op end a m = write_effect m end (with_word (guarded layout m.memory) ((a.first + 2 * a.second) % 65536) a.third)
+do_several layout word several.Storeb op end a m = write_effect m end (with_byte (guarded layout m.memory) ((a.first + a.second) % 65536) (a.third % 256))
+do_several layout word several.PutProp op end a m = write_effect m end (with_property (guarded layout m.memory) (objects_in m) a.first a.second a.third)
+do_several layout word several.Aread op end a m = read_effect layout m end op.store a
+do_several layout word several.PrintChar op end a m = print_effect layout (PrintsCode a.first) (at_pc m end)
+do_several layout word several.PrintNum op end a m = print_effect layout (PrintsNumber a.first) (at_pc m end)
 do_several layout word several.Random op end a m = random_of layout word m end op.store a.first
 do_several layout word several.Push op end a m = goes (pushed (at_pc m end) a.first)
 do_several layout word several.Pull op end a m = pulls layout m end a.first
@@ -121,7 +121,7 @@ do_several layout word several.ReadChar op end a m = reads_key layout m end op.s
 do_several layout word several.ScanTable op end a m = answers_place layout m end op.store op.branch (sought layout m a)
 do_several layout word several.Not op end a m = answers layout m end op.store (65535 - a.first)
 do_several layout word several.CallVn op end a m = goes (called layout m end op.store a)
-do_several layout word several.CopyTable op end a m = written m end (copied (guarded layout m.memory) a.first a.second a.third)
+do_several layout word several.CopyTable op end a m = write_effect m end (table_copied (guarded layout m.memory) a.first a.second a.third)
 do_several layout word several.CheckArgCount op end a m = goes (branched layout m end op.branch (not (nat_lt m.here.args a.first)))
 
 -- the instructions of the extended form
@@ -132,7 +132,7 @@ do_extended layout extended.LogShift op end a m = answers layout m end op.store 
 do_extended layout extended.ArtShift op end a m = answers layout m end op.store (art_shifted a.first a.second)
 do_extended layout extended.SaveUndo op end a m = answers layout m end op.store 65535
 do_extended layout extended.RestoreUndo op end a m = answers layout m end op.store 0
-do_extended layout extended.PrintUnicode op end a m = printed layout (PrintsUnicode a.first) (at_pc m end)
+do_extended layout extended.PrintUnicode op end a m = print_effect layout (PrintsUnicode a.first) (at_pc m end)
 
 unfoldable pub do_instr : Layout → ℕ → Instr → Op → ℕ → Args → Machine → Result (Effect × Machine) ZFault
 do_instr layout word (instrs.Two instr) op end a m = do_two layout instr op end a m
@@ -145,5 +145,5 @@ do_instr layout word (instrs.Extended instr) op end a m = do_extended layout ins
 unfoldable pub machine_step : Rows → Layout → ℕ → Machine → Result (Effect × Machine) ZFault
 machine_step rows layout word m = do
   found ← op_at rows m.memory m.pc
-  a ← values_of layout m found.op.operands
+  a ← operand_values layout m found.op.operands
   do_instr layout word found.row.instr found.op found.end a.0 a.1

@@ -4,7 +4,7 @@ use Rattle.z_model.specs.declared.story.StoryRefusal.{StoryRefusal}
 use Rattle.z_model.specs.declared.story.StoryRefusal.TheVariants.{TooShort, BadVersion, BadLength, BadMap}
 use Rattle.z_model.specs.declared.story.Layout.{Layout}
 use Rattle.z_model.specs.declared.story.Header.{Header}
-use Rattle.z_model.specs.Table.{rows_of}
+use Rattle.z_model.specs.Table.{player_rows}
 use Rattle.z_model.specs.Memory.{word_of}
 use Rattle.z_model.specs.Machine.{Machine}
 use Rattle.z_model.specs.Run.{ZGiven, ZState, ZRun, zrun}
@@ -14,14 +14,14 @@ abbrev pub header_word : List ℕ → ℕ → ℕ
 header_word file at = word_of (slice_index file at) (slice_index file (at + 1))
 
 -- The first instruction's address, the globals, the static base, and the length divided by 8 stand in words of the header.
-abbrev pub start_of : List ℕ → ℕ
-start_of file = header_word file 0x06
+abbrev pub first_address : List ℕ → ℕ
+first_address file = header_word file 0x06
 
 abbrev pub globals_of : List ℕ → ℕ
 globals_of file = header_word file 0x0C
 
-abbrev pub base_of : List ℕ → ℕ
-base_of file = header_word file 0x0E
+abbrev pub static_base : List ℕ → ℕ
+static_base file = header_word file 0x0E
 
 -- the story's length; a length word of 0 means the file's own
 abbrev pub length_of : List ℕ → ℕ
@@ -40,13 +40,13 @@ has_bad_length file = nat_lt (length_of file) 64 || nat_lt (length file) (length
 -- the first instruction is behind the header and within the length.
 abbrev pub has_bad_map : List ℕ → Bool
 has_bad_map file =
-    nat_lt (globals_of file) 64 || (nat_lt (base_of file) (globals_of file + 480)
-    || (nat_lt (length_of file) (base_of file) || (nat_lt 65534 (base_of file)
-    || (nat_lt (start_of file) 64 || not (nat_lt (start_of file) (length_of file))))))
+    nat_lt (globals_of file) 64 || (nat_lt (static_base file) (globals_of file + 480)
+    || (nat_lt (length_of file) (static_base file) || (nat_lt 65534 (static_base file)
+    || (nat_lt (first_address file) 64 || not (nat_lt (first_address file) (length_of file))))))
 
 -- why a file is refused, if it is
-unfoldable pub refusal_of : List ℕ → Option StoryRefusal
-refusal_of file =
+unfoldable pub story_refusal : List ℕ → Option StoryRefusal
+story_refusal file =
     if is_too_long file then Some BadLength
     else if nat_lt (length file) 64 then Some TooShort
     else if not (slice_index file 0 == 8) then Some BadVersion
@@ -72,13 +72,13 @@ abbrev pub checksum_of : List ℕ → ℕ
 checksum_of file = sum (drop 64 (memory_of file)) % 65536
 
 abbrev pub layout_of : List ℕ → Layout
-layout_of file = record { globals = globals_of file; base = base_of file; checksum_right = checksum_of file == header_word file 0x1C }
+layout_of file = record { globals = globals_of file; base = static_base file; checksum_right = checksum_of file == header_word file 0x1C }
 
 -- The header of a story that isn't refused.
 pub record IsHeader (file : List ℕ) (h : Header) : Type 0 where
-  pub accepted : refusal_of file ≡ None
+  pub accepted : story_refusal file ≡ None
   pub layout : h.layout ≡ layout_of file
-  pub start : h.start ≡ start_of file
+  pub start : h.start ≡ first_address file
   pub length : h.length ≡ length_of file
 
 -- at the first instruction, in the opening frame
@@ -92,10 +92,10 @@ first_machine memory start = record {
 }
 
 abbrev pub given_of : List ℕ → List ℕ → ZGiven
-given_of file dice = record { rows = rows_of; layout = layout_of file; dice = dice }
+given_of file dice = record { rows = player_rows; layout = layout_of file; dice = dice }
 
 abbrev pub start_state : List ℕ → List ℕ → ZState
-start_state file typed = record { machine = first_machine (memory_of file) (start_of file); typed = typed; drawn = 0; output = [] }
+start_state file typed = record { machine = first_machine (memory_of file) (first_address file); typed = typed; drawn = 0; output = [] }
 
 -- The run of a story on typed bytes and dice words, of at most so many instructions.
 unfoldable pub story_run : List ℕ → List ℕ → List ℕ → ℕ → ZRun

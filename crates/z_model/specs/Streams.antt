@@ -9,7 +9,7 @@ use Rattle.z_model.specs.declared.story.Layout.{Layout}
 use Rattle.z_model.specs.declared.end.Effect.{Effect}
 use Rattle.z_model.specs.declared.end.Effect.TheVariants.{Goes, PrintsCode, PrintsUnicode, PrintsNumber, PrintsText, PrintsLine, Draws, Reads, ReadsKey, Quits}
 use Rattle.z_model.specs.Decode.{◌>>=◌}
-use Rattle.z_model.specs.Zscii.{code_of}
+use Rattle.z_model.specs.Zscii.{zscii_of}
 use Rattle.z_model.specs.Text.{string_at}
 use Rattle.z_model.specs.Memory.{guarded, with_word, with_bytes}
 use Rattle.z_model.specs.Machine.{Machine}
@@ -24,7 +24,7 @@ shown_codes (c ∷ cs) = if c == 0 then shown_codes cs else c ∷ shown_codes cs
 abbrev pub codes_in : Effect → Machine → List ℕ
 codes_in Goes m = []
 codes_in (PrintsCode c) m = shown_codes (c ∷ [])
-codes_in (PrintsUnicode c) m = unwrap_or (code_of c) 63 ∷ []
+codes_in (PrintsUnicode c) m = unwrap_or (zscii_of c) 63 ∷ []
 codes_in (PrintsNumber x) m = signed_decimal (signed_16 x)
 codes_in (PrintsText at) m = shown_codes (string_at m.memory at).codes
 codes_in (PrintsLine at) m = shown_codes (string_at m.memory at).codes ++ 13 ∷ []
@@ -43,14 +43,14 @@ into_table layout m t ts codes =
     Ok (record m { memory = mem.bytes; tables = with_more t codes ∷ ts })
 
 -- at most 16 are open
-unfoldable pub opened : Machine → ℕ → Result Machine ZFault
-opened m at = if nat_lt (length m.tables) 16 then Ok (record m { tables = record { at = at; count = 0 } ∷ m.tables }) else Err BadStream
+unfoldable pub stream_opened : Machine → ℕ → Result Machine ZFault
+stream_opened m at = if nat_lt (length m.tables) 16 then Ok (record m { tables = record { at = at; count = 0 } ∷ m.tables }) else Err BadStream
 
 -- the newest is closed: the number of its codes goes into its first word
-abbrev pub closed : Layout → Machine → List OpenTable → Result Machine ZFault
-closed layout m [] = Ok m
-closed layout m (t ∷ ts) = with_word (guarded layout m.memory) t.at t.count >>= λ mem. Ok (record m { memory = mem.bytes; tables = ts })
+abbrev pub stream_closed : Layout → Machine → List OpenTable → Result Machine ZFault
+stream_closed layout m [] = Ok m
+stream_closed layout m (t ∷ ts) = with_word (guarded layout m.memory) t.at t.count >>= λ mem. Ok (record m { memory = mem.bytes; tables = ts })
 
 -- 3 opens a table and -3 closes it; other streams aren't there
 unfoldable pub streamed : Layout → Machine → Args → Result Machine ZFault
-streamed layout m a = if a.first == 3 then opened m a.second else if a.first == 65533 then closed layout m m.tables else Ok m
+streamed layout m a = if a.first == 3 then stream_opened m a.second else if a.first == 65533 then stream_closed layout m m.tables else Ok m

@@ -162,12 +162,12 @@ extended_rows =
     []
 
 -- the rows of a kind in the table of the player
-abbrev pub rows_of : Rows
-rows_of kinds.Two = two_rows
-rows_of kinds.One = one_rows
-rows_of kinds.Zero = zero_rows
-rows_of kinds.Several = several_rows
-rows_of kinds.Extended = extended_rows
+abbrev pub player_rows : Rows
+player_rows kinds.Two = two_rows
+player_rows kinds.One = one_rows
+player_rows kinds.Zero = zero_rows
+player_rows kinds.Several = several_rows
+player_rows kinds.Extended = extended_rows
 
 -- what stands there, if anything does
 abbrev pub entry : Option (Option Row) → Option Row

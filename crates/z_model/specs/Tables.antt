@@ -2,11 +2,11 @@
 use Rattle.std.specs.Prelude.{ℕ, zero, suc, ◌+◌, ◌-◌, ◌*◌, ◌/◌, ◌%◌, List, [], ◌∷◌, Option, Some, None, Result, Ok, Err, nat_lt, ◌==◌, if◌then◌else◌}
 use Rattle.z_model.specs.declared.fault.ZFault.{ZFault}
 use Rattle.z_model.specs.Decode.{◌>>=◌}
-use Rattle.z_model.specs.Memory.{Memory, byte_in, with_byte, word_in, with_bytes}
+use Rattle.z_model.specs.Memory.{Memory, byte_in, with_byte, memory_word, with_bytes}
 
 -- An entry is a word where bit 7 of the form is set, else a byte; the other bits are its length.
 abbrev pub entry_in : Memory → ℕ → ℕ → Result ℕ ZFault
-entry_in mem form at = if form / 128 % 2 == 1 then word_in mem at else byte_in mem at
+entry_in mem form at = if form / 128 % 2 == 1 then memory_word mem at else byte_in mem at
 
 -- the place of the first of so many entries that is x
 unfoldable pub scanned : Memory → ℕ → ℕ → ℕ → ℕ → Result (Option ℕ) ZFault
@@ -19,13 +19,13 @@ scanned mem x form (suc more) at = do
 abbrev pub usual_form : ℕ
 usual_form = 130
 
-abbrev pub or_zero : Option ℕ → ℕ
-or_zero None = 0
-or_zero (Some at) = at
+abbrev pub found_or_zero : Option ℕ → ℕ
+found_or_zero None = 0
+found_or_zero (Some at) = at
 
 -- the same, with 0 where there is none
 abbrev pub scanned_or_zero : Memory → ℕ → ℕ → ℕ → ℕ → Result ℕ ZFault
-scanned_or_zero mem x form n at = scanned mem x form n at >>= λ found. Ok (or_zero found)
+scanned_or_zero mem x form n at = scanned mem x form n at >>= λ found. Ok (found_or_zero found)
 
 -- so many bytes from a place on
 unfoldable pub bytes_in : Memory → ℕ → ℕ → Result (List ℕ) ZFault
@@ -53,12 +53,12 @@ abbrev pub copied_whole : Memory → ℕ → ℕ → ℕ → Result Memory ZFaul
 copied_whole mem a b n = bytes_in mem a n >>= λ bytes. with_bytes mem b bytes
 
 -- A size is a number with a sign: this is how far it is from 0.
-abbrev pub size_of : ℕ → ℕ
-size_of n = if nat_lt n 32768 then n else 65536 - n
+abbrev pub table_size : ℕ → ℕ
+table_size n = if nat_lt n 32768 then n else 65536 - n
 
 -- The bytes at a become those at b, as if through a buffer, or byte by byte where the size is below 0; with b of 0 they become 0.
-unfoldable pub copied : Memory → ℕ → ℕ → ℕ → Result Memory ZFault
-copied mem a b n =
-    if b == 0 then cleared mem a (size_of n)
+unfoldable pub table_copied : Memory → ℕ → ℕ → ℕ → Result Memory ZFault
+table_copied mem a b n =
+    if b == 0 then cleared mem a (table_size n)
     else if nat_lt n 32768 then copied_whole mem a b n
-    else copied_on mem a b (size_of n)
+    else copied_on mem a b (table_size n)

@@ -7,7 +7,7 @@ use Rattle.z_model.specs.declared.text.Alphabet.TheVariants.{Lower, Upper, Punct
 use Rattle.z_model.specs.declared.text.Reading.{Reading}
 use Rattle.z_model.specs.declared.text.Reading.TheVariants.{Gives, Turns, Refuses}
 use Rattle.z_model.specs.Decode.{text_end}
-use Rattle.z_model.specs.Zscii.{all_printed, code_bytes}
+use Rattle.z_model.specs.Zscii.{are_printable, code_utf8}
 
 -- The Z-characters of the words up to the one that is marked as the last, or up to the end of the bytes.
 unfoldable pub z_characters : List ℕ → List ℕ
@@ -41,36 +41,36 @@ read_character High z = letter High z
 read_character (Low high) z = letter (Low high) z
 
 -- Codes, up to an abbreviation if they aren't whole.
-pub record Codes : Type 0 where
+pub record CodesRead : Type 0 where
   pub codes : List ℕ
   pub whole : Bool
 
-abbrev pub more_codes : (Alphabet → Codes) → Reading → Codes
+abbrev pub more_codes : (Alphabet → CodesRead) → Reading → CodesRead
 more_codes rest (Gives code) = record { codes = code ∷ (rest Lower).codes; whole = (rest Lower).whole }
 more_codes rest (Turns alphabet) = rest alphabet
 more_codes rest Refuses = record { codes = []; whole = false }
 
 -- the codes of Z-characters; an end in the middle of a code gives none
-unfoldable pub codes_of : Alphabet → List ℕ → Codes
-codes_of alphabet [] = record { codes = []; whole = true }
-codes_of alphabet (z ∷ zs) = more_codes (λ next. codes_of next zs) (read_character alphabet z)
+unfoldable pub decoded_codes : Alphabet → List ℕ → CodesRead
+decoded_codes alphabet [] = record { codes = []; whole = true }
+decoded_codes alphabet (z ∷ zs) = more_codes (λ next. decoded_codes next zs) (read_character alphabet z)
 
 -- The codes of a string up to its end, or up to an abbreviation or the end of the bytes; and its end, if it has one.
 pub record Text : Type 0 where
   pub codes : List ℕ
   pub end : Option ℕ
 
-abbrev pub text_of : Codes → Option ℕ → Text
-text_of c end = record { codes = c.codes; end = if c.whole then end else None }
+abbrev pub text_read : CodesRead → Option ℕ → Text
+text_read c end = record { codes = c.codes; end = if c.whole then end else None }
 
 -- the string that stands at a place
 unfoldable pub string_at : List ℕ → ℕ → Text
-string_at bytes at = text_of (codes_of Lower (z_characters (drop at bytes))) (text_end (drop at bytes) at)
+string_at bytes at = text_read (decoded_codes Lower (z_characters (drop at bytes))) (text_end (drop at bytes) at)
 
 -- A text may be printed where each code is printed and it has an end; the earlier fault comes first.
 unfoldable pub print_fault : Text → Option ZFault
-print_fault text = if all_printed text.codes then (if is_some text.end then None else Some BadString) else Some BadCharacter
+print_fault text = if are_printable text.codes then (if is_some text.end then None else Some BadString) else Some BadCharacter
 
 -- what a text prints, in UTF-8
 abbrev pub text_bytes : Text → List ℕ
-text_bytes text = flat_map code_bytes text.codes
+text_bytes text = flat_map code_utf8 text.codes

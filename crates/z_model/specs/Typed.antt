@@ -3,7 +3,7 @@
 use Rattle.std.specs.Prelude.{ℕ, zero, suc, List, [], ◌∷◌, take, map, Option, Some, None, unwrap_or, ◌==◌, if◌then◌else◌}
 use Rattle.dg_base.specs.Typed.{typed}
 use Rattle.dg_base.specs.Units.{units_of}
-use Rattle.z_model.specs.Zscii.{code_of}
+use Rattle.z_model.specs.Zscii.{zscii_of}
 
 -- No line is longer than this.
 abbrev pub line_limit : ℕ
@@ -34,7 +34,7 @@ typed_bytes bytes = without_return (line_within line_limit bytes)
 -- the code of a character, or a question mark
 abbrev pub code_or_question : Option ℕ → ℕ
 code_or_question None = 63
-code_or_question (Some c) = unwrap_or (code_of c) 63
+code_or_question (Some c) = unwrap_or (zscii_of c) 63
 
 -- the code of a unit: a character that isn't kept and a byte that belongs to none are question marks
 abbrev pub typed_code : Option ℕ → ℕ

@@ -12,18 +12,18 @@ abbrev pub character_of : ℕ → ℕ
 character_of c = if c == 13 then 10 else if nat_lt c 127 then c else slice_index extra (c - 155)
 
 -- what a code prints, in UTF-8
-unfoldable pub code_bytes : ℕ → List ℕ
-code_bytes c = if c == 0 then [] else encode_utf8 (character_of c)
+unfoldable pub code_utf8 : ℕ → List ℕ
+code_utf8 c = if c == 0 then [] else encode_utf8 (character_of c)
 
 -- a character that is printed by its number in Unicode
 abbrev pub is_character : ℕ → Bool
 is_character c = nat_lt 31 c && (not (c == 127) && not (nat_lt 0xD7FF c && nat_lt c 0xE000))
 
 -- Each of the codes is printed.
-unfoldable pub all_printed : List ℕ → Bool
-all_printed [] = true
-all_printed (c ∷ cs) = is_printed c && all_printed cs
+unfoldable pub are_printable : List ℕ → Bool
+are_printable [] = true
+are_printable (c ∷ cs) = is_printed c && are_printable cs
 
 -- the code of a character, where it is of ASCII's printed part or one of the extra characters
-abbrev pub code_of : ℕ → Option ℕ
-code_of c = if nat_lt 31 c && nat_lt c 127 then Some c else option_map (λ place. place + 155) (place_of c extra)
+abbrev pub zscii_of : ℕ → Option ℕ
+zscii_of c = if nat_lt 31 c && nat_lt c 127 then Some c else option_map (λ place. place + 155) (place_of c extra)

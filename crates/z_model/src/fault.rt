@@ -1,6 +1,6 @@
 // Why a story is broken.
 ghost use Rattle.std.specs.Prelude.{◌≡◌, Some};
-ghost use Rattle.z_model.specs.Fault.{number_of, text_of_fault};
+ghost use Rattle.z_model.specs.Fault.{printed_number, text_of_fault};
 
 use std::error::Error;
 use std::fmt;
@@ -29,7 +29,7 @@ pub enum ZFault {
 impl ZFault {
     /// The number that the player prints.
     pub fn number(self) -> u8
-        ensures { result ≡ number_of self }
+        ensures { result ≡ printed_number self }
     {
         match self {
             ZFault::BadOpcode => 50,

@@ -11,8 +11,8 @@ mod text;
 mod word;
 
 ghost use Rattle.std.specs.Prelude.{List, ℕ, All, flat_map};
-ghost use Rattle.z_model.specs.Table.{Rows, rows_of};
-ghost use Rattle.z_model.specs.Spelling.{Again, AreBytes, Written, Stands, spelling};
+ghost use Rattle.z_model.specs.Table.{Rows, player_rows};
+ghost use Rattle.z_model.specs.Spelling.{Again, AreBytes, Written, BytesAt, spelling};
 ghost use Rattle.z_model.specs.Undecoded.{Undecoded};
 ghost use Rattle.z_model.specs.declared.op.Op.{Op};
 ghost use Rattle.z_model.specs.Run.{ZGiven, ZState};
@@ -39,7 +39,7 @@ pub fn instructions_again()
 
 /// Decoding fails by the end exactly where an instruction passes it, and by a bad instruction exactly where none begins.
 pub fn faults_are_exact()
-    ensures { (bytes : List ℕ) (at : ℕ) → AreBytes bytes → Undecoded rows_of bytes at }
+    ensures { (bytes : List ℕ) (at : ℕ) → AreBytes bytes → Undecoded player_rows bytes at }
 {}
 
 /// What is written for an op of the table, and its literal text behind it, is decoded as that op.
@@ -80,5 +80,5 @@ pub fn stands_is_done()
 /// Ops that are written one behind another are instructions one behind another.
 pub fn instructions_in_a_row()
     ensures { (rows : Rows) (bytes : List ℕ) (at : ℕ) (ops : List Op) → All (IsTextless rows) ops →
-        Stands bytes at (flat_map spelling ops) → InARow rows bytes at ops }
+        BytesAt bytes at (flat_map spelling ops) → InARow rows bytes at ops }
 {}

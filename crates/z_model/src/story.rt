@@ -1,6 +1,6 @@
 // Which files are stories.
 ghost use Rattle.std.specs.Prelude.{◌≡◌, ◌<◌, ◌≤◌, ◌+◌, ◌%◌, length, drop, sum, Some, IfOk, IfErr};
-ghost use Rattle.z_model.specs.Story.{header_word, length_of, refusal_of, has_bad_map, layout_of, start_of, text_of_story, IsHeader};
+ghost use Rattle.z_model.specs.Story.{header_word, length_of, story_refusal, has_bad_map, layout_of, first_address, text_of_story, IsHeader};
 
 use crate::word::word_of;
 use std::error::Error;
@@ -91,9 +91,9 @@ fn has_bad_map(file: &[u8], size: usize) -> bool
 }
 
 /// The header of a story, or why the file is none.
-#[tactic(auto, unfolding(crate::specs::Story::refusal_of))]
+#[tactic(auto, unfolding(crate::specs::Story::story_refusal))]
 pub fn read_header(file: &[u8]) -> Result<Header, StoryRefusal>
-    ensures refused { IfErr result (λ refusal. refusal_of file.now ≡ Some refusal) }
+    ensures refused { IfErr result (λ refusal. story_refusal file.now ≡ Some refusal) }
     ensures header { IfOk result (IsHeader file.now) }
 {
     if file.len() > 524288 {
@@ -120,7 +120,7 @@ fn header_of(file: &[u8], size: usize) -> Header
     requires within { size ≤ length file.now }
     requires size { size ≡ length_of file.now }
     ensures layout { result.layout ≡ layout_of file.now }
-    ensures start { result.start ≡ start_of file.now }
+    ensures start { result.start ≡ first_address file.now }
     ensures length { result.length ≡ length_of file.now }
 {
     let layout = Layout {

@@ -1,6 +1,6 @@
 // The instruction table.
 ghost use Rattle.std.specs.Prelude.{◌≡◌, Some};
-ghost use Rattle.z_model.specs.Table.{row_at, rows_of};
+ghost use Rattle.z_model.specs.Table.{row_at, player_rows};
 ghost use Rattle.z_model.specs.Names.{name_of_two, name_of_one, name_of_zero, name_of_several, name_of_extended, name_of};
 
 use std::fmt;
@@ -304,7 +304,7 @@ pub const EXTENDED: [Option<Row>; 12] = [
 /// The row of a kind and a number.
 #[inline]
 pub fn find_row(kind: Kind, number: u8) -> Option<Row>
-    ensures { result ≡ row_at rows_of kind number }
+    ensures { result ≡ row_at player_rows kind number }
 {
     let rows: &[Option<Row>] = match kind {
         Kind::Two => &TWO,

@@ -1,6 +1,6 @@
 // The characters of strings, and their codes.
 ghost use Rattle.std.specs.Prelude.{◌≡◌};
-ghost use Rattle.z_model.specs.Zscii.{code_of};
+ghost use Rattle.z_model.specs.Zscii.{zscii_of};
 
 use dg_base::{EXTRA, find_place};
 
@@ -31,7 +31,7 @@ pub const PUNCTUATION: [u16; 24] = [
 
 /// The code of a character, where it is of ASCII's printed part or one of the extra characters.
 pub fn code_of(c: u16) -> Option<u8>
-    ensures { result ≡ code_of c }
+    ensures { result ≡ zscii_of c }
 {
     if 31 < c && c < 127 {
         return Some(c as u8);

@@ -5,7 +5,7 @@ use Rattle.z_model.specs.declared.op.Found.{Found}
 use Rattle.z_model.specs.Decode.{op_at}
 use Rattle.z_model.specs.Spelling.{AreBytes, Again}
 use Rattle.z_model.specs.declared.story.Layout.{Layout}
-use Rattle.z_model.specs.Table.{rows_of}
+use Rattle.z_model.specs.Table.{player_rows}
 use Rattle.z_model.specs.Machine.{Machine}
 use Rattle.z_model.specs.Laws.{KeepsCode, CodeStays, StandsOn, state_behind}
 use Rattle.z_model.specs.Run.{ZGiven, Next}
@@ -19,8 +19,8 @@ are_bytes : (bytes : List ℕ) → ((i : ℕ) → Fits w8 (get_or bytes i 0)) �
 are_bytes bytes fits i b e = let is = get_or_from_slice_get bytes i b 0 e in let fit = fits i in omega arith
 
 -- what was decoded in the code is right there
-pub right_of : (base : ℕ) (bytes : List ℕ) (pc : ℕ) (found : Found) → Again rows_of bytes pc → ((i : ℕ) → Fits w8 (get_or bytes i 0)) → base ≤ pc →
-    op_at rows_of bytes pc ≡ Ok found → found.end ≤ length bytes → IsRight base bytes (record { at = pc; found = found })
+pub right_of : (base : ℕ) (bytes : List ℕ) (pc : ℕ) (found : Found) → Again player_rows bytes pc → ((i : ℕ) → Fits w8 (get_or bytes i 0)) → base ≤ pc →
+    op_at player_rows bytes pc ≡ Ok found → found.end ≤ length bytes → IsRight base bytes (record { at = pc; found = found })
 right_of base bytes pc found law fits from is within =
     record { from = from; stands = law.there (are_bytes bytes fits) found.row found.op found.end is; is = is; within = within }
 
@@ -28,8 +28,8 @@ module _ (layout : Layout) (old new : List ℕ) (kept : KeepsCode layout old new
   slot_on : (slot : Slot) → IsRight layout.base old slot → IsRight layout.base new slot
   slot_on slot right = record {
     from = right.from;
-    stands = on.instruction rows_of slot.at slot.found.op slot.found.end right.from right.stands;
-    is = on.decoded rows_of slot.at slot.found right.from right.stands right.is;
+    stands = on.instruction player_rows slot.at slot.found.op slot.found.end right.from right.stands;
+    is = on.decoded player_rows slot.at slot.found right.from right.stands right.is;
     within = subst (λ (n : ℕ). slot.found.end ≤ n) (sym kept.size) right.within;
   }
 

@@ -9,7 +9,7 @@ use Rattle.z_model.specs.declared.fault.ZFault.TheVariants.{BadWrite, BadString,
 use Rattle.z_model.specs.declared.end.OpenTable.{OpenTable}
 use Rattle.z_model.specs.declared.story.Layout.{Layout}
 use Rattle.z_model.specs.Decode.{◌>>=◌}
-use Rattle.z_model.specs.Zscii.{is_printed, all_printed}
+use Rattle.z_model.specs.Zscii.{is_printed, are_printable}
 use Rattle.z_model.specs.Memory.{Memory, guarded, is_writable, with_byte, with_bytes}
 use Rattle.z_model.specs.Text.{Text, print_fault}
 use Rattle.z_model.specs.Machine.{Machine}
@@ -26,7 +26,7 @@ no_fault = None
 pub record Collecting (room : List ℕ) (count : ℕ) (all left : List ℕ) : Type 0 where
   pub within : count ≤ length room
   pub is : shown_codes all ≡ take count room ++ shown_codes left
-  pub good : all_printed left ≡ true
+  pub good : are_printable left ≡ true
 
 shown_more : (c : ℕ) (cs : List ℕ) → shown_codes (c ∷ cs) ≡ shown_codes (c ∷ []) ++ shown_codes cs
 unfolding shown_codes
@@ -36,19 +36,19 @@ shown_more c cs = by_test (eqb c 0)
     by_test true = refl
     by_test false = refl
 
-both_printed : (c : ℕ) (cs : List ℕ) → all_printed (c ∷ cs) ≡ true → (is_printed c ≡ true) × (all_printed cs ≡ true)
-unfolding all_printed
+both_printed : (c : ℕ) (cs : List ℕ) → are_printable (c ∷ cs) ≡ true → (is_printed c ≡ true) × (are_printable cs ≡ true)
+unfolding are_printable
 both_printed c cs e = by_test (is_printed c) refl e
   where
-    by_test : (t : Bool) → is_printed c ≡ t → (t && all_printed cs) ≡ true → (is_printed c ≡ true) × (all_printed cs ≡ true)
+    by_test : (t : Bool) → is_printed c ≡ t → (t && are_printable cs) ≡ true → (is_printed c ≡ true) × (are_printable cs ≡ true)
     by_test true is e = (is, e)
     by_test false is e = absurd cc
 
-pub text_printed : (t : Text) → print_fault t ≡ None → all_printed t.codes ≡ true
+pub text_printed : (t : Text) → print_fault t ≡ None → are_printable t.codes ≡ true
 unfolding print_fault
-text_printed t e = by_test (all_printed t.codes) refl e
+text_printed t e = by_test (are_printable t.codes) refl e
   where
-    by_test : (b : Bool) → all_printed t.codes ≡ b → cond b (cond (is_some t.end) None (Some BadString)) (Some BadCharacter) ≡ no_fault → all_printed t.codes ≡ true
+    by_test : (b : Bool) → are_printable t.codes ≡ b → cond b (cond (is_some t.end) None (Some BadString)) (Some BadCharacter) ≡ no_fault → are_printable t.codes ≡ true
     by_test true is e = is
     by_test false is e = absurd cc
 
@@ -60,7 +60,7 @@ pub shown_one : (c : ℕ) → c ≢ 0 → shown_codes (c ∷ []) ≡ c ∷ []
 unfolding shown_codes
 shown_one c e = rw (ne_eqb c 0 e) refl
 
-pub collect_starts : (room all left : List ℕ) → left ≡ all → all_printed all ≡ true → Collecting room 0 all left
+pub collect_starts : (room all left : List ℕ) → left ≡ all → are_printable all ≡ true → Collecting room 0 all left
 collect_starts room all left e good = record { within = omega arith; is = ap shown_codes (sym e); good = rw e good }
 
 pub collect_over : (room : List ℕ) (count : ℕ) (all left : List ℕ) → Collecting room count all left → left ≡ [] → Collects (Some count) room (shown_codes all)
@@ -68,14 +68,14 @@ unfolding shown_codes
 collect_over room count all left s none = (s.within, sym (s.is ∙ ap (λ (l : List ℕ). take count room ++ shown_codes l) none ∙ append-nil (take count room)))
 
 pub next_printed : (room : List ℕ) (count : ℕ) (all left : List ℕ) (c : ℕ) (rest : List ℕ) → Collecting room count all left → left ≡ c ∷ rest → is_printed c ≡ true
-next_printed room count all left c rest s e = (both_printed c rest (subst (λ (l : List ℕ). all_printed l ≡ true) e s.good)).0
+next_printed room count all left c rest s e = (both_printed c rest (subst (λ (l : List ℕ). are_printable l ≡ true) e s.good)).0
 
 pub collect_on : (room room' : List ℕ) (count count' : ℕ) (all left : List ℕ) (c : ℕ) (rest : List ℕ) → Collecting room count all left → left ≡ c ∷ rest → Collects (Some count') room' (take count room ++ shown_codes (c ∷ [])) → Collecting room' count' all rest
 collect_on room room' count count' all left c rest s e put = record {
   within = put.0;
   is = s.is ∙ ap (λ (l : List ℕ). take count room ++ shown_codes l) e ∙ ap (λ (l : List ℕ). take count room ++ l) (shown_more c rest)
       ∙ sym (append_assoc (take count room) (shown_codes (c ∷ [])) (shown_codes rest)) ∙ ap (λ (l : List ℕ). l ++ shown_codes rest) (sym put.1);
-  good = (both_printed c rest (subst (λ (l : List ℕ). all_printed l ≡ true) e s.good)).1;
+  good = (both_printed c rest (subst (λ (l : List ℕ). are_printable l ≡ true) e s.good)).1;
 }
 
 pub collect_full : (room room' : List ℕ) (count : ℕ) (all left : List ℕ) (c : ℕ) (rest : List ℕ) → Collecting room count all left → left ≡ c ∷ rest → Collects None room' (take count room ++ shown_codes (c ∷ [])) → Collects None room' (shown_codes all)

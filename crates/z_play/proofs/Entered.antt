@@ -7,7 +7,7 @@ use Rattle.z_model.specs.declared.fault.ZFault.{ZFault}
 use Rattle.z_model.specs.declared.fault.ZFault.TheVariants.{StackFull}
 use Rattle.z_model.specs.declared.end.Args.{Args}
 use Rattle.z_model.specs.Machine.{words}
-use Rattle.z_model.specs.Flow.{entered, local_count, locals_from}
+use Rattle.z_model.specs.Flow.{frame_entered, local_count, locals_from}
 use Rattle.z_play.specs.declared.engine.Called.{Called}
 use Rattle.z_play.specs.declared.engine.Engine.{Engine}
 use Rattle.z_play.specs.View.{callers_view, view_of, callers_of, stack_of, tables_of, machine, Nested, Sound}
@@ -24,8 +24,8 @@ words_are : (e : Engine) → Sound e → words (machine e) ≡ e.top
 words_are e sound = omega (arith, view_words e.memory.bytes.items e.pc e.here (callers_of e) (stack_of e) (tables_of e) sound.nested (omega (arith, sound.here, length-take e.top e.stack.items, sound.words, sound.top)), length-take e.top e.stack.items, sound.words, sound.top)
 
 module _ (e : Engine) (sound : Sound e) (end : ℕ) (store : Option ℕ) (a : Args) where
-  pub too_deep : 8191 ≤ e.depth → entered (machine e) end store a ≡ Err StackFull
-  unfolding entered
+  pub too_deep : 8191 ≤ e.depth → frame_entered (machine e) end store a ≡ Err StackFull
+  unfolding frame_entered
   too_deep full = rw (le-ltb (length (machine e).callers + 1) 8192 (omega (arith, callers_long e sound))) refl
 
   module _ (room : e.depth < 8191) where
@@ -38,16 +38,16 @@ module _ (e : Engine) (sound : Sound e) (end : ℕ) (store : Option ℕ) (a : Ar
     pub frames_nested : Nested (reverse (take (e.depth + 1) (set e.frames.items e.depth e.here))) e.top
     frames_nested = rw frames_are (sound.here, sound.nested)
 
-    pub bad_call : (fault : ZFault) → local_count e.memory.bytes.items (8 * a.first) ≡ Err fault → entered (machine e) end store a ≡ Err fault
-    unfolding entered
+    pub bad_call : (fault : ZFault) → local_count e.memory.bytes.items (8 * a.first) ≡ Err fault → frame_entered (machine e) end store a ≡ Err fault
+    unfolding frame_entered
     bad_call fault bad = rw (deep_enough, bad) refl
 
-    pub too_many : (n : ℕ) → local_count e.memory.bytes.items (8 * a.first) ≡ Ok n → 65536 < e.top + n → entered (machine e) end store a ≡ Err StackFull
-    unfolding entered
+    pub too_many : (n : ℕ) → local_count e.memory.bytes.items (8 * a.first) ≡ Ok n → 65536 < e.top + n → frame_entered (machine e) end store a ≡ Err StackFull
+    unfolding frame_entered
     too_many n good big = rw (deep_enough, good, lt-ltb 65536 (words (machine e) + n) (omega (arith, words_are e sound))) refl
 
-    pub is_entered : (n : ℕ) → n ≤ 15 → local_count e.memory.bytes.items (8 * a.first) ≡ Ok n → e.top + n ≤ 65536 → (stack : List ℕ) → take (e.top + n) stack ≡ stack_of e ++ locals_from n a → entered (machine e) end store a ≡ Ok (view_of e.memory.bytes.items (8 * a.first + 1) (record { back = end; store = store; args = a.count - 1; base = e.top; locals = n }) (reverse (take (e.depth + 1) (set e.frames.items e.depth e.here))) (take (e.top + n) stack) (tables_of e))
-    unfolding entered
+    pub is_entered : (n : ℕ) → n ≤ 15 → local_count e.memory.bytes.items (8 * a.first) ≡ Ok n → e.top + n ≤ 65536 → (stack : List ℕ) → take (e.top + n) stack ≡ stack_of e ++ locals_from n a → frame_entered (machine e) end store a ≡ Ok (view_of e.memory.bytes.items (8 * a.first + 1) (record { back = end; store = store; args = a.count - 1; base = e.top; locals = n }) (reverse (take (e.depth + 1) (set e.frames.items e.depth e.here))) (take (e.top + n) stack) (tables_of e))
+    unfolding frame_entered
     is_entered n few good fits stack is =
         let old : List ℕ = stack_of e in
         let new : List ℕ = locals_from n a in

@@ -7,7 +7,7 @@ use Rattle.z_model.specs.declared.story.Layout.{Layout}
 use Rattle.z_model.specs.Machine.{Machine}
 use Rattle.z_model.specs.Run.{ZGiven, ZState, ZRun, zrun}
 use Rattle.z_model.specs.Closing.{end_line, unread_line, is_open, newline_if, with_end_line, played_text}
-use Rattle.z_model.specs.Story.{layout_of, start_of, memory_of, first_machine, given_of, start_state}
+use Rattle.z_model.specs.Story.{layout_of, first_address, memory_of, first_machine, given_of, start_state}
 use Rattle.dg_base.specs.Written.{SinkView, Wrote, BrokeOff}
 use Rattle.z_play.specs.Output.{BrokeBehind}
 use Rattle.z_play.specs.inside.Scene.{Scene, given_by, state}
@@ -128,16 +128,16 @@ print_cut w s n left old new h =
 
 -- ---- the start
 
-pub start_is : (story typed : List ℕ) (start : ℕ) (m : Machine) → memory_of story ≡ story → start ≡ start_of story → m ≡ first_machine story start → state m typed 0 [] ≡ start_state story typed
+pub start_is : (story typed : List ℕ) (start : ℕ) (m : Machine) → memory_of story ≡ story → start ≡ first_address story → m ≡ first_machine story start → state m typed 0 [] ≡ start_state story typed
 start_is story typed start m whole at first =
-    ap (λ (k : Machine). state k typed 0 []) (first ∙ ap (λ (s : ℕ). first_machine story s) at ∙ ap (λ (l : List ℕ). first_machine l (start_of story)) (sym whole))
+    ap (λ (k : Machine). state k typed 0 []) (first ∙ ap (λ (s : ℕ). first_machine story s) at ∙ ap (λ (l : List ℕ). first_machine l (first_address story)) (sym whole))
 
 pub world_is : (story dice : List ℕ) (l : Layout) → l ≡ layout_of story → given_by l dice ≡ given_of story dice
 world_is story dice l e = ap (λ (k : Layout). given_by k dice) e
 
 -- the run of a player is that of its story
 pub runs_as : (story dice typed : List ℕ) (l : Layout) (start : ℕ) (m : Machine) (answer : Result ZEnd Fault) (n : ℕ) (old new : Scene) →
-    l ≡ layout_of story → memory_of story ≡ story → start ≡ start_of story → m ≡ first_machine story start →
+    l ≡ layout_of story → memory_of story ≡ story → start ≡ first_address story → m ≡ first_machine story start →
     RunsOn answer (given_by l dice) (state m typed 0 []) n old new → RunsOn answer (given_of story dice) (start_state story typed) n old new
 runs_as story dice typed l start m answer n old new laid whole at first ran =
     subst (λ (w : ZGiven). RunsOn answer w (start_state story typed) n old new) (world_is story dice l laid)

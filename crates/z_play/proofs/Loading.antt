@@ -7,7 +7,7 @@ use Rattle.z_model.specs.declared.story.StoryRefusal.{StoryRefusal}
 use Rattle.z_model.specs.declared.story.Layout.{Layout}
 use Rattle.z_model.specs.declared.story.Header.{Header}
 use Rattle.z_model.specs.Run.{ZState}
-use Rattle.z_model.specs.Story.{header_word, start_of, globals_of, base_of, length_of, memory_of, layout_of, first_machine, refusal_of, has_bad_length, has_bad_map, IsHeader}
+use Rattle.z_model.specs.Story.{header_word, first_address, globals_of, static_base, length_of, memory_of, layout_of, first_machine, story_refusal, has_bad_length, has_bad_map, IsHeader}
 use Rattle.z_play.specs.inside.Scene.{given_by}
 use Rattle.z_play.specs.Ready.{IsStory, IsLoaded}
 
@@ -18,15 +18,15 @@ record Bounds (file : List ℕ) : Type 0 where
   header : 64 ≤ length_of file
   within : length_of file ≤ length file
   from : 64 ≤ globals_of file
-  globals : globals_of file + 480 ≤ base_of file
-  base : base_of file ≤ length_of file
+  globals : globals_of file + 480 ≤ static_base file
+  base : static_base file ≤ length_of file
 
 not_refused : (t : Bool) (refusal : StoryRefusal) (rest : Option StoryRefusal) → cond t (Some refusal) rest ≡ None → (t ≡ false) × (rest ≡ None)
 not_refused true refusal rest e = absurd cc
 not_refused false refusal rest e = (refl, e)
 
-bounds : (file : List ℕ) → refusal_of file ≡ None → Bounds file
-unfolding refusal_of
+bounds : (file : List ℕ) → story_refusal file ≡ None → Bounds file
+unfolding story_refusal
 bounds file e =
     let a = not_refused (ltb 524288 (length file)) _ _ e in
     let b = not_refused (ltb (length file) 64) _ _ a.1 in
@@ -35,15 +35,15 @@ bounds file e =
     let f = not_refused (has_bad_map file) _ _ d.1 in
     let l = or_parts (ltb (length_of file) 64) (ltb (length file) (length_of file)) d.0 in
     let m = or_parts (ltb (globals_of file) 64) _ f.0 in
-    let n = or_parts (ltb (base_of file) (globals_of file + 480)) _ m.1 in
-    let o = or_parts (ltb (length_of file) (base_of file)) _ n.1 in
+    let n = or_parts (ltb (static_base file) (globals_of file + 480)) _ m.1 in
+    let o = or_parts (ltb (length_of file) (static_base file)) _ n.1 in
     record {
       most = ltb-false 524288 (length file) a.0;
       header = ltb-false (length_of file) 64 l.0;
       within = ltb-false (length file) (length_of file) l.1;
       from = ltb-false (globals_of file) 64 m.0;
-      globals = ltb-false (base_of file) (globals_of file + 480) n.0;
-      base = ltb-false (length_of file) (base_of file) o.0;
+      globals = ltb-false (static_base file) (globals_of file + 480) n.0;
+      base = ltb-false (length_of file) (static_base file) o.0;
     }
 
 -- ---- the bytes up to the length
@@ -79,7 +79,7 @@ layout_same file b =
     ∙ ap (λ (x : ℕ). layout_from (header_word file 12) (header_word file 14) x (memory_of story)) (word_same file 28 b (omega arith))
     ∙ ap (λ (m : List ℕ). layout_from (header_word file 12) (header_word file 14) (header_word file 28) m) (whole file b)
 
-start_same : (file : List ℕ) → Bounds file → start_of (memory_of file) ≡ start_of file
+start_same : (file : List ℕ) → Bounds file → first_address (memory_of file) ≡ first_address file
 start_same file b = word_same file 6 b (omega arith)
 
 -- ---- a loaded story
@@ -87,7 +87,7 @@ start_same file b = word_same file 6 b (omega arith)
 pub story_of : (file : List ℕ) (h : Header) → IsHeader file h → IsStory (memory_of file) h.start h.layout
 story_of file h is =
     let b = bounds file is.accepted in
-    let base : h.layout.base ≡ base_of file = ap (λ (l : Layout). l.base) is.layout in
+    let base : h.layout.base ≡ static_base file = ap (λ (l : Layout). l.base) is.layout in
     let globals : h.layout.globals ≡ globals_of file = ap (λ (l : Layout). l.globals) is.layout in
     let n = long file b in
     record {
@@ -111,5 +111,5 @@ loaded_of file h is =
       accepted = is.accepted;
       is = refl;
       given = λ dice. ap (λ (l : Layout). given_by l dice) (layout_same file b);
-      start = λ typed. ap (λ (m : List ℕ). from_start typed m (start_of (memory_of file))) (whole file b) ∙ ap (λ (s : ℕ). from_start typed (memory_of file) s) (start_same file b);
+      start = λ typed. ap (λ (m : List ℕ). from_start typed m (first_address (memory_of file))) (whole file b) ∙ ap (λ (s : ℕ). from_start typed (memory_of file) s) (start_same file b);
     }

@@ -9,10 +9,10 @@ use Rattle.z_model.specs.declared.end.Effect.{Effect}
 use Rattle.z_model.specs.declared.end.Effect.TheVariants.{Goes, PrintsLine}
 use Rattle.z_model.specs.declared.story.Layout.{Layout}
 use Rattle.z_model.specs.Machine.{Frame, Machine, stored_if}
-use Rattle.z_model.specs.Flow.{returned, return_to, in_frames, thrown, branch_taken, jumped}
+use Rattle.z_model.specs.Flow.{returned, return_to, in_frames, frames_thrown, branch_taken, jumped}
 use Rattle.z_model.specs.declared.end.OpenTable.{OpenTable}
 use Rattle.z_model.specs.Streams.{codes_in, into_table}
-use Rattle.z_model.specs.Effects.{goes, let_out, printed, then_returned, prints_line}
+use Rattle.z_model.specs.Effects.{goes, let_out, print_effect, then_returned, prints_line}
 use Rattle.z_model.specs.Decode.{◌>>=◌}
 use Rattle.z_model.specs.Text.{string_at, print_fault}
 use Rattle.z_play.specs.inside.Faults.{fault_of}
@@ -83,21 +83,21 @@ module _ (layout : Layout) (m : Machine) (at : ℕ) where
       by_into (Err fault) = refl
 
   pub line_refused : (fault : ZFault) → print_fault (string_at m.memory at) ≡ Some fault → prints_line layout m at ≡ Err fault
-  unfolding prints_line printed
+  unfolding prints_line print_effect
   line_refused fault bad = rw bad refl
 
   pub line_kept : (fault : ZFault) → m.tables ≡ [] → print_fault (string_at m.memory at) ≡ None → fault_of (returned layout m 1) ≡ Some fault → prints_line layout m at ≡ Err fault
-  unfolding prints_line printed
+  unfolding prints_line print_effect
   line_kept fault none good bad = rw good (none_open m.tables none ∙ tried (returned layout m 1) (PrintsLine at, m) fault bad)
 
   pub line_prints : m.tables ≡ [] → print_fault (string_at m.memory at) ≡ None → fault_of (returned layout m 1) ≡ None → (prints_line layout m at ≡ Ok (PrintsLine at, m)) × IsOk (returned layout m 1)
-  unfolding prints_line printed
+  unfolding prints_line print_effect
   line_prints none good may =
       let well = tried_well (returned layout m 1) (PrintsLine at, m) may in
       rw good (none_open m.tables none ∙ well.0, well.1)
 
   pub line_tabled : 0 < length m.tables → print_fault (string_at m.memory at) ≡ None → prints_line layout m at ≡ line_into layout m (PrintsLine at)
-  unfolding prints_line printed
+  unfolding prints_line print_effect
   line_tabled some good = rw good (some_open m.tables some)
 
 -- ---- what is let out
@@ -122,8 +122,8 @@ one_dropped m (f ∷ g ∷ fs) (suc k) lt =
     let e : suc k + 1 ≡ suc (k + 1) = omega arith in
     rw e (one_dropped m (g ∷ fs) k (omega arith))
 
-pub no_such_frame : (layout : Layout) (m : Machine) (x frame : ℕ) → (frame ≡ 0) ⊎ (length m.callers < frame) → thrown layout m x frame ≡ Err BadReturn
-unfolding thrown
+pub no_such_frame : (layout : Layout) (m : Machine) (x frame : ℕ) → (frame ≡ 0) ⊎ (length m.callers < frame) → frames_thrown layout m x frame ≡ Err BadReturn
+unfolding frames_thrown
 no_such_frame layout m x frame (inl e) = rw e refl
 no_such_frame layout m x frame (inr lt) = rw (lt-ltb (length m.callers) frame lt) (by_test (eqb frame 0))
   where
@@ -131,6 +131,6 @@ no_such_frame layout m x frame (inr lt) = rw (lt-ltb (length m.callers) frame lt
     by_test true = refl
     by_test false = refl
 
-pub is_thrown : (layout : Layout) (m : Machine) (x frame : ℕ) → frame ≢ 0 → frame ≤ length m.callers → thrown layout m x frame ≡ returned layout (in_frames m (drop (length m.callers - frame) (m.here ∷ m.callers))) x
-unfolding thrown
+pub is_thrown : (layout : Layout) (m : Machine) (x frame : ℕ) → frame ≢ 0 → frame ≤ length m.callers → frames_thrown layout m x frame ≡ returned layout (in_frames m (drop (length m.callers - frame) (m.here ∷ m.callers))) x
+unfolding frames_thrown
 is_thrown layout m x frame some le = rw (ne_eqb frame 0 some, le-ltb (length m.callers) frame le) refl

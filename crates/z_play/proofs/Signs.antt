@@ -6,7 +6,7 @@ use Rattle.std.proofs.lemmas.Bool.{ne_eqb}
 use native.Mathlib.Nat.{div-le_self}
 use lib.IntN.{negsuc, neg_ℤ}
 use lib.Signed.{mag, mag_rem}
-use Rattle.z_model.specs.Numbers.{signed_16, word_from, quotient, remainder}
+use Rattle.z_model.specs.Numbers.{signed_16, wrapped_word, quotient, remainder}
 
 fits_16 : (z : ℤ) → mag z < 32768 → FitsSigned w16 z
 fits_16 z small = record { sfits = small }
@@ -70,10 +70,10 @@ remainder_read a d small_a small_d =
     let left : FitsSigned w32 (int_rem a d) = record { sfits = omega (arith, mag_rem a d) } in
     ap (λ (z : ℤ). to_z w32 (of_z w32 z)) (λ i. int_rem (operand_is a small_a i) (operand_is d small_d i)) ∙ to_z-of_z w32 (int_rem a d) left
 
-pub quotient_is : (a d : ℤ) (x y w : ℕ) → mag a < 32768 → mag d < 32768 → a ≡ signed_16 x → d ≡ signed_16 y → (y ≡ 0 → ⊥) → w ≡ word_from (to_z w32 (of_z w32 (int_div (operand a) (operand d)))) → Ok w ≡ quotient x y
+pub quotient_is : (a d : ℤ) (x y w : ℕ) → mag a < 32768 → mag d < 32768 → a ≡ signed_16 x → d ≡ signed_16 y → (y ≡ 0 → ⊥) → w ≡ wrapped_word (to_z w32 (of_z w32 (int_div (operand a) (operand d)))) → Ok w ≡ quotient x y
 unfolding quotient
-quotient_is a d x y w small_a small_d p q other h = rw (ne_eqb y 0 other) (ap (λ (n : ℕ). Ok n) (h ∙ ap word_from (quotient_read a d small_a small_d ∙ (λ i. int_div (p i) (q i)))))
+quotient_is a d x y w small_a small_d p q other h = rw (ne_eqb y 0 other) (ap (λ (n : ℕ). Ok n) (h ∙ ap wrapped_word (quotient_read a d small_a small_d ∙ (λ i. int_div (p i) (q i)))))
 
-pub remainder_is : (a d : ℤ) (x y w : ℕ) → mag a < 32768 → mag d < 32768 → a ≡ signed_16 x → d ≡ signed_16 y → (y ≡ 0 → ⊥) → w ≡ word_from (to_z w32 (of_z w32 (int_rem (operand a) (operand d)))) → Ok w ≡ remainder x y
+pub remainder_is : (a d : ℤ) (x y w : ℕ) → mag a < 32768 → mag d < 32768 → a ≡ signed_16 x → d ≡ signed_16 y → (y ≡ 0 → ⊥) → w ≡ wrapped_word (to_z w32 (of_z w32 (int_rem (operand a) (operand d)))) → Ok w ≡ remainder x y
 unfolding remainder
-remainder_is a d x y w small_a small_d p q other h = rw (ne_eqb y 0 other) (ap (λ (n : ℕ). Ok n) (h ∙ ap word_from (remainder_read a d small_a small_d ∙ (λ i. int_rem (p i) (q i)))))
+remainder_is a d x y w small_a small_d p q other h = rw (ne_eqb y 0 other) (ap (λ (n : ℕ). Ok n) (h ∙ ap wrapped_word (remainder_read a d small_a small_d ∙ (λ i. int_rem (p i) (q i)))))

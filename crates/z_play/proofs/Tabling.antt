@@ -4,7 +4,7 @@ use Rattle.z_model.specs.declared.fault.ZFault.{ZFault}
 use Rattle.z_model.specs.declared.end.OpenTable.{OpenTable}
 use Rattle.z_model.specs.Memory.{guarded, with_word, with_bytes}
 use Rattle.z_model.specs.Machine.{Machine}
-use Rattle.z_model.specs.Streams.{with_more, into_table, closed}
+use Rattle.z_model.specs.Streams.{with_more, into_table, stream_closed}
 use Rattle.z_play.specs.declared.memory.Story.{Story}
 use Rattle.z_play.specs.declared.engine.Engine.{Engine}
 use Rattle.z_play.specs.Story.{story_memory}
@@ -69,13 +69,13 @@ module _ (e : Engine) (sound : Sound e) (some : 0 < e.opened) where
         changed : Story → List OpenTable → Result Machine ZFault
         changed story tables = Ok (record (machine e) { memory = story.bytes.items; tables = tables })
 
-  pub close_failed : (fault : ZFault) → with_word (story_memory e.memory) (newest e).at (newest e).count ≡ Err fault → closed (layout_in e) (machine e) (tables_of e) ≡ Err fault
+  pub close_failed : (fault : ZFault) → with_word (story_memory e.memory) (newest e).at (newest e).count ≡ Err fault → stream_closed (layout_in e) (machine e) (tables_of e) ≡ Err fault
   close_failed fault bad =
       let here : with_word (guarded (layout_in e) (machine e).memory) (newest e).at (newest e).count ≡ Err fault = bad in
-      ap (λ (tables : List OpenTable). closed (layout_in e) (machine e) tables) tables_are ∙ rw here refl
+      ap (λ (tables : List OpenTable). stream_closed (layout_in e) (machine e) tables) tables_are ∙ rw here refl
 
   pub is_closed : (story : Story) → with_word (story_memory e.memory) (newest e).at (newest e).count ≡ Ok (story_memory story) →
-      closed (layout_in e) (machine e) (tables_of e) ≡ Ok (machine (record e { memory = story; opened = e.opened - 1 }))
+      stream_closed (layout_in e) (machine e) (tables_of e) ≡ Ok (machine (record e { memory = story; opened = e.opened - 1 }))
   is_closed story good =
       let here : with_word (guarded (layout_in e) (machine e).memory) (newest e).at (newest e).count ≡ Ok (story_memory story) = good in
-      ap (λ (tables : List OpenTable). closed (layout_in e) (machine e) tables) tables_are ∙ rw here refl
+      ap (λ (tables : List OpenTable). stream_closed (layout_in e) (machine e) tables) tables_are ∙ rw here refl

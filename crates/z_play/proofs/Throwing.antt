@@ -3,7 +3,7 @@ use Rattle.std.proofs.Common.{◌≡◌, ◌≢◌, ℕ, ◌+◌, ◌-◌, ◌<�
 use Rattle.z_model.specs.declared.fault.ZFault.{ZFault}
 use Rattle.z_model.specs.declared.story.Layout.{Layout}
 use Rattle.z_model.specs.Machine.{Frame, Machine}
-use Rattle.z_model.specs.Flow.{in_frames, returned, thrown}
+use Rattle.z_model.specs.Flow.{in_frames, returned, frames_thrown}
 use Rattle.z_play.specs.declared.engine.Engine.{Engine}
 use Rattle.z_play.specs.View.{machine, layout_in, Sound, Kept, Sets}
 use Rattle.z_play.proofs.Entered.{callers_long}
@@ -39,14 +39,14 @@ drop_goes old here new frame sound some d lt kept dropped one =
           ∙ ap (λ (n : ℕ). in_frames (machine old) (drop n (frames_of old))) (sym more);
     }
 
-pub drop_ends : {X : Type 0} (old here : Engine) (new : Machine) (frame x : ℕ) (r : Result X ZFault) → Sound old → frame ≢ 0 → Dropping old here frame → here.depth ≤ frame → Sets r new (returned (layout_in here) (machine here) x) → Sets r new (thrown (layout_in old) (machine old) x frame)
+pub drop_ends : {X : Type 0} (old here : Engine) (new : Machine) (frame x : ℕ) (r : Result X ZFault) → Sound old → frame ≢ 0 → Dropping old here frame → here.depth ≤ frame → Sets r new (returned (layout_in here) (machine here) x) → Sets r new (frames_thrown (layout_in old) (machine old) x frame)
 drop_ends old here new frame x r sound some d le sets =
     let long = callers_long old sound in
     let above = d.above in
     let below = d.below in
     let same : here.depth ≡ frame = omega arith in
     let count : length (machine old).callers - frame ≡ old.depth - here.depth = omega arith in
-    let all : thrown (layout_in old) (machine old) x frame ≡ returned (layout_in here) (machine here) x =
+    let all : frames_thrown (layout_in old) (machine old) x frame ≡ returned (layout_in here) (machine here) x =
     is_thrown (layout_in old) (machine old) x frame some (omega arith)
     ∙ ap (λ (n : ℕ). returned (layout_in old) (in_frames (machine old) (drop n (frames_of old))) x) count
     ∙ ap (λ (m : Machine). returned (layout_in old) m x) (sym d.is)

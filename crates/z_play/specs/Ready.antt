@@ -1,7 +1,7 @@
 -- What a player holds: a story, cut to its length, and an engine for it.
 use Rattle.std.specs.Prelude.{◌≡◌, ◌+◌, ◌≤◌, ℕ, List, length, codes, None}
 use Rattle.z_model.specs.declared.story.Layout.{Layout}
-use Rattle.z_model.specs.Story.{layout_of, start_of, memory_of, refusal_of, text_of_story, given_of, start_state}
+use Rattle.z_model.specs.Story.{layout_of, first_address, memory_of, story_refusal, text_of_story, given_of, start_state}
 use Rattle.z_play.specs.declared.engine.Engine.{Engine}
 use Rattle.z_play.specs.declared.recent.Recent.{Recent}
 use Rattle.z_play.specs.declared.player.LoadFault.{LoadFault}
@@ -12,7 +12,7 @@ use Rattle.z_play.specs.View.{Sound, layout_in}
 pub record IsStory (story : List ℕ) (start : ℕ) (layout : Layout) : Type 0 where
   pub whole : memory_of story ≡ story
   pub layout_is : layout ≡ layout_of story
-  pub start_is : start ≡ start_of story
+  pub start_is : start ≡ first_address story
   pub size : length story ≤ 524288
   pub base : layout.base ≤ length story
   pub from : 64 ≤ layout.globals
@@ -27,14 +27,14 @@ text_of_load OutOfMemory = codes "out of memory"
 pub record IsReady (story : List ℕ) (start : ℕ) (e : Engine) (recent : Recent) : Type 0 where
   pub whole : memory_of story ≡ story
   pub layout_is : layout_in e ≡ layout_of story
-  pub start_is : start ≡ start_of story
+  pub start_is : start ≡ first_address story
   pub sound : Sound e
   pub same_size : length e.memory.bytes.items ≡ length story
   pub places : length recent.slots.items ≡ 4097
 
 -- The file isn't refused, the story is its bytes up to its length, and its runs are the file's.
 pub record IsLoaded (file story : List ℕ) : Type 0 where
-  pub accepted : refusal_of file ≡ None
+  pub accepted : story_refusal file ≡ None
   pub is : story ≡ memory_of file
   pub given : (dice : List ℕ) → given_of story dice ≡ given_of file dice
   pub start : (typed : List ℕ) → start_state story typed ≡ start_state file typed

@@ -1,12 +1,12 @@
 // What several instructions do: answers, jumps and calls, variables that operands name, and readings.
 ghost use Rattle.std.specs.Prelude.{◌≡◌, ◌<◌, ◌≤◌, ◌+◌, ◌%◌, IfOk, Ok, length, true, int_lt};
 ghost use Rattle.z_model.specs.declared.story.Layout.{Layout};
-ghost use Rattle.z_model.specs.Memory.{guarded, is_writable, byte_in, word_in, with_byte, with_word, have_right};
+ghost use Rattle.z_model.specs.Memory.{guarded, is_writable, byte_in, memory_word, with_byte, with_word, have_right};
 ghost use Rattle.z_model.specs.Machine.{Machine, pushed, placed};
 ghost use Rattle.z_model.specs.Numbers.{signed_16};
-ghost use Rattle.z_model.specs.Flow.{branched, called, returned, thrown, jumped, at_pc};
-ghost use Rattle.z_model.specs.Effects.{goes, answers, answers_or, written};
-ghost use Rattle.z_model.specs.Effects.{adds, adds_and_tests, pulls, returns_popped, most_typed, reads, reads_key, random_of};
+ghost use Rattle.z_model.specs.Flow.{branched, called, returned, frames_thrown, jumped, at_pc};
+ghost use Rattle.z_model.specs.Effects.{goes, answers, answers_or, write_effect};
+ghost use Rattle.z_model.specs.Effects.{adds, adds_and_tests, pulls, returns_popped, most_typed, read_effect, reads_key, random_of};
 ghost use Rattle.z_model.specs.Run.{line_read};
 ghost use Rattle.z_play.specs.View.{machine, layout_in, Sound, Sets, Kept};
 ghost use Rattle.z_play.specs.inside.Effects.{CanFinish, GivesEffect};
@@ -185,7 +185,7 @@ impl Engine {
         requires { Sound self.old }
         ensures kept { Kept self.old self.new }
         ensures written { GivesEffect result (layout_in self.old) (machine self.new)
-            (written (machine self.old) end (with_word (guarded (layout_in self.old) (machine self.old).memory) at word)) }
+            (write_effect (machine self.old) end (with_word (guarded (layout_in self.old) (machine self.old).memory) at word)) }
     {
         write_word(&mut self.memory, at, word)?;
         self.pc = end;
@@ -196,7 +196,7 @@ impl Engine {
         requires { Sound self.old }
         ensures kept { Kept self.old self.new }
         ensures written { GivesEffect result (layout_in self.old) (machine self.new)
-            (written (machine self.old) end (with_byte (guarded (layout_in self.old) (machine self.old).memory) at byte)) }
+            (write_effect (machine self.old) end (with_byte (guarded (layout_in self.old) (machine self.old).memory) at byte)) }
     {
         self.memory.write(at, byte)?;
         self.pc = end;
@@ -241,11 +241,11 @@ impl Engine {
         }
     }
 
-    #[tactic(auto, unfolding(z_model::specs::Effects::reads))]
+    #[tactic(auto, unfolding(z_model::specs::Effects::read_effect))]
     pub fn read(&mut self, end: u32, store: Option<u8>, a: &Args) -> Result<Effect, ZFault>
         requires { Sound self.old }
         ensures kept { Kept self.old self.new }
-        ensures reads { GivesEffect result (layout_in self.old) (machine self.new) (reads (layout_in self.old) (machine self.old) end store a.now) }
+        ensures reads { GivesEffect result (layout_in self.old) (machine self.new) (read_effect (layout_in self.old) (machine self.old) end store a.now) }
     {
         let most = self.most_typed(a)?;
         self.pc = end;
@@ -276,7 +276,7 @@ impl Engine {
         requires { Sound self.old }
         ensures kept { Kept self.old self.new }
         ensures loaded { GivesEffect result (layout_in self.old) (machine self.new)
-            (answers_or (layout_in self.old) (machine self.old) end store (word_in (guarded (layout_in self.old) (machine self.old).memory) at)) }
+            (answers_or (layout_in self.old) (machine self.old) end store (memory_word (guarded (layout_in self.old) (machine self.old).memory) at)) }
     {
         let word = read_word(&self.memory, at);
         self.answer_or(end, store, word)
@@ -306,7 +306,7 @@ impl Engine {
     pub fn do_throw(&mut self, x: u16, frame: u16) -> Result<Effect, ZFault>
         requires { Sound self.old }
         ensures kept { Kept self.old self.new }
-        ensures thrown { GivesEffect result (layout_in self.old) (machine self.new) (goes (thrown (layout_in self.old) (machine self.old) x frame)) }
+        ensures thrown { GivesEffect result (layout_in self.old) (machine self.new) (goes (frames_thrown (layout_in self.old) (machine self.old) x frame)) }
     {
         self.throw(x, frame)?;
         Ok(Effect::Goes)

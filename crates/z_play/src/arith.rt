@@ -1,6 +1,6 @@
 // Words as numbers with a sign.
 ghost use Rattle.std.specs.Prelude.{◌≡◌, int_lt};
-ghost use Rattle.z_model.specs.Numbers.{signed_16, quotient, remainder, equals_one, word_from, left_by, right_by, log_shifted, art_shifted};
+ghost use Rattle.z_model.specs.Numbers.{signed_16, quotient, remainder, equals_one, wrapped_word, left_by, right_by, log_shifted, art_shifted};
 
 use z_model::{Args, ZFault};
 
@@ -24,7 +24,7 @@ pub fn is_less(a: u16, b: u16) -> bool
 
 // The word of a number, which wraps.
 fn word_from(number: i32) -> u16
-    ensures { result ≡ word_from number }
+    ensures { result ≡ wrapped_word number }
 {
     number.rem_euclid(65536) as u16
 }

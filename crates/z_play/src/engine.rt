@@ -1,7 +1,7 @@
 // The machine's arrays, and its variables.
 ghost use Rattle.std.specs.Prelude.{◌≡◌, ◌<◌, ◌≤◌, ◌-◌, ℕ, Option};
 ghost use Rattle.z_model.specs.Machine.{pushed, popped, variable_of, stored, stored_if, held_in, placed};
-ghost use Rattle.z_model.specs.Machine.{value_of, value_if, values_of, local_set, local_of, global_of};
+ghost use Rattle.z_model.specs.Machine.{operand_value, value_if, operand_values, local_set, local_of, global_of};
 ghost use Rattle.z_play.specs.View.{machine, layout_in, Sound, Gives, Sets, Kept};
 ghost use Rattle.z_play.specs.inside.Top.{top_of};
 ghost use Rattle.z_play.specs.inside.Faults.{fault_of};
@@ -244,12 +244,12 @@ impl Engine {
         Err(ZFault::BadOpcode)
     }
 
-    #[tactic(auto, unfolding(z_model::specs::Machine::value_of))]
+    #[tactic(auto, unfolding(z_model::specs::Machine::operand_value))]
     #[inline(always)]
     fn value(&mut self, operand: Operand) -> Result<u16, ZFault>
         requires { Sound self.old }
         ensures kept { Kept self.old self.new }
-        ensures value { Gives result (machine self.new) (value_of (layout_in self.old) (machine self.old) operand) }
+        ensures value { Gives result (machine self.new) (operand_value (layout_in self.old) (machine self.old) operand) }
     {
         match operand {
             Operand::Large(word) => Ok(word),
@@ -269,12 +269,12 @@ impl Engine {
     }
 
     /// The values of the operands, from left to right.
-    #[tactic(auto, unfolding(z_model::specs::Machine::values_of))]
+    #[tactic(auto, unfolding(z_model::specs::Machine::operand_values))]
     #[inline(always)]
     pub fn values(&mut self, operands: &Operands) -> Result<Args, ZFault>
         requires { Sound self.old }
         ensures kept { Kept self.old self.new }
-        ensures values { Gives result (machine self.new) (values_of (layout_in self.old) (machine self.old) operands.now) }
+        ensures values { Gives result (machine self.new) (operand_values (layout_in self.old) (machine self.old) operands.now) }
     {
         let count = operands.count;
         let first = self.value_if(0 < count, operands.first)?;

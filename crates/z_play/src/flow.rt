@@ -1,6 +1,6 @@
 // Where the machine goes on: jumps, branches, calls and returns.
 ghost use Rattle.std.specs.Prelude.{◌≡◌, ◌<◌, ◌≤◌, ◌+◌, ◌*◌, ◌++◌, take, IfOk, length, ℕ};
-ghost use Rattle.z_model.specs.Flow.{jumped, returned, in_frames, thrown, branched, branch_taken, agrees, local_count, locals_from, entered, called};
+ghost use Rattle.z_model.specs.Flow.{jumped, returned, in_frames, frames_thrown, branched, branch_taken, agrees, local_count, locals_from, frame_entered, called};
 ghost use Rattle.z_play.specs.View.{machine, layout_in, Sound, Sets, Kept, Left, SameArrays};
 ghost use Rattle.z_play.specs.inside.Faults.{fault_of};
 
@@ -105,11 +105,11 @@ impl Engine {
     }
 
     /// Drops the frames above that of a number, and returns from it.
-    #[tactic(auto, unfolding(z_model::specs::Flow::thrown))]
+    #[tactic(auto, unfolding(z_model::specs::Flow::frames_thrown))]
     pub fn throw(&mut self, x: u16, frame: u16) -> Result<(), ZFault>
         requires { Sound self.old }
         ensures kept { Kept self.old self.new }
-        ensures thrown { Sets result (machine self.new) (thrown (layout_in self.old) (machine self.old) x frame) }
+        ensures thrown { Sets result (machine self.new) (frames_thrown (layout_in self.old) (machine self.old) x frame) }
     {
         let frame = frame as usize;
         if frame == 0 || self.depth < frame {
@@ -175,11 +175,11 @@ impl Engine {
         self.jump(end, offset)
     }
 
-    #[tactic(auto, unfolding(z_model::specs::Flow::entered))]
+    #[tactic(auto, unfolding(z_model::specs::Flow::frame_entered))]
     fn enter(&mut self, end: u32, store: Option<u8>, a: &Args) -> Result<(), ZFault>
         requires sound { Sound self.old }
         ensures kept { Kept self.old self.new }
-        ensures entered { Sets result (machine self.new) (entered (machine self.old) end store a.now) }
+        ensures entered { Sets result (machine self.new) (frame_entered (machine self.old) end store a.now) }
     {
         if self.depth >= 8191 {
             return Err(ZFault::StackFull);

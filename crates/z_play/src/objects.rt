@@ -1,10 +1,10 @@
 // Objects, properties and tables, as the instructions ask for them.
 ghost use Rattle.std.specs.Prelude.{◌≡◌, ◌≤◌, Bool};
 ghost use Rattle.z_model.specs.Memory.{guarded};
-ghost use Rattle.z_model.specs.Objects.{parent_at, sibling_at, child_at, link_in, is_in, has_attribute, with_attribute, removed, inserted};
+ghost use Rattle.z_model.specs.Objects.{parent_at, sibling_at, child_at, link_in, is_inside, has_attribute, with_attribute, removed, inserted};
 ghost use Rattle.z_model.specs.Properties.{property_value, property_place, next_number, with_property, length_before};
-ghost use Rattle.z_model.specs.Tables.{copied};
-ghost use Rattle.z_model.specs.Effects.{answers_or, tests_or, answers_and_tests, answers_object, answers_place, objects_in, sought, written};
+ghost use Rattle.z_model.specs.Tables.{table_copied};
+ghost use Rattle.z_model.specs.Effects.{answers_or, tests_or, answers_and_tests, answers_object, answers_place, objects_in, sought, write_effect};
 ghost use Rattle.z_play.specs.View.{machine, layout_in, Sound, Kept};
 ghost use Rattle.z_play.specs.inside.Effects.{GivesEffect};
 
@@ -120,7 +120,7 @@ impl Engine {
         ensures kept { Kept self.old self.new }
         ensures done { GivesEffect result (layout_in self.old) (machine self.new)
             (tests_or (layout_in self.old) (machine self.old) end branch
-            (is_in (guarded (layout_in self.old) (machine self.old).memory) (objects_in (machine self.old)) a b)) }
+            (is_inside (guarded (layout_in self.old) (machine self.old).memory) (objects_in (machine self.old)) a b)) }
     {
         let test = is_child(&self.memory, self.objects(), a, b);
         self.test_or(end, branch, test)
@@ -148,7 +148,8 @@ impl Engine {
         requires { Sound self.old }
         ensures kept { Kept self.old self.new }
         ensures done { GivesEffect result (layout_in self.old) (machine self.new)
-            (written (machine self.old) end (with_attribute (guarded (layout_in self.old) (machine self.old).memory) (objects_in (machine self.old)) n at on)) }
+            (write_effect (machine self.old) end
+            (with_attribute (guarded (layout_in self.old) (machine self.old).memory) (objects_in (machine self.old)) n at on)) }
     {
         let objects = self.objects();
         match set_attr(&mut self.memory, objects, n, at, on) {
@@ -164,7 +165,7 @@ impl Engine {
         requires { Sound self.old }
         ensures kept { Kept self.old self.new }
         ensures done { GivesEffect result (layout_in self.old) (machine self.new)
-            (written (machine self.old) end (inserted (guarded (layout_in self.old) (machine self.old).memory) (objects_in (machine self.old)) a b)) }
+            (write_effect (machine self.old) end (inserted (guarded (layout_in self.old) (machine self.old).memory) (objects_in (machine self.old)) a b)) }
     {
         let objects = self.objects();
         match insert(&mut self.memory, objects, a, b) {
@@ -180,7 +181,7 @@ impl Engine {
         requires { Sound self.old }
         ensures kept { Kept self.old self.new }
         ensures done { GivesEffect result (layout_in self.old) (machine self.new)
-            (written (machine self.old) end (removed (guarded (layout_in self.old) (machine self.old).memory) (objects_in (machine self.old)) a)) }
+            (write_effect (machine self.old) end (removed (guarded (layout_in self.old) (machine self.old).memory) (objects_in (machine self.old)) a)) }
     {
         let objects = self.objects();
         match remove(&mut self.memory, objects, a) {
@@ -266,7 +267,8 @@ impl Engine {
         requires { Sound self.old }
         ensures kept { Kept self.old self.new }
         ensures done { GivesEffect result (layout_in self.old) (machine self.new)
-            (written (machine self.old) end (with_property (guarded (layout_in self.old) (machine self.old).memory) (objects_in (machine self.old)) n p x)) }
+            (write_effect (machine self.old) end
+            (with_property (guarded (layout_in self.old) (machine self.old).memory) (objects_in (machine self.old)) n p x)) }
     {
         let objects = self.objects();
         match put_prop(&mut self.memory, objects, n, p, x) {
@@ -309,7 +311,7 @@ impl Engine {
         requires { Sound self.old }
         ensures kept { Kept self.old self.new }
         ensures done { GivesEffect result (layout_in self.old) (machine self.new)
-            (written (machine self.old) end (copied (guarded (layout_in self.old) (machine self.old).memory) a b n)) }
+            (write_effect (machine self.old) end (table_copied (guarded (layout_in self.old) (machine self.old).memory) a b n)) }
     {
         match copy(&mut self.memory, a, b, n) {
             Ok(()) => {

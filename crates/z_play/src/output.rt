@@ -1,7 +1,7 @@
 // What is written, in UTF-8. Each call says whether a line is begun behind it.
 ghost use Rattle.std.specs.Prelude.{◌≡◌, ◌≤◌, ◌<◌, ◌⊎◌, OnOk, OnErr, IfOk, encode_utf8, ◌++◌, ◌∷◌, []};
 ghost use Rattle.std.specs.Fmt.{signed_decimal};
-ghost use Rattle.z_model.specs.Zscii.{code_bytes, character_of};
+ghost use Rattle.z_model.specs.Zscii.{code_utf8, character_of};
 ghost use Rattle.z_model.specs.Text.{string_at, text_bytes};
 ghost use Rattle.z_model.specs.Numbers.{signed_16};
 ghost use Rattle.z_model.specs.Closing.{is_open};
@@ -62,11 +62,11 @@ fn character_of(code: u16) -> u16
 }
 
 /// Writes the character of a code.
-#[tactic(auto, unfolding(z_model::specs::Zscii::code_bytes))]
+#[tactic(auto, unfolding(z_model::specs::Zscii::code_utf8))]
 pub fn write_code<K: Sink>(sink: &mut K, begun: bool, code: u16) -> Result<bool, WriteFault>
-    ensures ok { OnOk result (Wrote (K.view sink.old) (K.view sink.new) (code_bytes code)) }
-    ensures begun { IfOk result (λ now. now ≡ is_open begun (code_bytes code)) }
-    ensures err { OnErr result (BrokeOff (K.view sink.old) (K.view sink.new) (code_bytes code)) }
+    ensures ok { OnOk result (Wrote (K.view sink.old) (K.view sink.new) (code_utf8 code)) }
+    ensures begun { IfOk result (λ now. now ≡ is_open begun (code_utf8 code)) }
+    ensures err { OnErr result (BrokeOff (K.view sink.old) (K.view sink.new) (code_utf8 code)) }
 {
     if code == 0 {
         return write(sink, begun, &[]);

@@ -1,8 +1,8 @@
 // Stories, loaded and run.
 ghost use Rattle.std.specs.Prelude.{◌≡◌, ◌<◌, ◌++◌, ℕ, List, Some, Err, false, IfOk, IfErr, OnOk, OnErr, length, []};
-ghost use Rattle.z_model.specs.Run.{ZGiven, ZState, end_of};
+ghost use Rattle.z_model.specs.Run.{ZGiven, ZState, ending_of};
 ghost use Rattle.z_model.specs.Closing.{is_open, end_line, newline_if, unread_line};
-ghost use Rattle.z_model.specs.Story.{refusal_of, first_machine, given_of, start_state, IsHeader};
+ghost use Rattle.z_model.specs.Story.{story_refusal, first_machine, given_of, start_state, IsHeader};
 ghost use Rattle.z_play.specs.View.{machine, layout_in, Sound, Kept};
 ghost use Rattle.z_play.specs.inside.Effects.{CanFinish};
 ghost use Rattle.z_play.specs.inside.Recent.{IsRecent};
@@ -240,7 +240,7 @@ fn advance<S: Source, K: Sink>(
 }
 
 fn end_as(halt: Halt) -> ZEnd
-    ensures { result ≡ end_of halt }
+    ensures { result ≡ ending_of halt }
 {
     match halt {
         Halt::AtQuit => ZEnd::Quit,
@@ -399,9 +399,9 @@ impl Model for Player {
 impl Player {
     /// Loads a story, and takes all the memory of its runs.
     pub fn load(alloc: Global, bytes: Vec<u8>) -> Result<Player, LoadFault>
-        ensures refused { (refusal : StoryRefusal) → result ≡ Err (LoadFault.Refused refusal) → refusal_of bytes.items ≡ Some refusal }
+        ensures refused { (refusal : StoryRefusal) → result ≡ Err (LoadFault.Refused refusal) → story_refusal bytes.items ≡ Some refusal }
         ensures loaded { IfOk result (IsLoaded bytes.items) }
-        ensures memory { result ≡ Err LoadFault.OutOfMemory → refusal_of bytes.items ≡ None }
+        ensures memory { result ≡ Err LoadFault.OutOfMemory → story_refusal bytes.items ≡ None }
     {
         match read_header(&bytes) {
             Ok(header) => Player::with_header(alloc, bytes, header),

@@ -5,9 +5,9 @@ ghost use Rattle.z_model.specs.Machine.{Machine};
 ghost use Rattle.z_model.specs.Flow.{at_pc};
 ghost use Rattle.std.specs.Fmt.{signed_decimal};
 ghost use Rattle.z_model.specs.Numbers.{signed_16};
-ghost use Rattle.z_model.specs.Streams.{codes_in, opened, closed, streamed};
+ghost use Rattle.z_model.specs.Streams.{codes_in, stream_opened, stream_closed, streamed};
 ghost use Rattle.z_play.specs.inside.Collected.{Collects, IsText};
-ghost use Rattle.z_model.specs.Effects.{goes, fault_in, let_out, printed, prints_line, prints_name};
+ghost use Rattle.z_model.specs.Effects.{goes, effect_fault, let_out, print_effect, prints_line, prints_name};
 ghost use Rattle.z_play.specs.View.{machine, layout_in, Sound, Sets, Kept};
 ghost use Rattle.z_play.specs.inside.Effects.{CanFinish, GivesEffect, into_newest, line_into};
 
@@ -24,7 +24,7 @@ impl Engine {
     // Why what an effect prints may not be printed, if it may not.
     #[inline]
     fn print_fault(&self, effect: Effect) -> Option<ZFault>
-        ensures { result ≡ fault_in effect (machine self.now) }
+        ensures { result ≡ effect_fault effect (machine self.now) }
     {
         let may = match effect {
             Effect::PrintsCode(code) => is_printed(code),
@@ -49,7 +49,7 @@ impl Engine {
     // What an effect prints, in codes; none where there are more than there is room for.
     fn collect(&self, effect: Effect, room: &mut [u8]) -> Option<usize>
         requires text { IsText effect }
-        requires may { fault_in effect (machine self.now) ≡ None }
+        requires may { effect_fault effect (machine self.now) ≡ None }
         ensures { Collects result room.new (codes_in effect (machine self.now)) }
     {
         match effect {
@@ -99,7 +99,7 @@ impl Engine {
         requires sound { Sound self.old }
         requires some { 0 < self.old.opened }
         requires text { IsText effect }
-        requires may { fault_in effect (machine self.old) ≡ None }
+        requires may { effect_fault effect (machine self.old) ≡ None }
         ensures kept { Kept self.old self.new }
         ensures into { Sets result (machine self.new) (into_newest (layout_in self.old) (machine self.old) (codes_in effect (machine self.old))) }
     {
@@ -115,7 +115,7 @@ impl Engine {
     fn print_to_table(&mut self, effect: Effect) -> Result<(), ZFault>
         requires sound { Sound self.old }
         requires some { 0 < self.old.opened }
-        requires may { fault_in effect (machine self.old) ≡ None }
+        requires may { effect_fault effect (machine self.old) ≡ None }
         ensures kept { Kept self.old self.new }
         ensures into { Sets result (machine self.new) (into_newest (layout_in self.old) (machine self.old) (codes_in effect (machine self.old))) }
     {
@@ -126,13 +126,13 @@ impl Engine {
     }
 
     // Prints, where what is printed may be, and goes on. Inlined, as whatever ends a step with an effect, so that the usual one needs no place in memory.
-    #[tactic(auto, unfolding(z_model::specs::Effects::printed))]
+    #[tactic(auto, unfolding(z_model::specs::Effects::print_effect))]
     #[inline(always)]
     pub fn print(&mut self, end: u32, effect: Effect) -> Result<Effect, ZFault>
         requires sound { Sound self.old }
-        requires plain { (layout : Layout) (m : Machine) → fault_in effect m ≡ None → CanFinish effect layout m }
+        requires plain { (layout : Layout) (m : Machine) → effect_fault effect m ≡ None → CanFinish effect layout m }
         ensures kept { Kept self.old self.new }
-        ensures printed { GivesEffect result (layout_in self.old) (machine self.new) (printed (layout_in self.old) effect (at_pc (machine self.old) end)) }
+        ensures printed { GivesEffect result (layout_in self.old) (machine self.new) (print_effect (layout_in self.old) effect (at_pc (machine self.old) end)) }
     {
         if let Some(fault) = self.print_fault(effect) {
             return Err(fault);
@@ -145,7 +145,7 @@ impl Engine {
     #[inline(always)]
     fn let_out(&mut self, effect: Effect) -> Result<Effect, ZFault>
         requires sound { Sound self.old }
-        requires may { fault_in effect (machine self.old) ≡ None }
+        requires may { effect_fault effect (machine self.old) ≡ None }
         requires can { CanFinish effect (layout_in self.old) (machine self.old) }
         ensures kept { Kept self.old self.new }
         ensures out { GivesEffect result (layout_in self.old) (machine self.new)
@@ -160,7 +160,7 @@ impl Engine {
         }
     }
 
-    #[tactic(auto, unfolding(z_model::specs::Effects::prints_line, z_model::specs::Effects::printed))]
+    #[tactic(auto, unfolding(z_model::specs::Effects::prints_line, z_model::specs::Effects::print_effect))]
     pub fn print_line(&mut self, at: usize) -> Result<Effect, ZFault>
         requires { Sound self.old }
         ensures kept { Kept self.old self.new }
@@ -183,7 +183,7 @@ impl Engine {
     fn put_line(&mut self, effect: Effect) -> Result<Effect, ZFault>
         requires sound { Sound self.old }
         requires some { 0 < self.old.opened }
-        requires may { fault_in effect (machine self.old) ≡ None }
+        requires may { effect_fault effect (machine self.old) ≡ None }
         ensures kept { Kept self.old self.new }
         ensures put { GivesEffect result (layout_in self.old) (machine self.new) (line_into (layout_in self.old) (machine self.old) effect) }
     {
@@ -208,11 +208,11 @@ impl Engine {
     }
 
     // Opens a table for what is printed.
-    #[tactic(auto, unfolding(z_model::specs::Streams::opened))]
+    #[tactic(auto, unfolding(z_model::specs::Streams::stream_opened))]
     fn open_table(&mut self, at: u16) -> Result<(), ZFault>
         requires { Sound self.old }
         ensures kept { Kept self.old self.new }
-        ensures opened { Sets result (machine self.new) (opened (machine self.old) at) }
+        ensures opened { Sets result (machine self.new) (stream_opened (machine self.old) at) }
     {
         if self.opened >= 16 {
             return Err(ZFault::BadStream);
@@ -226,7 +226,7 @@ impl Engine {
     fn close_table(&mut self) -> Result<(), ZFault>
         requires { Sound self.old }
         ensures kept { Kept self.old self.new }
-        ensures closed { Sets result (machine self.new) (closed (layout_in self.old) (machine self.old) (machine self.old).tables) }
+        ensures closed { Sets result (machine self.new) (stream_closed (layout_in self.old) (machine self.old) (machine self.old).tables) }
     {
         if self.opened == 0 {
             return Ok(());

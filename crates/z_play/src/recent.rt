@@ -1,6 +1,6 @@
 // The instructions that were decoded lately, so that code that runs again is not decoded again.
 ghost use Rattle.std.specs.Prelude.{◌≡◌, ◌<◌, ℕ, List, length, slice_get, Some, IfOk, IfErr, Err};
-ghost use Rattle.z_model.specs.Table.{rows_of};
+ghost use Rattle.z_model.specs.Table.{player_rows};
 ghost use Rattle.z_model.specs.Decode.{op_at};
 ghost use Rattle.z_play.specs.inside.Recent.{Recalls, IsRecent, IsFound};
 
@@ -85,7 +85,7 @@ impl Recent {
         requires recent { IsRecent base bytes.now self.old }
         ensures recent { IsRecent base bytes.now self.new }
         ensures found { IfOk result (IsFound bytes.now pc self.new) }
-        ensures fault { IfErr result (λ fault. op_at rows_of bytes.now pc ≡ Err fault) }
+        ensures fault { IfErr result (λ fault. op_at player_rows bytes.now pc ≡ Err fault) }
     {
         z_model::instructions_again();
         let found = decode(bytes, pc as usize)?;
@@ -105,7 +105,7 @@ impl Recent {
         requires recent { IsRecent base bytes.now self.old }
         ensures recent { IsRecent base bytes.now self.new }
         ensures found { IfOk result (IsFound bytes.now pc self.new) }
-        ensures fault { IfErr result (λ fault. op_at rows_of bytes.now pc ≡ Err fault) }
+        ensures fault { IfErr result (λ fault. op_at player_rows bytes.now pc ≡ Err fault) }
     {
         let place = pc as usize % PLACES;
         if self.slots[place].at == pc {

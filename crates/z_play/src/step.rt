@@ -1,6 +1,6 @@
 // One instruction: the rows of the instruction table.
 ghost use Rattle.std.specs.Prelude.{◌≡◌, ◌≤◌, ◌+◌, ◌*◌, ◌%◌, length};
-ghost use Rattle.z_model.specs.Table.{rows_of};
+ghost use Rattle.z_model.specs.Table.{player_rows};
 ghost use Rattle.z_model.specs.Step.{do_two, do_one, do_zero, do_several, do_extended, do_instr, machine_step};
 ghost use Rattle.z_play.specs.View.{machine, layout_in, Sound, Kept};
 ghost use Rattle.z_play.specs.inside.Effects.{GivesEffect, acted};
@@ -242,7 +242,7 @@ impl Engine {
         requires sound { Sound self.old }
         requires recent { IsRecent self.old.memory.base self.old.memory.bytes.items recent.old }
         ensures kept { Kept self.old self.new }
-        ensures stepped { GivesEffect result (layout_in self.old) (machine self.new) (machine_step rows_of (layout_in self.old) word (machine self.old)) }
+        ensures stepped { GivesEffect result (layout_in self.old) (machine self.new) (machine_step player_rows (layout_in self.old) word (machine self.old)) }
         ensures recent { IsRecent self.old.memory.base self.old.memory.bytes.items recent.new }
     {
         let place = recent.place(&self.memory.bytes, self.memory.base as u32, self.pc)?;

@@ -2,7 +2,7 @@
 ghost use Rattle.std.specs.Prelude.{◌≡◌, ◌≤◌, ◌++◌, ◌∷◌, [], length, take, true, unwrap_or};
 ghost use Rattle.z_model.specs.Streams.{shown_codes};
 ghost use Rattle.z_play.specs.inside.Collected.{Collects};
-ghost use Rattle.z_model.specs.Zscii.{is_printed, is_character, all_printed, code_of};
+ghost use Rattle.z_model.specs.Zscii.{is_printed, is_character, are_printable, zscii_of};
 ghost use Rattle.z_model.specs.Text.{string_at, print_fault};
 
 use z_model::{ZFault, code_of};
@@ -65,14 +65,14 @@ pub fn put_code(room: &mut [u8], count: usize, code: u16) -> Option<usize>
 
 /// Puts the code of a character there, or a question mark.
 pub fn put_unicode(room: &mut [u8], character: u16) -> Option<usize>
-    ensures { Collects result room.new (unwrap_or (code_of character) 63 ∷ []) }
+    ensures { Collects result room.new (unwrap_or (zscii_of character) 63 ∷ []) }
 {
     put(room, 0, code_of(character).unwrap_or(b'?'))
 }
 
 /// Puts the codes of the string at a place there; none where there is no room.
 pub fn put_text(room: &mut [u8], memory: &[u8], at: usize) -> Option<usize>
-    requires { all_printed (string_at memory.now at).codes ≡ true }
+    requires { are_printable (string_at memory.now at).codes ≡ true }
     ensures { Collects result room.new (shown_codes (string_at memory.now at).codes) }
 {
     let mut walker = Walker::new(at);
@@ -91,7 +91,7 @@ pub fn put_text(room: &mut [u8], memory: &[u8], at: usize) -> Option<usize>
 
 /// The same, with an end of the line behind them.
 pub fn put_line(room: &mut [u8], memory: &[u8], at: usize) -> Option<usize>
-    requires { all_printed (string_at memory.now at).codes ≡ true }
+    requires { are_printable (string_at memory.now at).codes ≡ true }
     ensures { Collects result room.new (shown_codes (string_at memory.now at).codes ++ 13 ∷ []) }
 {
     match put_text(room, memory, at) {

@@ -6,17 +6,17 @@ use Rattle.z_code.specs.Targets.{Names}
 use Rattle.z_lang.specs.declared.act.Routine.{Routine}
 use Rattle.z_lang.specs.Standing.{look}
 use Rattle.z_asm.specs.declared.image.Code.{Code}
-use Rattle.z_asm.specs.Layout.{aligned, code_size, places_from, packed}
-use Rattle.z_asm.specs.Story.{names_of, routines_from}
+use Rattle.z_asm.specs.Layout.{aligned, code_size, stand_from, packed_address}
+use Rattle.z_asm.specs.Story.{image_names, routines_from}
 use Rattle.z_asm.proofs.Layouts.{aligned_is}
 use Rattle.z_asm.proofs.Standing.{packed_place, place_most, within, many}
 use Rattle.z_story.specs.declared.building.Parts.{Parts}
-use Rattle.z_story.specs.Parts.{code_of, image_of}
+use Rattle.z_story.specs.Parts.{routine_code, image_of}
 use Rattle.z_story.specs.Does.{packed_at}
 
 -- routines behind others have greater addresses
 rising : (at : ℕ) (cs : List Code) (i j : ℕ) → i < j → j < length (map code_size cs) →
-    slice_index (map packed (places_from at (map code_size cs))) i < slice_index (map packed (places_from at (map code_size cs))) j
+    slice_index (map packed_address (stand_from at (map code_size cs))) i < slice_index (map packed_address (stand_from at (map code_size cs))) j
 rising at [] i j lt le = absurd (omega arith)
 rising at (c ∷ cs) i zero lt le = absurd (omega arith)
 rising at (c ∷ cs) zero (suc j) lt le =
@@ -46,12 +46,12 @@ found names k x (y ∷ rs) (suc j) r e is none =
     by_test true q later = absurd (cc)
     by_test false q later = later
 
-pub found_at : (parts : Parts) (j : ℕ) (r : Routine) → slice_get parts.routines j ≡ Some r → look (names_of (image_of parts)) 0 (packed_at parts j) parts.routines ≡ Some r
+pub found_at : (parts : Parts) (j : ℕ) (r : Routine) → slice_get parts.routines j ≡ Some r → look (image_names (image_of parts)) 0 (packed_at parts j) parts.routines ≡ Some r
 found_at parts j r e =
     let lt = within parts.routines j r e in
-    let cs = map code_of parts.routines in
-    let as_many = many code_of parts.routines in
+    let cs = map routine_code parts.routines in
+    let as_many = many routine_code parts.routines in
     let sized = many code_size cs in
     let z : 0 + j ≡ j = omega arith in
-    found (names_of (image_of parts)) 0 (packed_at parts j) parts.routines j r e (ap (packed_at parts) z)
+    found (image_names (image_of parts)) 0 (packed_at parts j) parts.routines j r e (ap (packed_at parts) z)
     (λ i below same. (let y : 0 + i ≡ i = omega arith in let less = rising (routines_from (image_of parts)) cs i j below (omega arith) in let other : packed_at parts i ≡ packed_at parts j = ap (packed_at parts) (sym y) ∙ same in omega arith))

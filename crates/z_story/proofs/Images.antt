@@ -5,16 +5,16 @@ use Rattle.z_lang.specs.declared.act.Routine.{Routine}
 use Rattle.z_lang.specs.declared.act.Act.{Act}
 use Rattle.z_lang.specs.Sizes.{TakesBytes}
 use Rattle.z_lang.specs.Bodies.{Opens}
-use Rattle.z_asm.specs.Conditions.{AreCodes, IsImage, counts_of as image_counts}
+use Rattle.z_asm.specs.Conditions.{AreCodes, IsImage, counts_of_image as image_counts}
 use Rattle.z_asm.proofs.Standing.{many}
 use Rattle.z_story.specs.declared.building.Parts.{Parts}
-use Rattle.z_story.specs.Parts.{counts_of, AreRoutines, AreParts, code_of, image_of}
+use Rattle.z_story.specs.Parts.{parts_counts, AreRoutines, AreParts, routine_code, image_of}
 
-same_counts : (parts : Parts) → counts_of parts ≡ image_counts (image_of parts)
-same_counts parts = ap (λ (n : ℕ). let c : Counts = record { routines = n; tables = length parts.tables; texts = length parts.strings } in c) (sym (many code_of parts.routines))
+same_counts : (parts : Parts) → parts_counts parts ≡ image_counts (image_of parts)
+same_counts parts = ap (λ (n : ℕ). let c : Counts = record { routines = n; tables = length parts.tables; texts = length parts.strings } in c) (sym (many routine_code parts.routines))
 
 module _ (opens : (counts : Counts) (body : List Act) → Opens counts body) (takes : (body : List Act) → TakesBytes body) where
-  codes : (counts : Counts) (rs : List Routine) → AreRoutines counts rs → AreCodes counts (map code_of rs)
+  codes : (counts : Counts) (rs : List Routine) → AreRoutines counts rs → AreCodes counts (map routine_code rs)
   codes counts [] h = tt
   codes counts (r ∷ rs) h =
       let short = h.0.short in
@@ -24,9 +24,9 @@ module _ (opens : (counts : Counts) (body : List Act) → Opens counts body) (ta
   pub is_image : (parts : Parts) → AreParts parts → IsImage (image_of parts)
   is_image parts is =
       let some = is.some in
-      let as_many = many code_of parts.routines in
+      let as_many = many routine_code parts.routines in
       record {
         some = omega arith;
-        routines = subst (λ (c : Counts). AreCodes c (map code_of parts.routines)) (same_counts parts) (codes (counts_of parts) parts.routines is.routines);
+        routines = subst (λ (c : Counts). AreCodes c (map routine_code parts.routines)) (same_counts parts) (codes (parts_counts parts) parts.routines is.routines);
         texts = is.texts;
       }

@@ -6,7 +6,7 @@ use Rattle.std.proofs.lemmas.Option.{same_Some}
 use Rattle.z_model.specs.Flow.{zeros}
 use Rattle.z_model.specs.Machine.{stored_if}
 use Rattle.z_model.specs.declared.story.Layout.{Layout}
-use Rattle.z_model.specs.Run.{ZGiven, ZState, ZRun, zrun, zstep, end_of}
+use Rattle.z_model.specs.Run.{ZGiven, ZState, ZRun, zrun, zstep, ending_of}
 use Rattle.z_model.specs.declared.end.Halt.{Halt}
 use Rattle.z_model.specs.declared.end.Halt.TheVariants.{AtQuit}
 use Rattle.z_model.specs.declared.end.ZEnd.{ZEnd}
@@ -16,19 +16,19 @@ use Rattle.z_code.specs.Open.{Counts}
 use Rattle.z_code.specs.Targets.{Names, label_from}
 use Rattle.z_lang.specs.declared.act.Routine.{Routine}
 use Rattle.z_lang.specs.State.{State, Program}
-use Rattle.z_lang.specs.Runs.{Outcome, Returns, Stops, Rests, Runs}
-use Rattle.z_lang.specs.Code.{code, quit_op}
+use Rattle.z_lang.specs.Runs.{ActsOutcome, Returns, Stops, Rests, ActsRun}
+use Rattle.z_lang.specs.Code.{ops_of_acts, quit_op}
 use Rattle.z_lang.specs.Leads.{Leads, Ends}
-use Rattle.z_lang.specs.Standing.{Stands, StandsAs, ListStands, RoutinesFollow, IsLaidOut, IsKept, Context, HasRoom, Follows, ComesTo, resumed, outside, machine_at, state_at}
+use Rattle.z_lang.specs.Standing.{RoutinesStand, StandsAs, ListStands, RoutinesFollow, IsLaidOut, IsKept, Context, HasRoom, Follows, ArrivesAt, resumed, machine_state, machine_at, state_at}
 use Rattle.z_lang.proofs.Stretches.{ends_then, ends_last}
 use Rattle.z_lang.proofs.Follows.{end_at, quit_step, comes_step, on}
 use Rattle.z_lang.proofs.Start.{opening, start_of_play, from_opening, begins}
-use Rattle.z_asm.specs.Story.{names_of, first_of, first_ops, call_first}
+use Rattle.z_asm.specs.Story.{image_names, code_start, first_ops, call_first}
 use Rattle.z_asm.specs.Assembled.{IsAssembled, HasCode}
 use Rattle.z_asm.proofs.Standing.{mapped}
 use Rattle.z_story.specs.declared.building.Parts.{Parts}
-use Rattle.z_story.specs.Parts.{IsRoutine, AreRoutines, AreParts, counts_of, code_of, image_of}
-use Rattle.z_story.specs.Does.{program, packed_at, first_at, IsUnbroken, IsSafe, DoesItsActs, begun, IsRun, GoesBy, PlaysFirst, StoryDoes}
+use Rattle.z_story.specs.Parts.{IsRoutine, AreRoutines, AreParts, parts_counts, routine_code, image_of}
+use Rattle.z_story.specs.Does.{program, packed_at, first_at, IsUnbroken, IsSafe, DoesItsActs, first_state, IsRun, GoesBy, PlaysFirst, StoryDoes}
 use Rattle.z_story.proofs.Addresses.{found_at}
 use Rattle.z_story.proofs.Unbroken.{NotBroken, leads_unbroken, ends_unbroken, stops_well}
 
@@ -58,7 +58,7 @@ module _ (lists : (given : ZGiven) (names : Names) (rs : List Routine) (story : 
   p = program parts story dice
 
   abbrev image_first : ℕ
-  image_first = first_of (image_of parts)
+  image_first = code_start (image_of parts)
 
   laid_out : IsLaidOut (given_of story dice)
   laid_out =
@@ -66,31 +66,31 @@ module _ (lists : (given : ZGiven) (names : Names) (rs : List Routine) (story : 
       let base = assembled.header.base in
       record { rows = refl; laid = record { from = omega arith; globals = omega arith } }
 
-  has_code : (k : ℕ) (r : Routine) → slice_get parts.routines k ≡ Some r → HasCode (image_of parts) story k (code_of r)
-  has_code k r e = assembled.routines k (code_of r) (mapped code_of parts.routines k r e)
+  has_code : (k : ℕ) (r : Routine) → slice_get parts.routines k ≡ Some r → HasCode (image_of parts) story k (routine_code r)
+  has_code k r e = assembled.routines k (routine_code r) (mapped routine_code parts.routines k r e)
 
-  stands : Stands (program parts story dice) story
-  stands = (lists (given_of story dice) (names_of (image_of parts)) parts.routines story).stands laid_out each
+  stands : RoutinesStand (program parts story dice) story
+  stands = (lists (given_of story dice) (image_names (image_of parts)) parts.routines story).stands laid_out each
     where
-      each : (k : ℕ) (r : Routine) → slice_get parts.routines k ≡ Some r → StandsAs (given_of story dice) (names_of (image_of parts)) story k r
+      each : (k : ℕ) (r : Routine) → slice_get parts.routines k ≡ Some r → StandsAs (given_of story dice) (image_names (image_of parts)) story k r
       each k r e =
           let h = has_code k r e in
           let behind = h.behind in
           let base = assembled.header.base in
-          record { few = (routine_of (counts_of parts) parts.routines k r is.routines e).few; some = omega arith; behind = omega arith; count = h.count; code_is = h.ops }
+          record { few = (routine_of (parts_counts parts) parts.routines k r is.routines e).few; some = omega arith; behind = omega arith; count = h.count; code_is = h.ops }
 
-  comes : (k : ℕ) (r : Routine) → slice_get parts.routines k ≡ Some r → (c : Context) (f w n : ℕ) (s s' : State) (o : Outcome) → IsKept p.world.layout.base story s.memory → HasRoom c s f w → Runs p f w r.body r.body s o s' n → Follows p story (label_from (first_at parts k) (code r.body)) c o s' n (state_at s c (first_at parts k))
-  comes k r e c f w n s s' o kept room runs = follow p story stands (packed_at parts k) r (found_at parts k r e) (label_from (first_at parts k) (code r.body)) (has_code k r e).ops c f w n s s' o kept room runs
+  comes : (k : ℕ) (r : Routine) → slice_get parts.routines k ≡ Some r → (c : Context) (f w n : ℕ) (s s' : State) (o : ActsOutcome) → IsKept p.world.layout.base story s.memory → HasRoom c s f w → ActsRun p f w r.body r.body s o s' n → Follows p story (label_from (first_at parts k) (ops_of_acts r.body)) c o s' n (state_at s c (first_at parts k))
+  comes k r e c f w n s s' o kept room runs = follow p story stands (packed_at parts k) r (found_at parts k r e) (label_from (first_at parts k) (ops_of_acts r.body)) (has_code k r e).ops c f w n s s' o kept room runs
 
-  safe_by : (labels : ℕ → ℕ) (c : Context) (n : ℕ) (s' : State) (o : Outcome) (z : ZState) → ((halt : Halt) → o ≡ Stops halt → NotBroken (end_of halt)) → ComesTo p story labels c o s' n z → IsSafe p.world c o s' n z
-  safe_by labels c n s' (Returns x) z well h = λ m back. leads_unbroken p.world n z (outside s' m) (h m back)
-  safe_by labels c n s' (Stops halt) z well h = ends_unbroken p.world n z (record { end = end_of halt; state = h.0 }) h.2 (well halt refl)
+  safe_by : (labels : ℕ → ℕ) (c : Context) (n : ℕ) (s' : State) (o : ActsOutcome) (z : ZState) → ((halt : Halt) → o ≡ Stops halt → NotBroken (ending_of halt)) → ArrivesAt p story labels c o s' n z → IsSafe p.world c o s' n z
+  safe_by labels c n s' (Returns x) z well h = λ m back. leads_unbroken p.world n z (machine_state s' m) (h m back)
+  safe_by labels c n s' (Stops halt) z well h = ends_unbroken p.world n z (record { end = ending_of halt; state = h.0 }) h.2 (well halt refl)
   safe_by labels c n s' (Rests acts) z well h = leads_unbroken p.world n z (state_at s' c h.pc) h.leads
 
   does : (k : ℕ) (r : Routine) → slice_get parts.routines k ≡ Some r → DoesItsActs (program parts story dice) story (first_at parts k) r
   does k r e = record {
     comes = comes k r e;
-    safe = λ c f w n s s' o kept room runs. safe_by (label_from (first_at parts k) (code r.body)) c n s' o (state_at s c (first_at parts k)) (λ halt i. stops_well p halt i runs) (comes k r e c f w n s s' o kept room runs).comes;
+    safe = λ c f w n s s' o kept room runs. safe_by (label_from (first_at parts k) (ops_of_acts r.body)) c n s' o (state_at s c (first_at parts k)) (λ halt i. stops_well p halt i runs) (comes k r e c f w n s s' o kept room runs).comes;
   }
 
   -- ---- the whole run
@@ -105,12 +105,12 @@ module _ (lists : (given : ZGiven) (names : Names) (rs : List Routine) (story : 
   abbrev first_context : Context
   first_context = from_opening (end_at image_first call_first)
 
-  module _ (r : Routine) (e : slice_get parts.routines 0 ≡ Some r) (typed : List ℕ) (f w n : ℕ) (s' : State) (o : Outcome) (few : f ≤ 8190) (fits : r.locals + w ≤ 65536) (runs : Runs p f w r.body r.body (begun story typed r) o s' n) where
+  module _ (r : Routine) (e : slice_get parts.routines 0 ≡ Some r) (typed : List ℕ) (f w n : ℕ) (s' : State) (o : ActsOutcome) (few : f ≤ 8190) (fits : r.locals + w ≤ 65536) (runs : ActsRun p f w r.body r.body (first_state story typed r) o s' n) where
     abbrev labels : ℕ → ℕ
-    labels = label_from (first_at parts 0) (code r.body)
+    labels = label_from (first_at parts 0) (ops_of_acts r.body)
 
     abbrev at_first : ZState
-    at_first = state_at (begun story typed r) first_context (first_at parts 0)
+    at_first = state_at (first_state story typed r) first_context (first_at parts 0)
 
     first_step : zstep p.world (start_state story typed) ≡ on at_first
     first_step =
@@ -118,22 +118,22 @@ module _ (lists : (given : ZGiven) (names : Names) (rs : List Routine) (story : 
         subst (λ (pc : ℕ). zstep p.world (state_at (start_of_play (memory_of story) typed) opening pc) ≡ on at_first) (sym assembled.header.start)
         (begins p story stands (label_from image_first first_ops) (memory_of story) typed image_first 0 r assembled.first.0 starts_kept (omega arith) (found_at parts 0 r e))
 
-    room : HasRoom first_context (begun story typed r) f w
+    room : HasRoom first_context (first_state story typed r) f w
     room =
         let long = length-take r.locals (0 ∷ 0 ∷ 0 ∷ zeros) in
         record { frames = omega arith; words = omega arith }
 
     routine : Follows p story labels first_context o s' n at_first
-    routine = comes 0 r e first_context f w n (begun story typed r) s' o starts_kept room runs
+    routine = comes 0 r e first_context f w n (first_state story typed r) s' o starts_kept room runs
 
-    whole : ComesTo p story labels first_context o s' (suc n) (start_state story typed)
+    whole : ArrivesAt p story labels first_context o s' (suc n) (start_state story typed)
     whole = comes_step p story labels first_context o s' n (start_state story typed) at_first first_step routine.comes
 
     output_is : (z : ZState) → z.output ≡ s'.output → (end : ZEnd) (k : ℕ) → zrun p.world k (start_state story typed) ≡ (let run : ZRun = record { end = end; state = z } in run) → IsRun (zrun p.world k (start_state story typed)) end s'.output
     output_is z same end k e = (ap (λ (run : ZRun). run.end) e, ap (λ (run : ZRun). run.state.output) e ∙ same)
 
     -- behind the routine's return
-    behind_return : (x : ℕ) → ComesTo p story labels first_context (Returns x) s' (suc n) (start_state story typed) → (k : ℕ) → n + 1 + 1 ≤ k → IsRun (zrun p.world k (start_state story typed)) ends.Quit s'.output
+    behind_return : (x : ℕ) → ArrivesAt p story labels first_context (Returns x) s' (suc n) (start_state story typed) → (k : ℕ) → n + 1 + 1 ≤ k → IsRun (zrun p.world k (start_state story typed)) ends.Quit s'.output
     behind_return x h k le =
         let back = record s' { locals = [] } in
         let end = end_at image_first call_first in
@@ -145,9 +145,9 @@ module _ (lists : (given : ZGiven) (names : Names) (rs : List Routine) (story : 
         let all = ends_then p.world (suc n) 1 (start_state story typed) z (record { end = ends.Quit; state = last }) leads (ends_last p.world z last AtQuit quits) in
         output_is last refl ends.Quit k (ended_by p.world (suc n + 1) k (start_state story typed) (record { end = ends.Quit; state = last }) all (omega arith))
 
-    goes_by : (x : Outcome) → ComesTo p story labels first_context x s' (suc n) (start_state story typed) → GoesBy (λ k. zrun p.world k (start_state story typed)) x s'.output (n + 1)
+    goes_by : (x : ActsOutcome) → ArrivesAt p story labels first_context x s' (suc n) (start_state story typed) → GoesBy (λ k. zrun p.world k (start_state story typed)) x s'.output (n + 1)
     goes_by (Returns x) h = behind_return x h
-    goes_by (Stops halt) h = λ k le. output_is h.0 h.1 (end_of halt) k (ended_by p.world (suc n) k (start_state story typed) (record { end = end_of halt; state = h.0 }) h.2 (omega arith))
+    goes_by (Stops halt) h = λ k le. output_is h.0 h.1 (ending_of halt) k (ended_by p.world (suc n) k (start_state story typed) (record { end = ending_of halt; state = h.0 }) h.2 (omega arith))
     goes_by (Rests acts) h =
         let one : suc n ≡ n + 1 = omega arith in
         subst (λ (i : ℕ). IsRun (zrun p.world i (start_state story typed)) ends.StepLimit s'.output) one (output_is (state_at s' first_context h.pc) refl ends.StepLimit (suc n) (led_to p.world (suc n) (start_state story typed) (state_at s' first_context h.pc) h.leads))
@@ -157,12 +157,12 @@ module _ (lists : (given : ZGiven) (names : Names) (rs : List Routine) (story : 
     goes = goes_by o whole
 
     -- a run that isn't broken at the outcome
-    unbroken_by : (x : Outcome) → ComesTo p story labels first_context x s' (suc n) (start_state story typed) → ((halt : Halt) → x ≡ Stops halt → NotBroken (end_of halt)) → IsUnbroken p.world (suc n) (start_state story typed)
+    unbroken_by : (x : ActsOutcome) → ArrivesAt p story labels first_context x s' (suc n) (start_state story typed) → ((halt : Halt) → x ≡ Stops halt → NotBroken (ending_of halt)) → IsUnbroken p.world (suc n) (start_state story typed)
     unbroken_by (Returns x) h well =
         let back = record s' { locals = [] } in
         let end = end_at image_first call_first in
         leads_unbroken p.world (suc n) (start_state story typed) (state_at back opening end) (h (machine_at back opening end) (comes_back p.world.layout s' end x))
-    unbroken_by (Stops halt) h well = ends_unbroken p.world (suc n) (start_state story typed) (record { end = end_of halt; state = h.0 }) h.2 (well halt refl) (suc n)
+    unbroken_by (Stops halt) h well = ends_unbroken p.world (suc n) (start_state story typed) (record { end = ending_of halt; state = h.0 }) h.2 (well halt refl) (suc n)
     unbroken_by (Rests acts) h well = leads_unbroken p.world (suc n) (start_state story typed) (state_at s' first_context h.pc) h.leads
 
     unbroken : IsUnbroken p.world (n + 1) (start_state story typed)

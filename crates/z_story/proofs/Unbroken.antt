@@ -7,10 +7,10 @@ use Rattle.z_model.specs.declared.end.ZEnd.{ZEnd}
 use Rattle.z_model.specs.declared.end.ZEnd.TheVariants as ends
 use Rattle.z_model.specs.Laws.{then_more}
 use Rattle.z_model.proofs.Runs.{run_laws}
-use Rattle.z_model.specs.Run.{ZGiven, ZState, ZRun, zrun, end_of}
+use Rattle.z_model.specs.Run.{ZGiven, ZState, ZRun, zrun, ending_of}
 use Rattle.z_lang.specs.declared.act.Act.{Act}
 use Rattle.z_lang.specs.State.{State, Program}
-use Rattle.z_lang.specs.Runs.{Outcome, Stops, Runs, rests, at_label, goes, taken, passed, done, calls, calls_last, ends_input, returns, quits}
+use Rattle.z_lang.specs.Runs.{ActsOutcome, Stops, ActsRun, rests, at_label, goes, taken, passed, done, calls, calls_last, ends_input, returns, quits}
 use Rattle.z_lang.specs.Leads.{Leads, Ends}
 use Rattle.z_story.specs.Does.{IsUnbroken}
 
@@ -42,10 +42,10 @@ ends_unbroken w n z r l well k i le =
     unbroken_to w (n + k) z (λ fault at e. well fault at (ap (λ (x : ZRun). x.end) (sym (l.by k)) ∙ e)) i (omega arith)
 
 -- an end of acts isn't a fault
-quit_is_well : (o : Outcome) (h halt : Halt) → o ≡ Stops halt → o ≡ Stops h → NotBroken (end_of h) → NotBroken (end_of halt)
-quit_is_well o h halt e e' well = subst (λ (x : Halt). NotBroken (end_of x)) (let same : Stops h ≡ Stops halt = sym e' ∙ e in cc same) well
+quit_is_well : (o : ActsOutcome) (h halt : Halt) → o ≡ Stops halt → o ≡ Stops h → NotBroken (ending_of h) → NotBroken (ending_of halt)
+quit_is_well o h halt e e' well = subst (λ (x : Halt). NotBroken (ending_of x)) (let same : Stops h ≡ Stops halt = sym e' ∙ e in cc same) well
 
-pub stops_well : (p : Program) (halt : Halt) {f w n : ℕ} {body acts : List Act} {s s' : State} {o : Outcome} → o ≡ Stops halt → Runs p f w body acts s o s' n → NotBroken (end_of halt)
+pub stops_well : (p : Program) (halt : Halt) {f w n : ℕ} {body acts : List Act} {s s' : State} {o : ActsOutcome} → o ≡ Stops halt → ActsRun p f w body acts s o s' n → NotBroken (ending_of halt)
 stops_well p halt e rests = absurd (cc)
 stops_well p halt e (at_label r) = stops_well p halt e r
 stops_well p halt e (goes b r) = stops_well p halt e r

@@ -3,7 +3,7 @@ ghost use Rattle.std.specs.Prelude.{◌≡◌, map, IfOk, IsErrOf};
 ghost use Rattle.z_asm.specs.declared.layout.AsmFault.TheVariants.{OutOfMemory};
 ghost use Rattle.z_asm.specs.Assembled.{IsAssembled};
 ghost use Rattle.z_asm.specs.Story.{story_of, IsTooLarge};
-ghost use Rattle.z_story.specs.Parts.{AreParts, code_of, image_of};
+ghost use Rattle.z_story.specs.Parts.{AreParts, routine_code, image_of};
 ghost use Rattle.z_story.specs.Does.{StoryDoes};
 
 use sqlite_items::Items;
@@ -20,7 +20,7 @@ pub struct Parts {
 }
 
 fn codes_of(alloc: Global, routines: &[Routine]) -> Result<Items<Code>, AllocError>
-    ensures { IfOk result (λ codes. codes ≡ map code_of routines.now) }
+    ensures { IfOk result (λ codes. codes ≡ map routine_code routines.now) }
 {
     let mut codes = Items::new(alloc);
     for routine in routines {

@@ -5,7 +5,7 @@ use Rattle.std.proofs.Math.Seq.{drop-append_seam}
 use Rattle.std.proofs.lemmas.Bool.{eqb-true, ne_eqb, lt-ltb, le-ltb, ltb-true}
 use Rattle.z_model.specs.declared.text.Alphabet.TheVariants.{Lower, Punctuation}
 use Rattle.z_model.specs.Decode.{text_end}
-use Rattle.z_model.specs.Text.{Codes, codes_of, read_character, z_characters, string_at, punctuation}
+use Rattle.z_model.specs.Text.{CodesRead, decoded_codes, read_character, z_characters, string_at, punctuation}
 use Rattle.z_text.specs.Encode.{code_characters, sign_characters, word_bytes, packed, is_empty, string_of, has_code, AreSmall, StringAgain}
 use Rattle.dg_base.specs.Typed.{place_of}
 use Rattle.dg_base.proofs.Places.{found_at, place_within}
@@ -99,27 +99,27 @@ filled_is (x ∷ y ∷ []) = record { count = 1; is = refl }
 filled_is (x ∷ y ∷ z ∷ []) = record { count = 0; is = refl }
 filled_is (x ∷ y ∷ z ∷ (u ∷ more)) = let f = filled_is (u ∷ more) in record { count = f.count; is = ap (λ (l : List ℕ). x ∷ y ∷ z ∷ l) f.is }
 
-no_codes_on : (n : ℕ) → codes_of Punctuation (fives n) ≡ record { codes = []; whole = true }
-unfolding codes_of read_character fives
+no_codes_on : (n : ℕ) → decoded_codes Punctuation (fives n) ≡ record { codes = []; whole = true }
+unfolding decoded_codes read_character fives
 no_codes_on zero = refl
 no_codes_on (suc n) = no_codes_on n
 
-no_codes : (n : ℕ) → codes_of Lower (fives n) ≡ record { codes = []; whole = true }
-unfolding codes_of read_character fives
+no_codes : (n : ℕ) → decoded_codes Lower (fives n) ≡ record { codes = []; whole = true }
+unfolding decoded_codes read_character fives
 no_codes zero = refl
 no_codes (suc n) = no_codes_on n
 
 -- ---- one code
 
-abbrev with_code : ℕ → Codes → Codes
+abbrev with_code : ℕ → CodesRead → CodesRead
 with_code c r = record { codes = c ∷ r.codes; whole = r.whole }
 
-space_read : (rest : List ℕ) → codes_of Lower (0 ∷ rest) ≡ with_code 32 (codes_of Lower rest)
-unfolding codes_of read_character
+space_read : (rest : List ℕ) → decoded_codes Lower (0 ∷ rest) ≡ with_code 32 (decoded_codes Lower rest)
+unfolding decoded_codes read_character
 space_read rest = refl
 
-newline_read : (rest : List ℕ) → codes_of Lower (5 ∷ 7 ∷ rest) ≡ with_code 13 (codes_of Lower rest)
-unfolding codes_of read_character
+newline_read : (rest : List ℕ) → decoded_codes Lower (5 ∷ 7 ∷ rest) ≡ with_code 13 (decoded_codes Lower rest)
+unfolding decoded_codes read_character
 newline_read rest = refl
 
 record IsLetter (z : ℕ) : Type 0 where
@@ -131,28 +131,28 @@ record IsLetter (z : ℕ) : Type 0 where
 is_letter : (z : ℕ) → 6 ≤ z → IsLetter z
 is_letter z h = record { zero_not = ne_eqb z 0 (λ e. absurd (omega arith)); above = le-ltb z 4 (omega arith); four_not = ne_eqb z 4 (λ e. absurd (omega arith)); five_not = ne_eqb z 5 (λ e. absurd (omega arith)) }
 
-lower_read : (c : ℕ) (rest : List ℕ) → 96 < c → c < 123 → codes_of Lower ((c - 91) ∷ rest) ≡ with_code c (codes_of Lower rest)
-unfolding codes_of read_character
+lower_read : (c : ℕ) (rest : List ℕ) → 96 < c → c < 123 → decoded_codes Lower ((c - 91) ∷ rest) ≡ with_code c (decoded_codes Lower rest)
+unfolding decoded_codes read_character
 lower_read c rest above below =
     let l = is_letter (c - 91) (omega arith) in
     let same : c - 91 + 91 ≡ c = omega arith in
     rw (l.zero_not, l.above, l.four_not, l.five_not, same) refl
 
-upper_read : (c : ℕ) (rest : List ℕ) → 64 < c → c < 91 → codes_of Lower (4 ∷ (c - 59) ∷ rest) ≡ with_code c (codes_of Lower rest)
-unfolding codes_of read_character
+upper_read : (c : ℕ) (rest : List ℕ) → 64 < c → c < 91 → decoded_codes Lower (4 ∷ (c - 59) ∷ rest) ≡ with_code c (decoded_codes Lower rest)
+unfolding decoded_codes read_character
 upper_read c rest above below =
     let l = is_letter (c - 59) (omega arith) in
     let same : c - 59 + 59 ≡ c = omega arith in
     rw (l.zero_not, l.above, l.four_not, l.five_not, same) refl
 
-wide_read : (c : ℕ) (rest : List ℕ) → codes_of Lower (5 ∷ 6 ∷ (c / 32) ∷ (c % 32) ∷ rest) ≡ with_code c (codes_of Lower rest)
-unfolding codes_of read_character
+wide_read : (c : ℕ) (rest : List ℕ) → decoded_codes Lower (5 ∷ 6 ∷ (c / 32) ∷ (c % 32) ∷ rest) ≡ with_code c (decoded_codes Lower rest)
+unfolding decoded_codes read_character
 wide_read c rest =
     let same : 32 * (c / 32) + c % 32 ≡ c = omega arith in
     rw same refl
 
-place_read : (c place : ℕ) (rest : List ℕ) → get_or punctuation place 0 ≡ c → codes_of Lower (5 ∷ (place + 8) ∷ rest) ≡ with_code c (codes_of Lower rest)
-unfolding codes_of read_character
+place_read : (c place : ℕ) (rest : List ℕ) → get_or punctuation place 0 ≡ c → decoded_codes Lower (5 ∷ (place + 8) ∷ rest) ≡ with_code c (decoded_codes Lower rest)
+unfolding decoded_codes read_character
 place_read c place rest at =
     let l = is_letter (place + 8) (omega arith) in
     let six_not : eqb (place + 8) 6 ≡ false = ne_eqb (place + 8) 6 (λ e. absurd (omega arith)) in
@@ -160,7 +160,7 @@ place_read c place rest at =
     let back : place + 8 - 8 ≡ place = omega arith in
     rw (l.zero_not, l.above, l.four_not, l.five_not, six_not, seven_not, back, at) refl
 
-sign_read : (c : ℕ) (o : Option ℕ) (rest : List ℕ) → place_of c punctuation ≡ o → codes_of Lower (sign_characters c o ++ rest) ≡ with_code c (codes_of Lower rest)
+sign_read : (c : ℕ) (o : Option ℕ) (rest : List ℕ) → place_of c punctuation ≡ o → decoded_codes Lower (sign_characters c o ++ rest) ≡ with_code c (decoded_codes Lower rest)
 sign_read c None rest e = wide_read c rest
 sign_read c (Some place) rest e =
     let found = found_at c punctuation 0 place e in
@@ -179,20 +179,20 @@ either : (a b : Bool) → (a || b) ≡ true → (a ≡ true) ⊎ (b ≡ true)
 either true b e = inl refl
 either false b e = inr e
 
-code_read : (c : ℕ) (rest : List ℕ) → codes_of Lower (code_characters c ++ rest) ≡ with_code c (codes_of Lower rest)
+code_read : (c : ℕ) (rest : List ℕ) → decoded_codes Lower (code_characters c ++ rest) ≡ with_code c (decoded_codes Lower rest)
 unfolding code_characters
 code_read c rest =
-    let P : List ℕ → Type 0 = λ l. codes_of Lower (l ++ rest) ≡ with_code c (codes_of Lower rest) in
-    tested P (eqb c 32) _ _ (λ e. subst (λ (k : ℕ). codes_of Lower (0 ∷ rest) ≡ with_code k (codes_of Lower rest)) (sym (eqb-true c 32 e)) (space_read rest))
-    (λ n. tested P (eqb c 13) _ _ (λ e. subst (λ (k : ℕ). codes_of Lower (5 ∷ 7 ∷ rest) ≡ with_code k (codes_of Lower rest)) (sym (eqb-true c 13 e)) (newline_read rest))
+    let P : List ℕ → Type 0 = λ l. decoded_codes Lower (l ++ rest) ≡ with_code c (decoded_codes Lower rest) in
+    tested P (eqb c 32) _ _ (λ e. subst (λ (k : ℕ). decoded_codes Lower (0 ∷ rest) ≡ with_code k (decoded_codes Lower rest)) (sym (eqb-true c 32 e)) (space_read rest))
+    (λ n. tested P (eqb c 13) _ _ (λ e. subst (λ (k : ℕ). decoded_codes Lower (5 ∷ 7 ∷ rest) ≡ with_code k (decoded_codes Lower rest)) (sym (eqb-true c 13 e)) (newline_read rest))
     (λ m. tested P (ltb 96 c && ltb c 123) _ _ (λ e. let p = both (ltb 96 c) (ltb c 123) e in lower_read c rest (ltb-true 96 c p.0) (ltb-true c 123 p.1))
     (λ k. tested P (ltb 64 c && ltb c 91) _ _ (λ e. let p = both (ltb 64 c) (ltb c 91) e in upper_read c rest (ltb-true 64 c p.0) (ltb-true c 91 p.1))
     (λ j. sign_read c (place_of c punctuation) rest refl))))
 
-codes_read : (codes rest : List ℕ) → codes_of Lower rest ≡ record { codes = []; whole = true } → codes_of Lower (flat_map code_characters codes ++ rest) ≡ record { codes = codes; whole = true }
+codes_read : (codes rest : List ℕ) → decoded_codes Lower rest ≡ record { codes = []; whole = true } → decoded_codes Lower (flat_map code_characters codes ++ rest) ≡ record { codes = codes; whole = true }
 codes_read [] rest e = e
 codes_read (c ∷ codes) rest e =
-    ap (λ (l : List ℕ). codes_of Lower l) (append_assoc (code_characters c) (flat_map code_characters codes) rest) ∙ code_read c (flat_map code_characters codes ++ rest) ∙ ap (λ (r : Codes). with_code c r) (codes_read codes rest e)
+    ap (λ (l : List ℕ). decoded_codes Lower l) (append_assoc (code_characters c) (flat_map code_characters codes) rest) ∙ code_read c (flat_map code_characters codes ++ rest) ∙ ap (λ (r : CodesRead). with_code c r) (codes_read codes rest e)
 
 -- ---- Z-characters have five bits
 
@@ -251,5 +251,5 @@ string_again codes front rest = record { again = λ coded. there coded }
         let zs : List ℕ = flat_map code_characters codes in
         let small = codes_small codes coded in
         let fill = filled_is (flat_map code_characters codes) in
-        let read : codes_of Lower (filled (flat_map code_characters codes)) ≡ record { codes = codes; whole = true } = ap (λ (l : List ℕ). codes_of Lower l) fill.is ∙ codes_read codes (fives fill.count) (no_codes fill.count) in
+        let read : decoded_codes Lower (filled (flat_map code_characters codes)) ≡ record { codes = codes; whole = true } = ap (λ (l : List ℕ). decoded_codes Lower l) fill.is ∙ codes_read codes (fives fill.count) (no_codes fill.count) in
         rw (drop-append_seam front (packed (flat_map code_characters codes) ++ rest), packed_characters (flat_map code_characters codes) rest small, packed_end (flat_map code_characters codes) rest (length front) small, read) refl

@@ -3,7 +3,7 @@ use Rattle.std.proofs.Common.{◌≡◌, ℕ, zero, suc, ◌+◌, ◌-◌, ◌/�
 use Rattle.std.specs.Prelude.{encode_utf8, ◌&&◌, ◌||◌, slice_index}
 use lib.Utf8.{encode}
 use Rattle.std.proofs.lemmas.Bool.{eqb-true, ne_eqb, lt-ltb, le-ltb, ltb-true, ltb-false, cases_lt}
-use Rattle.z_model.specs.Zscii.{code_bytes}
+use Rattle.z_model.specs.Zscii.{code_utf8}
 use Rattle.dg_base.specs.Typed.{extra}
 use Rattle.z_text.specs.Encode.{has_code}
 use Rattle.dg_base.specs.Typed.{place_of, place_from}
@@ -70,20 +70,20 @@ wide_encoded : (c : ℕ) → 128 ≤ c → c < 2048 → encode_utf8 c ≡ (192 +
 unfolding encode
 wide_encoded c le lt = rw (le-ltb c 128 le, lt-ltb c 2048 lt) refl
 
-newline_read : (rest : List ℕ) → codes_from None (code_bytes 13 ++ rest) ≡ 13 ∷ codes_from None rest
-unfolding code_bytes encode codes_from
+newline_read : (rest : List ℕ) → codes_from None (code_utf8 13 ++ rest) ≡ 13 ∷ codes_from None rest
+unfolding code_utf8 encode codes_from
 newline_read rest = refl
 
-plain_read : (c : ℕ) (rest : List ℕ) → 31 < c → c < 127 → codes_from None (code_bytes c ++ rest) ≡ c ∷ codes_from None rest
-unfolding code_bytes
+plain_read : (c : ℕ) (rest : List ℕ) → 31 < c → c < 127 → codes_from None (code_utf8 c ++ rest) ≡ c ∷ codes_from None rest
+unfolding code_utf8
 plain_read c rest above below =
     let not_zero : eqb c 0 ≡ false = ne_eqb c 0 (λ e. absurd (omega arith)) in
     let not_line : eqb c 13 ≡ false = ne_eqb c 13 (λ e. absurd (omega arith)) in
     let same : ascii_code c ≡ c = (rw (ne_eqb c 10 (λ e. absurd (omega arith))) refl) in
     rw (not_zero, not_line, lt-ltb c 127 below, ascii_encoded c (omega arith)) (ascii_read c rest (omega arith) ∙ ap (λ (x : ℕ). x ∷ codes_from None rest) same)
 
-extra_read : (c : ℕ) (rest : List ℕ) → 154 < c → c < 224 → codes_from None (code_bytes c ++ rest) ≡ c ∷ codes_from None rest
-unfolding code_bytes
+extra_read : (c : ℕ) (rest : List ℕ) → 154 < c → c < 224 → codes_from None (code_utf8 c ++ rest) ≡ c ∷ codes_from None rest
+unfolding code_utf8
 extra_read c rest above below =
     let wide = wide_at (c - 155) (omega arith) in
     let not_zero : eqb c 0 ≡ false = ne_eqb c 0 (λ e. absurd (omega arith)) in
@@ -104,7 +104,7 @@ either : (a b : Bool) → (a || b) ≡ true → (a ≡ true) ⊎ (b ≡ true)
 either true b e = inl refl
 either false b e = inr e
 
-pub coded_read : (c : ℕ) (rest : List ℕ) → IsTrue (has_code c) → codes_from None (code_bytes c ++ rest) ≡ c ∷ codes_from None rest
+pub coded_read : (c : ℕ) (rest : List ℕ) → IsTrue (has_code c) → codes_from None (code_utf8 c ++ rest) ≡ c ∷ codes_from None rest
 coded_read c rest h =
     elim (either (eqb c 13) ((ltb 31 c && ltb c 127) || (ltb 154 c && ltb c 224)) h) [
       | inl e ↦ rw (eqb-true c 13 e) (newline_read rest)
@@ -120,6 +120,6 @@ none_read : codes_from None [] ≡ []
 unfolding codes_from
 none_read = refl
 
-pub text_codes : (codes : List ℕ) → All (λ code. IsTrue (has_code code)) codes → codes_from None (flat_map code_bytes codes) ≡ codes
+pub text_codes : (codes : List ℕ) → All (λ code. IsTrue (has_code code)) codes → codes_from None (flat_map code_utf8 codes) ≡ codes
 text_codes [] h = none_read
-text_codes (c ∷ codes) h = coded_read c (flat_map code_bytes codes) (h 0 0 (omega arith)) ∙ ap (λ (cs : List ℕ). c ∷ cs) (text_codes codes (λ k d lt. h (suc k) d (omega arith)))
+text_codes (c ∷ codes) h = coded_read c (flat_map code_utf8 codes) (h 0 0 (omega arith)) ∙ ap (λ (cs : List ℕ). c ∷ cs) (text_codes codes (λ k d lt. h (suc k) d (omega arith)))

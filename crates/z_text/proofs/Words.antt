@@ -6,7 +6,7 @@ use Rattle.z_model.specs.declared.text.Alphabet.{Alphabet}
 use Rattle.z_model.specs.declared.text.Alphabet.TheVariants.{Lower}
 use Rattle.z_model.specs.declared.text.Reading.TheVariants.{Gives, Turns, Refuses}
 use Rattle.z_model.specs.Decode.{text_end}
-use Rattle.z_model.specs.Text.{codes_of, read_character, z_characters}
+use Rattle.z_model.specs.Text.{decoded_codes, read_character, z_characters}
 use Rattle.z_text.specs.declared.walker.Pending.TheVariants.{Nothing, Two}
 use Rattle.z_text.specs.declared.walker.Walker.{Walker}
 use Rattle.z_text.specs.Walk.{rest_of, characters_left, end_left, IsBehind}
@@ -56,18 +56,18 @@ word_behind w bytes pending last h high low e f = record {
 -- ---- codes
 
 pub none_left : (w : Walker) (bytes : List ℕ) (end : Option ℕ) → characters_left w bytes ≡ [] → end_left w bytes ≡ end → rest_of w bytes ≡ record { codes = []; end = end }
-unfolding codes_of
+unfolding decoded_codes
 none_left w bytes end none is = rw (none, is) refl
 
 module _ (z : ℕ) (here next : Walker) (bytes : List ℕ) (b : IsBehind z here next bytes) where
   pub refused : read_character here.alphabet z ≡ Refuses → rest_of here bytes ≡ record { codes = []; end = None }
-  unfolding codes_of
+  unfolding decoded_codes
   refused is = rw (b.characters, is) refl
 
   pub turns : (alphabet : Alphabet) → read_character here.alphabet z ≡ Turns alphabet → rest_of here bytes ≡ rest_of (record next { alphabet = alphabet }) bytes
-  unfolding codes_of
+  unfolding decoded_codes
   turns alphabet is = rw (b.characters, is, sym b.end) refl
 
   pub gives : (code : ℕ) → read_character here.alphabet z ≡ Gives code → rest_of here bytes ≡ record { codes = code ∷ (rest_of (record next { alphabet = Lower }) bytes).codes; end = (rest_of (record next { alphabet = Lower }) bytes).end }
-  unfolding codes_of
+  unfolding decoded_codes
   gives code is = rw (b.characters, is, sym b.end) refl

@@ -1,6 +1,6 @@
 -- How a text is written as a string (Z-Machine Standard 1.1, sections 3.2 to 3.6, read from the text to its bytes).
 use Rattle.std.specs.Prelude.{◌≡◌, ◌<◌, ◌+◌, ◌-◌, ◌*◌, ◌/◌, ◌%◌, ℕ, List, [], ◌∷◌, ◌++◌, length, flat_map, All, Option, Some, None, Bool, true, false, ◌==◌, ◌&&◌, ◌||◌, nat_lt, IsTrue, if◌then◌else◌}
-use Rattle.z_model.specs.Zscii.{code_bytes}
+use Rattle.z_model.specs.Zscii.{code_utf8}
 use Rattle.dg_base.specs.Typed.{place_of}
 use Rattle.z_model.specs.Text.{punctuation, string_at}
 
@@ -48,7 +48,7 @@ has_code code = (code == 13) || ((nat_lt 31 code && nat_lt code 127) || (nat_lt 
 -- A text is what these codes print.
 pub record IsTextOf (codes text : List ℕ) : Type 0 where
   pub coded : All (λ code. IsTrue (has_code code)) codes
-  pub printed : text ≡ flat_map code_bytes codes
+  pub printed : text ≡ flat_map code_utf8 codes
 
 -- A text that some codes print.
 pub record IsPrintable (text : List ℕ) : Type 0 where

@@ -3,7 +3,7 @@ use Rattle.std.specs.Prelude.{◌≡◌, ℕ, List, [], ◌∷◌, ◌++◌, dro
 use Rattle.z_model.specs.declared.fault.ZFault.{ZFault}
 use Rattle.z_model.specs.declared.fault.ZFault.TheVariants.{BadString}
 use Rattle.z_model.specs.Decode.{text_end}
-use Rattle.z_model.specs.Text.{Text, text_of, codes_of, z_characters}
+use Rattle.z_model.specs.Text.{Text, text_read, decoded_codes, z_characters}
 use Rattle.z_text.specs.declared.walker.Pending.{Pending}
 use Rattle.z_text.specs.declared.walker.Pending.TheVariants.{Nothing, One, Two}
 use Rattle.z_text.specs.declared.walker.Walker.{Walker}
@@ -23,7 +23,7 @@ end_left w bytes = if w.last then Some w.at else text_end (drop w.at bytes) w.at
 
 -- the codes that are left, and the string's end
 abbrev pub rest_of : Walker → List ℕ → Text
-rest_of w bytes = text_of (codes_of w.alphabet (characters_left w bytes)) (end_left w bytes)
+rest_of w bytes = text_read (decoded_codes w.alphabet (characters_left w bytes)) (end_left w bytes)
 
 -- The second is behind the first by one Z-character.
 pub record IsBehind (z : ℕ) (here next : Walker) (bytes : List ℕ) : Type 0 where

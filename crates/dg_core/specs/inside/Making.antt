@@ -12,8 +12,8 @@ use Rattle.dg_base.specs.declared.program.Term.{Term}
 use Rattle.dg_base.specs.declared.program.Term.TheVariants as term
 use Rattle.dg_base.specs.declared.tree.Body.{Body}
 use Rattle.dg_base.specs.declared.tree.Value.{Value}
-use Rattle.dg_core.specs.Bodies.{Closed, no_closure, join, direct, in_value, in_values, in_stmt, in_stmts, in_branches, in_arms}
-use Rattle.dg_core.specs.Goals.{Scope, at, past, number_in, term_of, listed, selects, unit, stmt_goals, goals_of, lists, arm_goals}
+use Rattle.dg_core.specs.Bodies.{Closed, no_closure, joined_closures, direct, in_value, in_values, in_stmt, in_stmts, in_branches, in_arms}
+use Rattle.dg_core.specs.Goals.{Scope, at, past, number_in, term_of, listed, count_selects, unit, stmt_goals, goals_of, lists, arm_goals}
 use Rattle.dg_core.specs.declared.terms.TermWork.{TermWork}
 use Rattle.dg_core.specs.declared.terms.TermWork.TheVariants as work
 use Rattle.dg_core.specs.declared.goals.Close.{Close}
@@ -61,7 +61,7 @@ abbrev pub term_behind : Scope → TermWork → Terms → Terms
 term_behind scope (work.Value v) m = with_term (in_value (value_view v.now)) (term_of (at scope (length m.found)) (value_view v.now)) m
 term_behind scope (work.Values vs tail) m =
     let all = values_of (map value_view vs.now) in
-    with_term (join (in_values all) (in_tail tail.now)) (listed_tail (at scope (length m.found)) all tail.now) m
+    with_term (joined_closures (in_values all) (in_tail tail.now)) (listed_tail (at scope (length m.found)) all tail.now) m
 term_behind scope work.Pair m = record m { terms = paired m.terms }
 
 -- What is made behind all that is left, the last of it being looked at first.
@@ -172,7 +172,7 @@ otherwise scope n (Some b) = unit (lists scope n (body_view b))
 
 abbrev pub selects_otherwise : Option Body → ℕ
 selects_otherwise None = 0
-selects_otherwise (Some b) = selects (of_body false (body_view b))
+selects_otherwise (Some b) = count_selects (of_body false (body_view b))
 
 abbrev pub in_other : Option Body → Closed
 in_other None = no_closure
@@ -180,29 +180,29 @@ in_other (Some b) = in_branches (body_view b)
 
 -- What is made behind a body.
 abbrev pub body_behind : Scope → tree.Body → Made → Made
-body_behind scope b m = with_goals (unit (lists (here scope m) m.sites b)) (selects (of_body false b)) (in_branches b) m
+body_behind scope b m = with_goals (unit (lists (here scope m) m.sites b)) (count_selects (of_body false b)) (in_branches b) m
 
 -- What is made behind one part of what is left.
 abbrev pub goal_behind : Scope → GoalWork → Made → Made
-goal_behind scope (left.Stmt s) m = let x = stmt_view s.now in with_goals (stmt_goals (here scope m) m.sites x) (selects (of_stmt false x)) (in_stmt x) m
+goal_behind scope (left.Stmt s) m = let x = stmt_view s.now in with_goals (stmt_goals (here scope m) m.sites x) (count_selects (of_stmt false x)) (in_stmt x) m
 goal_behind scope (left.Stmts ss) m =
     let all = stmts_of (map stmt_view ss.now) in
-    with_goals (goals_of (here scope m) m.sites all) (selects (of_stmts false all)) (in_stmts all) m
+    with_goals (goals_of (here scope m) m.sites all) (count_selects (of_stmts false all)) (in_stmts all) m
 goal_behind scope (left.Body b) m = body_behind scope (body_view b.now) m
 goal_behind scope (left.Branches bs) m =
     let all = branches_view (map (map stmt_view) bs.now) in
     record m {
       lists = with_more (lists (here scope m) m.sites all) m.lists;
-      sites = m.sites + selects (of_branches false all);
+      sites = m.sites + count_selects (of_branches false all);
       found = m.found ++ direct (in_branches all);
     }
 goal_behind scope (left.Arms arms other) m =
     let all = arms_of (map arm_view arms.now) in
-    let behind = m.sites + selects (of_arms false all) in
+    let behind = m.sites + count_selects (of_arms false all) in
     record m {
       goals = with_more (arm_goals (here scope m) m.sites all (otherwise (past (here scope m) (in_arms all)) behind other.now)) m.goals;
       sites = behind + selects_otherwise other.now;
-      found = m.found ++ direct (join (in_arms all) (in_other other.now));
+      found = m.found ++ direct (joined_closures (in_arms all) (in_other other.now));
     }
 goal_behind scope left.Begin m = record m { goals = [] ∷ m.goals }
 goal_behind scope left.BeginLists m = record m { lists = [] ∷ m.lists }

@@ -12,7 +12,7 @@ use Rattle.dg_base.specs.declared.program.Goal.{Goal}
 use Rattle.dg_base.specs.declared.program.Pred.{Pred}
 use Rattle.dg_base.specs.declared.program.Rule.{Rule}
 use Rattle.dg_names.specs.State.{names_view, listed, seen}
-use Rattle.dg_core.specs.Core.{Before, rules_in, rules_from}
+use Rattle.dg_core.specs.Core.{Before, rules_of_item, rules_from}
 use Rattle.dg_base.specs.declared.program.Term.{Term}
 use Rattle.dg_core.specs.Bodies.{direct, in_value, in_parts}
 use Rattle.dg_core.specs.Goals as spec
@@ -82,7 +82,7 @@ rule_in scope n ps b behind = record {
 
 -- A predicate to which an item gives its rule.
 abbrev pub with_rules_in : spec.Scope → Before → Said → Pred → Pred
-with_rules_in around n said pred = record pred { rules = pred.rules ++ rules_in around n pred.name said }
+with_rules_in around n said pred = record pred { rules = pred.rules ++ rules_of_item around n pred.name said }
 
 -- A predicate with one rule more where its name is this one.
 abbrev pub with_rule : List ℕ → Rule → Pred → Pred

@@ -8,8 +8,8 @@ use Rattle.dg_closures.specs.Closures.{Layout, variables_in}
 use Rattle.dg_closures.specs.inside.View.{layout_view}
 use Rattle.dg_core.specs.Bodies.{in_branches}
 use Rattle.dg_core.specs.Core.{rows_in, closures_of}
-use Rattle.dg_core.specs.Goals.{Scope, selects}
-use Rattle.dg_core.specs.Rows.{size, selects_within, layout_at, Home, row_with, captured_in, rows, in_rule, rows_of}
+use Rattle.dg_core.specs.Goals.{Scope, count_selects}
+use Rattle.dg_core.specs.Rows.{size, selects_within, layout_at, Home, row_with, captured_in, rows, closures_in_rule, closure_rows}
 use Rattle.dg_core.specs.inside.View.{scope_view}
 use Rattle.dg_core.specs.declared.rows.Home.{Home as CodeHome}
 use Rattle.dg_core.specs.declared.rows.Waiting.{Waiting as CodeWaiting}
@@ -36,7 +36,7 @@ pending home n [] = []
 pending home n (w ∷ ws) =
     let l = layout_at home.layouts w.place in
     let inner = in_branches w.body in
-    let m = n + selects (of_body false w.body) in
+    let m = n + count_selects (of_body false w.body) in
     row_with home w.captured n l w.body ∷
     (rows home (variables_in l) l.places 0 m inner ++ pending home (m + selects_within inner) ws)
 
@@ -47,7 +47,7 @@ left_of (w ∷ ws) = size (in_branches w.body) + 1 + left_of ws
 
 abbrev pub selects_left : List Waiting → ℕ
 selects_left [] = 0
-selects_left (w ∷ ws) = selects (of_body false w.body) + selects_within (in_branches w.body) + selects_left ws
+selects_left (w ∷ ws) = count_selects (of_body false w.body) + selects_within (in_branches w.body) + selects_left ws
 
 -- ---- as the code holds them
 
@@ -87,8 +87,8 @@ selects_kept (k ∷ ks) = selects_left (stack_of k.left) + selects_kept ks
 
 -- The closures of a rule wait, so many standing in the items before.
 pub record Waits (around : Scope) (first : ℕ) (ps : Parts) (b : Body) (kept : Kept) : Type 0 where
-  pub rows : (n : ℕ) → pending (home_of around kept) n (stack_of kept.left) ≡ rows_of around first n ps b
-  pub selects : selects_left (stack_of kept.left) ≡ selects_within (in_rule ps b)
+  pub rows : (n : ℕ) → pending (home_of around kept) n (stack_of kept.left) ≡ closure_rows around first n ps b
+  pub selects : selects_left (stack_of kept.left) ≡ selects_within (closures_in_rule ps b)
 
 -- The rules whose closures wait, with that of an item, before which so many closures stand.
 pub record Keeps (around : Scope) (first : ℕ) (said : Said) (old new : List Kept) : Type 0 where

@@ -15,7 +15,7 @@ use Rattle.dg_access.specs.declared.work.Close.TheVariants as close
 use Rattle.dg_access.specs.declared.work.Wrap.{Wrap}
 use Rattle.dg_access.specs.declared.work.Wrap.TheVariants as wrap
 use Rattle.dg_access.specs.declared.built.Built.{Built as CodeBuilt}
-use Rattle.dg_expand.specs.Put.{Access, Place, Level, level, given_by, moved_from, in_item, within, in_closure, in_copy, parameter_of, one_change, put_value, put_values, put_parts, put_stmt, put_stmts, put_body, put_arms, put_changes, changes_in}
+use Rattle.dg_expand.specs.Put.{Access, Spot, Level, level, given_by, moved_from, in_item, within, in_closure, in_copy, parameter_of, one_change, put_value, put_values, put_parts, put_stmt, put_stmts, put_body, put_arms, put_changes, changes_in}
 use Rattle.dg_expand.specs.declared.place.Access.{Access as CodeAccess}
 use Rattle.dg_expand.specs.declared.place.Outer.{Outer, fold-Outer}
 use Rattle.dg_expand.specs.declared.place.Outer.TheOpen.{Outer-F, Place-F}
@@ -32,7 +32,7 @@ access_view r = record { name = r.name.now; head = parts_of (map part_view r.hea
 -- Where something stands, and what can be put in there.
 pub record Around : Type 0 where
   pub at : Level
-  pub place : Place
+  pub place : Spot
 
 -- The arguments that were given by the place outside.
 abbrev pub given_from : Option Around → List CodePart → List CodePart → List (List ℕ × (ℕ → Value × ℕ))

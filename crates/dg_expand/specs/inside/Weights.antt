@@ -5,7 +5,7 @@ use Rattle.dg_base.specs.Tree as tree
 use Rattle.dg_base.specs.Tree.{Part, Parts, Value, Stmt, Stmts, Body, Changes, Item}
 use Rattle.dg_base.specs.Mentions.{Thing, Mentions, things, weight_of, of_value, of_parts, of_stmt, of_stmts, of_branches, of_changes}
 use Rattle.dg_access.specs.Building.{Built, list_of_changes}
-use Rattle.dg_access.specs.Counts.{nodes_at, queries_at, are_large, are_many}
+use Rattle.dg_access.specs.Counts.{nodes_at, queries_at, are_large, are_over}
 use Rattle.dg_access.specs.declared.work.Close.{Close}
 use Rattle.dg_access.specs.declared.work.Close.TheVariants as close
 
@@ -78,4 +78,4 @@ gain k = 1
 
 -- These items are refused as too many, whatever came before them.
 abbrev pub IsOver : List Item → Type 0
-IsOver is = (before : List Item) → (are_large is || are_many (before ++ is)) ≡ true
+IsOver is = (before : List Item) → (are_large is || are_over (before ++ is)) ≡ true

@@ -1,7 +1,7 @@
 -- Reading token by token, with no token looked at ahead: what stands open, the innermost first. The proofs alone rest on it.
 use Rattle.std.specs.Prelude.{◌&&◌, ℕ, List, [], ◌∷◌, ◌++◌, Bool, true, false, not, Option, Some, None, option_and_then, if◌then◌else◌}
 use Rattle.dg_base.specs.Tree.{Part, part_word, part_value, Parts, no_parts, part, Value, num, dict_word, object_name, current_topic, anonymous, variable, plain_list, tailed_list, closure, nested, word_choice, Stmt, text, print, ask, ask_all, ask_not, group, not_group, now, choice, choice_else, exhaust, stoppable, collect, accumulate, select, Stmts, Body, parts_of, values_of, stmts_of, branches_of, arms_of, changes_of}
-use Rattle.dg_reader.specs.Tokens.{Tok, word, dict, object, var, anon, at, hash, open_round, close_round, open_square, close_square, open_brace, close_brace, bar, star, tilde, are_digits, number_of, word_parts, are_several}
+use Rattle.dg_reader.specs.Tokens.{Tok, word, dict, object, var, anon, at, hash, open_round, close_round, open_square, close_square, open_brace, close_brace, bar, star, tilde, are_digits, digits_number, word_parts, are_several}
 use Rattle.dg_reader.specs.Grammar.{now_word, if_word, then_word, elseif_word, else_word, endif_word, or_word, exhaust_word, stoppable_word, select_word, end_word, Keyword, bare, collect_word, accumulate_word, into_word, keyword_of, is_declaration, Sign, plain_rule, negated, access_rule, Shape, topic_line, clause}
 
 -- What asks: a query for one answer, for all answers, or for none.
@@ -117,7 +117,7 @@ put_number (Some n) below = put_value (num n) below
 
 -- A word among parts.
 abbrev pub word_part : List ℕ → Stack → Option Stack
-word_part w below = if are_digits w then put_number (number_of w) below else put_part (part_word w) below
+word_part w below = if are_digits w then put_number (digits_number w) below else put_part (part_word w) below
 
 -- A word of a list is itself, or where choices may stand and it is one, a choice.
 abbrev pub element_of : Bool → List ℕ → Value
@@ -125,11 +125,11 @@ element_of choices w = if choices && are_several (word_parts w) then word_choice
 
 -- A word among the elements of a list.
 abbrev pub word_element : Bool → List ℕ → Stack → Option Stack
-word_element choices w below = if are_digits w then put_number (number_of w) below else put_element (element_of choices w) below
+word_element choices w below = if are_digits w then put_number (digits_number w) below else put_element (element_of choices w) below
 
 -- A word where only a value may stand.
 abbrev pub word_value : List ℕ → Stack → Option Stack
-word_value w below = if are_digits w then put_number (number_of w) below else None
+word_value w below = if are_digits w then put_number (digits_number w) below else None
 
 -- A word, by where it stands.
 abbrev pub put_word : List ℕ → Stack → Option Stack

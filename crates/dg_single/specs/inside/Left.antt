@@ -4,7 +4,7 @@ use Rattle.std.specs.Borrow.{Bor}
 use Rattle.dg_base.specs.declared.program.Goal.{Goal, If', Select', Row_of-Goal, end_of-Goal, more_of-Goal, Row_of-Goal-Either-0-1, end_of-Goal-Either-0-1, more_of-Goal-Either-0-1}
 use Rattle.dg_base.specs.declared.program.Goal.TheOpen.{Goal-F, If, Select}
 use Rattle.dg_base.specs.declared.program.Rule.{Rule}
-use Rattle.dg_single.specs.Plain.{is_in, are_plain, rules_fit}
+use Rattle.dg_single.specs.Plain.{is_in_set, are_plain, rules_fit}
 
 -- Each of some lists is plain.
 abbrev pub all_plain : List Bool → List (List Goal) → Bool
@@ -60,8 +60,8 @@ left_weight (goals ∷ left) = body_weight goals.now + left_weight left
 
 -- A predicate with these rules was taken out of a set, where they don't fit it; or else it stays.
 abbrev pub Sifted : List Bool → ℕ → List Rule → List Bool → Bool → Type 0
-Sifted old p rules new true = (is_in old p ≡ true) × (rules_fit old rules ≡ false) × (new ≡ slice_set old p false)
-Sifted old p rules new false = (new ≡ old) × (is_in old p ≡ true → rules_fit old rules ≡ true)
+Sifted old p rules new true = (is_in_set old p ≡ true) × (rules_fit old rules ≡ false) × (new ≡ slice_set old p false)
+Sifted old p rules new false = (new ≡ old) × (is_in_set old p ≡ true → rules_fit old rules ≡ true)
 
 -- How many predicates a set has.
 abbrev pub one_if : Bool → ℕ

@@ -18,7 +18,7 @@ command_view (Build name to) = spec.build name.now to.now
 command_view (Singles name) = spec.singles name.now
 command_view (Make n) = spec.make n
 
-abbrev pub values_view : Values → spec.Values
+abbrev pub values_view : Values → spec.OptionWords
 values_view g = record {
   steps = option_map (λ w. w.now) g.steps;
   heap = option_map (λ w. w.now) g.heap;

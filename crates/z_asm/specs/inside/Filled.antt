@@ -1,7 +1,7 @@
 -- Instructions that are ready to be written: with their names filled in they are of the table.
 use Rattle.std.specs.Prelude.{◌≡◌, ℕ, ◌+◌, ◌<◌, ◌≤◌, List, [], ◌∷◌, length, Option}
 use Rattle.z_model.specs.declared.op.Op.{Op}
-use Rattle.z_model.specs.Table.{rows_of}
+use Rattle.z_model.specs.Table.{player_rows}
 use Rattle.z_model.specs.Spelling.{spelling, IsOfTable}
 use Rattle.z_code.specs.declared.target.LOp.{LOp}
 use Rattle.z_code.specs.declared.target.LOp.TheVariants as lops
@@ -18,7 +18,7 @@ pub record AreWords (names : Names) : Type 0 where
 
 -- An instruction that is filled in is one of the table, as long as before, and leads near.
 pub record FillsIn (names : Names) (labels : ℕ → ℕ) (at : ℕ) (op : Op) (ts : List (Option Target)) (branch : Option ℕ) : Type 0 where
-  pub table : IsOfTable rows_of (filled names labels (at + length (spelling op)) op ts branch)
+  pub table : IsOfTable player_rows (filled names labels (at + length (spelling op)) op ts branch)
   pub text : op.text ≡ 0
   pub target : NearTarget labels (at + length (spelling op)) (nth ts 0)
   pub near : NearLabel labels (at + length (spelling op)) branch

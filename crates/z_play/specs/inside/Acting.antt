@@ -6,7 +6,7 @@ use Rattle.z_model.specs.declared.end.Halt.{Halt}
 use Rattle.z_model.specs.declared.end.Halt.TheVariants.{AtQuit, AtInput, AtFault}
 use Rattle.z_model.specs.declared.end.Effect.{Effect}
 use Rattle.z_model.specs.declared.end.Effect.TheVariants.{Goes, PrintsCode, PrintsUnicode, PrintsNumber, PrintsText, PrintsLine, Draws, Reads, ReadsKey, Quits}
-use Rattle.z_model.specs.Zscii.{code_bytes}
+use Rattle.z_model.specs.Zscii.{code_utf8}
 use Rattle.z_model.specs.Text.{string_at, text_bytes}
 use Rattle.z_model.specs.Numbers.{signed_16}
 use Rattle.z_model.specs.Machine.{Machine}
@@ -17,7 +17,7 @@ use Rattle.std.specs.Prelude.{◌≤◌, length}
 -- what an effect prints
 abbrev pub text_of : Effect → Machine → List ℕ
 text_of Goes m = []
-text_of (PrintsCode c) m = code_bytes c
+text_of (PrintsCode c) m = code_utf8 c
 text_of (PrintsUnicode c) m = encode_utf8 c
 text_of (PrintsNumber x) m = signed_decimal (signed_16 x)
 text_of (PrintsText at) m = text_bytes (string_at m.memory at)

@@ -8,7 +8,7 @@ use Rattle.z_model.specs.declared.op.Found.{Found}
 use Rattle.z_model.specs.declared.end.OpenTable.{OpenTable}
 use Rattle.z_model.specs.Decode.{◌>>=◌}
 use Rattle.z_model.specs.Step.{do_instr}
-use Rattle.z_model.specs.Machine.{Machine, stored_if, values_of}
+use Rattle.z_model.specs.Machine.{Machine, stored_if, operand_values}
 use Rattle.z_model.specs.Memory.{is_writable, have_right}
 use Rattle.z_model.specs.Flow.{returned}
 use Rattle.z_model.specs.Zscii.{is_character}
@@ -31,7 +31,7 @@ CanFinish Quits layout m = Unit {0}
 
 -- What an instruction that was found does: its operands are taken, and then it is done.
 abbrev pub acted : Layout → ℕ → Machine → Found → Result (Effect × Machine) ZFault
-acted layout word m found = values_of layout m found.op.operands >>= λ a. do_instr layout word found.row.instr found.op found.end a.0 a.1
+acted layout word m found = operand_values layout m found.op.operands >>= λ a. do_instr layout word found.row.instr found.op found.end a.0 a.1
 
 -- what the table gives, where a function answers with an effect and leaves the machine
 abbrev pub GivesEffect : Result Effect ZFault → Layout → Machine → Result (Effect × Machine) ZFault → Type 0

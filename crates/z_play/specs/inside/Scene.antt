@@ -3,7 +3,7 @@ use Rattle.std.specs.Prelude.{◌≡◌, ◌<◌, ◌≤◌, ℕ, List, [], ◌+
 use Rattle.z_model.specs.declared.end.Halt.{Halt}
 use Rattle.z_model.specs.declared.end.Halt.TheVariants.{AtQuit, AtInput, AtFault}
 use Rattle.z_model.specs.declared.story.Layout.{Layout}
-use Rattle.z_model.specs.Table.{rows_of}
+use Rattle.z_model.specs.Table.{player_rows}
 use Rattle.z_model.specs.Machine.{Machine}
 use Rattle.z_model.specs.Run.{ZGiven, ZState, Next, On, Ended}
 use Rattle.z_model.specs.Closing.{is_open}
@@ -22,7 +22,7 @@ scene m drawn begun left seen = record { machine = m; drawn = drawn; begun = beg
 
 -- the player's table, with a layout and dice words
 abbrev pub given_by : Layout → List ℕ → ZGiven
-given_by layout dice = record { rows = rows_of; layout = layout; dice = dice }
+given_by layout dice = record { rows = player_rows; layout = layout; dice = dice }
 
 abbrev pub state : Machine → List ℕ → ℕ → List ℕ → ZState
 state m typed drawn output = record { machine = m; typed = typed; drawn = drawn; output = output }

@@ -5,4 +5,4 @@ use Rattle.dg_core.specs.inside.View.{places_view}
 use Rattle.dg_core.proofs.facts.first_bad.Given as goal
 
 abbrev pub invariant-loop-item : goal.invariant-loop-item
-invariant-loop-item l = spec.first_bad (places_view l.places) l.before.items (map item_view (drop l.item-index l.items)) ≡ spec.first_bad (places_view l.places) [] (map item_view l.items)
+invariant-loop-item l = spec.first_bad_start (places_view l.places) l.before.items (map item_view (drop l.item-index l.items)) ≡ spec.first_bad_start (places_view l.places) [] (map item_view l.items)

@@ -6,4 +6,4 @@ use Rattle.dg_core.specs.inside.View.{values_view}
 use Rattle.dg_core.proofs.facts.values_in.Given as goal
 
 abbrev pub invariant-loop-part : goal.invariant-loop-part
-invariant-loop-part l = values_view l.values.items ++ spec.values_in (parts_of (map part_view (drop l.part-index l.parts))) ≡ spec.values_in (parts_of (map part_view l.parts))
+invariant-loop-part l = values_view l.values.items ++ spec.head_values (parts_of (map part_view (drop l.part-index l.parts))) ≡ spec.head_values (parts_of (map part_view l.parts))

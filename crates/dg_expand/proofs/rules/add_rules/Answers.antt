@@ -6,7 +6,7 @@ use Rattle.dg_base.specs.TreeView.{body_view, change_view, head_view, item_view}
 use Rattle.dg_base.specs.declared.tree.Body.{Body}
 use Rattle.dg_base.specs.declared.tree.Item.{Item}
 use Rattle.dg_base.specs.declared.tree.NowChange.{NowChange}
-use Rattle.dg_expand.specs.Expanded.{signed, rules_of, on_line}
+use Rattle.dg_expand.specs.Expanded.{signed_rule, head_rules, on_line}
 use Rattle.dg_expand.specs.Put.{put_body}
 use Rattle.dg_expand.specs.inside.Putting.{around}
 use Rattle.dg_expand.specs.inside.Weights.{body_load}
@@ -21,7 +21,7 @@ returns-in-None-clause-added c =
     let b = (put_body a.at a.place c.args.heads.number (body_view c.args.body.now)).0 in
     let out = map item_view c.loop-turn.out.items in
     λ done. sym (append-nil out)
-    ∙ ap (λ (hs : List NowChange). out ++ on_line c.args.line (rules_of (changes_of (map change_view hs)) b)) (sym (c.in-None.ensures.none refl))
+    ∙ ap (λ (hs : List NowChange). out ++ on_line c.args.line (head_rules (changes_of (map change_view hs)) b)) (sym (c.in-None.ensures.none refl))
     ∙ c.loop-turn.invariant.added
 
 pub returns-then-count-gt-RULES-clause-large : goal.returns-then-count-gt-RULES-clause-large
@@ -44,14 +44,14 @@ pub loop-turn-preserved : goal.loop-turn-preserved
 loop-turn-preserved c =
     let a = around c.args.uses c.args.at.now in
     let b = (put_body a.at a.place c.args.heads.number (body_view c.args.body.now)).0 in
-    let others = on_line c.args.line (rules_of (changes_of (map change_view c.take_first.new.heads.items)) b) in
+    let others = on_line c.args.line (head_rules (changes_of (map change_view c.take_first.new.heads.items)) b) in
     let head = c.in-Some.head in
     let body = some_holds (λ (x : Body). body_view x ≡ b) c.in_ok-body-in-Some.field-0 c.in-Some-2.body c.in-Some-2.is c.in_ok-body-in-Some.ensures.body in
     record {
       added =
           ap (λ (l : List Item). map item_view l ++ others) c.in_ok-push-in-Some-2.ensures.items
-          ∙ one_rule c.loop-turn.out.items _ head c.take_first.new.heads.items c.args.line b (ap (λ (s : tree.Said). record { line = c.args.line; said = s }) (c.signed.ensures ∙ ap (signed head.set (head_view head.head)) body))
-          ∙ ap (λ (hs : List NowChange). map item_view c.loop-turn.out.items ++ on_line c.args.line (rules_of (changes_of (map change_view hs)) b)) (sym c.in-Some.ensures.first)
+          ∙ one_rule c.loop-turn.out.items _ head c.take_first.new.heads.items c.args.line b (ap (λ (s : tree.Said). record { line = c.args.line; said = s }) (c.signed.ensures ∙ ap (signed_rule head.set (head_view head.head)) body))
+          ∙ ap (λ (hs : List NowChange). map item_view c.loop-turn.out.items ++ on_line c.args.line (head_rules (changes_of (map change_view hs)) b)) (sym c.in-Some.ensures.first)
           ∙ c.loop-turn.invariant.added;
       few = omega (arith, c.loop-turn.invariant.few, ap length c.in-Some.ensures.first);
     }

@@ -8,7 +8,7 @@ use Rattle.dg_expand.proofs.rules.add_rules.Given as goal
 
 abbrev pub invariant-loop-turn : goal.invariant-loop-turn
 invariant-loop-turn l = record {
-  added : map item_view l.out.items ++ spec.on_line l.line (spec.rules_of (changes_of (map change_view l.heads.items)) (put_body (around l.uses l.at).at (around l.uses l.at).place l.number (body_view l.body)).0)
-      ≡ map item_view l.initial.out.items ++ spec.on_line l.line (spec.rules_of (changes_of (map change_view l.initial.heads.items)) (put_body (around l.uses l.at).at (around l.uses l.at).place l.number (body_view l.body)).0);
+  added : map item_view l.out.items ++ spec.on_line l.line (spec.head_rules (changes_of (map change_view l.heads.items)) (put_body (around l.uses l.at).at (around l.uses l.at).place l.number (body_view l.body)).0)
+      ≡ map item_view l.initial.out.items ++ spec.on_line l.line (spec.head_rules (changes_of (map change_view l.initial.heads.items)) (put_body (around l.uses l.at).at (around l.uses l.at).place l.number (body_view l.body)).0);
   few : length l.heads.items ≤ l.count;
 }

@@ -1,7 +1,7 @@
 use Rattle.std.proofs.Common.{◌≡◌, ℕ, Bool, IfOk, Result, Ok, Err, Vec, Global, inr, ap, sym, ◌∙◌, subst, arith}
 use Rattle.z_asm.specs.Story.{IsTooLarge}
 use Rattle.z_story.specs.Parts.{image_of}
-use Rattle.dg_story.specs.Built.{parts_of, IsStoryOf, rule_count}
+use Rattle.dg_story.specs.Built.{story_parts, IsStoryOf, rule_count}
 use Rattle.dg_story.specs.declared.building.Built.{Built}
 use Rattle.dg_story.specs.declared.refusal.BuildFault.{BuildFault}
 use Rattle.dg_story.specs.declared.refusal.BuildFault.TheVariants.{OutOfMemory}
@@ -43,7 +43,7 @@ returns-in-Err-story-clause-fits c e =
 
 pub returns-in-Ok-story-clause-agrees : goal.returns-in-Ok-story-clause-agrees
 returns-in-Ok-story-clause-agrees c =
-    let small : (keeps : Bool) → IsTooLarge (image_of (parts_of c.in_ok-code.code keeps)) → ⊥ = λ keeps h. has_story c.args.program c.in_ok-code.code c.in_ok-code.ensures.codes c.in_ok-code.ensures.light c.requires.fits keeps (inr h) in
+    let small : (keeps : Bool) → IsTooLarge (image_of (story_parts c.in_ok-code.code keeps)) → ⊥ = λ keeps h. has_story c.args.program c.in_ok-code.code c.in_ok-code.ensures.codes c.in_ok-code.ensures.light c.requires.fits keeps (inr h) in
     elim c.match-keeps.branch [
       | in-Ok w ↦
           agrees c.args.program c.in_ok-code.code c.requires.sound (rules_plain c.args.program c.requires.fits) c.in_ok-code.ensures.codes c.in_ok-code.ensures.tidy c.code_runs_as_searched.ensures c.code_costs_its_work.ensures.cost c.code_moves_on.ensures

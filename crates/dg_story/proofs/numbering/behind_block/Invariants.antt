@@ -1,6 +1,6 @@
 use Rattle.std.proofs.Common.{◌≡◌, ◌+◌, drop}
-use Rattle.dg_story.specs.Numbers.{ops_size}
+use Rattle.dg_story.specs.Numbers.{routines_of_ops}
 use Rattle.dg_story.proofs.numbering.behind_block.Given as goal
 
 abbrev pub invariant-loop-op : goal.invariant-loop-op
-invariant-loop-op l = l.next + ops_size (drop l.op-index l.ops) ≡ l.number + ops_size l.ops
+invariant-loop-op l = l.next + routines_of_ops (drop l.op-index l.ops) ≡ l.number + routines_of_ops l.ops

@@ -1,11 +1,11 @@
 use Rattle.std.proofs.Common.{◌≡◌, ◌+◌, ◌<◌, ◌≤◌, ℕ, zero, suc, true, List, [], ◌∷◌, ◌++◌, length, get_or, IsTrue, refl, sym, ap, ◌∙◌, subst, arith}
 use lib.Utf8.{encode}
-use Rattle.z_model.specs.Zscii.{code_bytes}
+use Rattle.z_model.specs.Zscii.{code_utf8}
 use Rattle.z_code.specs.Open.{Counts}
 use Rattle.z_text.specs.Encode.{has_code, IsPrintable}
 use Rattle.z_lang.specs.declared.act.Act.{Act}
 use Rattle.z_lang.specs.declared.act.Routine.{Routine}
-use Rattle.z_lang.specs.Code.{code}
+use Rattle.z_lang.specs.Code.{ops_of_acts}
 use Rattle.z_lang.specs.Bodies.{AreFit}
 use Rattle.z_lang.specs.Sizes.{body_bytes}
 use Rattle.z_asm.specs.declared.image.Table.{Table}
@@ -22,7 +22,7 @@ hello_coded (suc (suc (suc (suc zero)))) d lt = refl
 hello_coded (suc (suc (suc (suc (suc k))))) d lt = absurd (omega arith)
 
 hello_printable : IsPrintable (72 ∷ 101 ∷ 108 ∷ 108 ∷ 111 ∷ [])
-unfolding code_bytes encode
+unfolding code_utf8 encode
 hello_printable = record { codes = 72 ∷ 101 ∷ 108 ∷ 108 ∷ 111 ∷ []; is = record { coded = hello_coded; printed = refl } }
 
 abbrev counts : Counts
@@ -36,7 +36,7 @@ are_parts p t a b et es er fa fb =
     (subst (λ (ss : List (List ℕ)). AreParts (record { tables = t ∷ []; strings = ss; routines = p.routines })) (sym es)
     (subst (λ (rs : List Routine). AreParts (record { tables = t ∷ []; strings = (72 ∷ 101 ∷ 108 ∷ 108 ∷ 111 ∷ []) ∷ []; routines = rs })) (sym er) base))
 
-is_routine : (r : Routine) (locals : ℕ) (body : List Act) → r ≡ record { locals = locals; body = body } → locals ≤ 15 → AreFit counts (code body) body → body_bytes body < 8000 → IsRoutine counts r
+is_routine : (r : Routine) (locals : ℕ) (body : List Act) → r ≡ record { locals = locals; body = body } → locals ≤ 15 → AreFit counts (ops_of_acts body) body → body_bytes body < 8000 → IsRoutine counts r
 is_routine r locals body e few fit short = subst (λ (x : Routine). IsRoutine counts x) (sym e) (record { few = few; short = short; fit = fit })
 
 pub returns : goal.returns

@@ -1,6 +1,6 @@
 use Rattle.std.proofs.Common.{◌≡◌, ◌<◌, ℕ, zero, suc, Bool, true, false, cond, List, [], ◌∷◌, length, get_or, All, IsTrue, refl, arith}
 use lib.Utf8.{encode}
-use Rattle.z_model.specs.Zscii.{code_bytes}
+use Rattle.z_model.specs.Zscii.{code_utf8}
 use Rattle.z_text.specs.Encode.{has_code}
 use Rattle.dialog_tests.proofs.strings.encodes_as_inform_does.Goals as goal
 
@@ -22,5 +22,5 @@ coded (c ∷ cs) e = by_test (has_code c) refl (λ h. coded cs h) e
         by_index (suc k) d lt = later e k d (omega arith)
 
 pub encode-requires : goal.encode-requires
-unfolding all_coded code_bytes encode
+unfolding all_coded code_utf8 encode
 encode-requires g c = record { codes = 72 ∷ 101 ∷ 108 ∷ 108 ∷ 111 ∷ []; is = record { coded = coded (72 ∷ 101 ∷ 108 ∷ 108 ∷ 111 ∷ []) refl; printed = refl } }

@@ -1,6 +1,6 @@
 use Rattle.std.proofs.Common.{length, map, drop, sym, ap, ◌∙◌, subst, arith}
 use Rattle.z_asm.specs.declared.image.Code.{Code}
-use Rattle.z_asm.specs.Layout.{code_size, names_in}
+use Rattle.z_asm.specs.Layout.{code_size, names_at}
 use Rattle.z_asm.specs.inside.Filled.{IsWritable}
 use Rattle.z_asm.proofs.Layouts.{end_most, next_end, near, padded_long}
 use Rattle.z_asm.proofs.Parts.{writable_next, codes_step}
@@ -20,9 +20,9 @@ loop-code-preserved c =
     let codes = c.args.codes.now in
     let i = c.loop-code.code-index in
     let out = c.loop-code.out.items in
-    let next = writable_next (names_in c.args.names.now) codes i c.code-item.result c.loop-code-test.true c.loop-code.invariant.writable in
-    let here : IsWritable (names_in c.args.names.now) c.code-item.result = subst (λ (x : Code). IsWritable (names_in c.args.names.now) x) (sym c.code-item.is) next.0 in
-    let step = codes_step (names_in c.args.names.now) codes i c.code-item.result _ out c.pad.new.out.items c.put_code.new.out.items c.loop-code-test.true c.code-item.is here c.loop-code.invariant.rest c.in_ok-pad.ensures c.in_ok-put_code.ensures in
+    let next = writable_next (names_at c.args.names.now) codes i c.code-item.result c.loop-code-test.true c.loop-code.invariant.writable in
+    let here : IsWritable (names_at c.args.names.now) c.code-item.result = subst (λ (x : Code). IsWritable (names_at c.args.names.now) x) (sym c.code-item.is) next.0 in
+    let step = codes_step (names_at c.args.names.now) codes i c.code-item.result _ out c.pad.new.out.items c.put_code.new.out.items c.loop-code-test.true c.code-item.is here c.loop-code.invariant.rest c.in_ok-pad.ensures c.in_ok-put_code.ensures in
     let e = next_end code_size codes i c.code-item.result (length out) c.loop-code-test.true c.code-item.is in
     let w = c.loop-code.invariant.within in
     record { rest = step.0; within = rw (step.1, sym e) w; writable = next.1 }

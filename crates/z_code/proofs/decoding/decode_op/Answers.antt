@@ -4,8 +4,8 @@ use Rattle.z_model.specs.declared.fault.ZFault.{ZFault}
 use Rattle.z_model.specs.declared.table.Row.{Row}
 use Rattle.z_model.specs.declared.op.Op.{Op}
 use Rattle.z_model.specs.declared.op.Found.{Found}
-use Rattle.z_model.specs.Table.{rows_of}
-use Rattle.z_model.specs.Decode.{found}
+use Rattle.z_model.specs.Table.{player_rows}
+use Rattle.z_model.specs.Decode.{op_found}
 use Rattle.z_model.specs.Spelling.{AreBytes}
 use Rattle.z_code.specs.Decoded.{op_and_end}
 use Rattle.z_code.proofs.decoding.decode_op.Goals as goal
@@ -18,7 +18,7 @@ if_err (Ok x) P h = tt
 if_err (Err fault) P h = h fault refl
 
 -- the row that an answer leaves out
-with_row : (r : Result Found ZFault) (op : Op) (end : ℕ) → op_and_end r ≡ Ok (op, end) → (row : Row) × (r ≡ Ok (found row op end))
+with_row : (r : Result Found ZFault) (op : Op) (end : ℕ) → op_and_end r ≡ Ok (op, end) → (row : Row) × (r ≡ Ok (op_found row op end))
 with_row (Ok x) op end e =
     let same : (x.op, x.end) ≡ (op, end) = cc in
     let op_same : x.op ≡ op = ap (λ (p : Op × ℕ). p.0) same in
@@ -33,7 +33,7 @@ same_fault (Err f) fault e = cc
 pub returns-clause-found : goal.returns-clause-found
 returns-clause-found c =
     let is = c.op_and_end.ensures.op in
-    let law = c.instructions_again.ensures rows_of c.args.bytes.now c.args.at in
+    let law = c.instructions_again.ensures player_rows c.args.bytes.now c.args.at in
     λ op end. (λ e. let there = with_row _ op end (sym is ∙ e) in law.there (are_bytes c.args.bytes.now c.type_inv.bytes) there.0 op end there.1, λ i. is ∙ ap op_and_end (law.again op end i))
 
 pub returns-clause-off_end : goal.returns-clause-off_end

@@ -1,5 +1,5 @@
 use Rattle.std.proofs.Common.{rules, ◌≡◌, Some, false, refl}
-use Rattle.z_model.specs.Story.{layout_of, start_of, memory_of, first_machine, given_of, start_state}
+use Rattle.z_model.specs.Story.{layout_of, first_address, memory_of, first_machine, given_of, start_state}
 use Rattle.z_play.specs.View.{layout_in, machine}
 use Rattle.z_play.specs.inside.Scene.{scene}
 use Rattle.z_play.proofs.Lines.{runs_as}
@@ -10,7 +10,7 @@ returns-clause-told g c = λ typed told.
     let layout : (layout_in c.reset.new.engine) ≡ layout_of c.args.self.now = search rules in
     let first : machine c.reset.new.engine ≡ first_machine c.args.self.now c.self.inside.start = search rules in
     let whole : memory_of c.args.self.now ≡ c.args.self.now = search rules in
-    let at : c.self.inside.start ≡ start_of c.args.self.now = search rules in
+    let at : c.self.inside.start ≡ first_address c.args.self.now = search rules in
     c.close_run.ensures.plays (given_of c.args.self.now c.args.dice.now) (start_state c.args.self.now typed) c.args.steps
     (scene (machine c.reset.new.engine) 0 false (g.S.Source.view c.args.source.now).left (g.K.Sink.view c.args.sink.now))
     (scene (machine c.run_steps-ended.new.engine) 0 c.run_steps-ended.new.begun (g.S.Source.view c.run_steps-ended.new.source).left (g.K.Sink.view c.run_steps-ended.new.sink)) refl refl refl
@@ -24,7 +24,7 @@ returns-clause-untold g c =
     let layout : (layout_in c.reset.new.engine) ≡ layout_of c.args.self.now = search rules in
     let first : machine c.reset.new.engine ≡ first_machine c.args.self.now c.self.inside.start = search rules in
     let whole : memory_of c.args.self.now ≡ c.args.self.now = search rules in
-    let at : c.self.inside.start ≡ start_of c.args.self.now = search rules in
+    let at : c.self.inside.start ≡ first_address c.args.self.now = search rules in
     let ran = c.run_steps-ended.ensures.untold 0 in
     record {
       typed = ran.0;
