@@ -6,7 +6,6 @@ use Rattle.std.specs.List.{All, flat_map, sum_by}
 use Rattle.std.specs.declared.vec.Vec.{Vec}
 use Rattle.std.specs.declared.alloc.Global.{Global}
 use Rattle.std.proofs.lemmas.Bool.{cond-true, eq-eqb}
-use Rattle.std.proofs.lemmas.List.Concat.{flat_map-cons}
 use Rattle.dg_base.specs.declared.cells.Cell.{Cell}
 use Rattle.dg_meaning.specs.Values.{Value, Values, parts_of, pair, value_of_var}
 use Rattle.dg_meaning.specs.ValueCells.{cells_of, cells_of_all}
@@ -32,6 +31,7 @@ use Rattle.dg_unify.specs.declared.bindings.Mark.{Mark as Place}
 use Rattle.dg_unify.specs.declared.list.ListBindings.{ListBindings}
 use Rattle.dg_lists.specs.Formed.{IsFormed, AreFormed}
 use Rattle.dg_lists.specs.Reading.{Stopped, ListCopied}
+use Rattle.dg_lists.proofs.ListCopies.{row_parts, parts_formed, list_vars, list_copy, list_weight}
 use Rattle.dg_interp.specs.declared.frames.Env.{Env}
 use Rattle.dg_interp.specs.declared.frames.Frame.{Frame}
 use Rattle.dg_interp.specs.declared.frames.Whole.{Whole}
@@ -77,37 +77,6 @@ module _ (es : Equations) (old : Engine) (store : ListBindings) (ready : IsReady
 pub no_more : (r : Answer Bool Full) (n : ℕ) → OnOk r (n ≤ n + 1)
 no_more (Ok found) n = omega arith
 no_more (Err e) n = tt
-
--- ## Values as parts
-
-parts_back : (vs : List Value) → values_of (parts_of vs) ≡ vs
-parts_back [] = refl
-parts_back (v ∷ vs) = ap (λ l. v ∷ l) (parts_back vs)
-
-row_parts : (vs : List Value) → flat_map cells_of vs ≡ cells_of_all (parts_of vs)
-row_parts [] = refl
-row_parts (v ∷ vs) = flat_map-cons cells_of v vs ∙ ap (λ l. cells_of v ++ l) (row_parts vs)
-
-parts_formed : (vs : List Value) → All IsFormed vs → AreFormed (parts_of vs)
-parts_formed [] h = tt
-parts_formed (v ∷ vs) h = (h 0 v (omega arith), parts_formed vs (λ k d lt. h (suc k) d (omega arith)))
-
-list_vars : (vs : List Value) → vars_in (list_of vs) ≡ vars_in_all (parts_of vs)
-list_vars [] = refl
-list_vars (v ∷ vs) = omega (arith, list_vars vs)
-
-list_cells : (vs : List Value) → copy_cells (list_of vs) ≡ all_copy_cells (parts_of vs) + 3 * length vs
-list_cells [] = omega arith
-list_cells (v ∷ vs) = omega (arith, list_cells vs)
-
-list_copy : (n : ℕ) (vs : List Value) → copy_from n (list_of vs) ≡ list_of (values_of (copies_from n (parts_of vs)))
-list_copy n [] = refl
-list_copy n (v ∷ vs) =
-    let first : n + (vars_in (list_of vs) + 0) ≡ n + vars_in_all (parts_of vs) = omega (arith, list_vars vs) in
-    let rest : n + 0 ≡ n = omega arith in
-    ap (λ k. pair (copy_from k v) (copy_from (n + 0) (list_of vs))) first
-    ∙ ap (λ k. pair (copy_from (n + vars_in_all (parts_of vs)) v) (copy_from k (list_of vs))) rest
-    ∙ ap (pair (copy_from (n + vars_in_all (parts_of vs)) v)) (list_copy n vs)
 
 -- ## The newest gathering
 
@@ -262,8 +231,6 @@ module _ (into : Ref) (old : Engine) (ready : IsReady old) (hold : Holds (store_
   made_here g n w run st = parts_formed st.newest.values (formed_here InList into old ready cells at_first g n w run st)
 
   -- the cells of the list
-  list_weight : (vs : List Value) → all_copy_cells (parts_of vs) + 3 * length (values_of (parts_of vs)) ≡ copy_cells (list_of vs)
-  list_weight vs = omega (arith, list_cells vs, ap length (parts_back vs))
 
   pub list_full : (e : Full) → ((vs : Values) → cells ≡ cells_of_all vs → AreFormed vs → Stopped (all_copy_cells vs + 3 * length (values_of vs)) ls ls2 e) → FullAt from ls e
   list_full full.Heap h = λ g n w run st.

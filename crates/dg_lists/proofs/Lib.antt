@@ -3,3 +3,4 @@ pub mod ReadLemmas
 pub mod WriteLemmas
 pub mod MakeLemmas
 pub mod SumLemmas
+pub mod ListCopies

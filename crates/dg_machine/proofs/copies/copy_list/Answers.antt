@@ -1,6 +1,7 @@
 use Rattle.std.proofs.Common.{◌∙◌, ap, arith, length}
 use Rattle.dg_meaning.specs.Values.{parts_of}
-use Rattle.dg_machine.proofs.ListCopies.{copies_list, row_few, row_parts, parts_formed}
+use Rattle.dg_lists.proofs.ListCopies.{row_parts, parts_formed}
+use Rattle.dg_machine.proofs.ListCopies.{copies_list, row_few}
 use Rattle.dg_machine.proofs.copies.copy_list.Goals as goal
 
 pub returns-then-cells-capacity-clause-copied : goal.returns-then-cells-capacity-clause-copied
