@@ -20,7 +20,7 @@ use Rattle.dg_base.specs.declared.program.Term.{Term}
 use Rattle.dg_names.specs.Named.{Named}
 use Rattle.dg_core.specs.Core.{Before, outer_scope, scope_of, rule_of, failing, rules_of_item, behind_item, none_before, rules_from, pred_of, core_place, without_facts, with_rules, entry_name, core_of}
 use Rattle.dg_core.specs.Given.{IsGiven}
-use Rattle.dg_core.specs.Goals.{Scope, place_or_zero, in_16_bits, number_in, terms_of}
+use Rattle.dg_core.specs.Goals.{Scope, place_number, in_16_bits, number_in, terms_of}
 use Rattle.dg_core.specs.Places.{is_among, values_named, declarations, place_names, placed_of}
 use Rattle.dg_core.proofs.FitLemmas.{kind_wants}
 use Rattle.dg_core.proofs.HeadLemmas.{terms_counted}
@@ -45,7 +45,7 @@ pub numbered : (n : List ℕ) (ms : List (List ℕ)) → Contains ms n → lengt
 numbered n ms there few =
     let place = place_if n ms (position (bytes_eq n) ms) refl there in
     let found = position-Some (bytes_eq n) ms place.0 n place.1 in
-    let number : number_in ms n ≡ place.0 = ap (λ (o : Option ℕ). in_16_bits (place_or_zero o)) place.1 ∙ small place.0 (omega (arith, found.0, few)) in
+    let number : number_in ms n ≡ place.0 = ap (λ (o : Option ℕ). in_16_bits (place_number o)) place.1 ∙ small place.0 (omega (arith, found.0, few)) in
     ap (slice_get ms) number
     ∙ slice_get-get_or ms place.0 n found.0
     ∙ ap (λ (m : List ℕ). Some m) (sym ((bytes_decides n (get_or ms place.0 n)).0 found.1))

@@ -13,7 +13,7 @@ use Rattle.dg_base.proofs.Views.{plain_list_seen, tailed_list_seen, body_seen}
 use Rattle.dg_base.specs.declared.names.Builtin.{Builtin}
 use Rattle.dg_base.specs.declared.program.Term.{Term}
 use Rattle.dg_core.specs.Goals.{built_in_goal}
-use Rattle.dg_core.specs.Places.{is_simple_value, is_empty_body}
+use Rattle.dg_core.specs.Places.{is_simple_value, says_nothing}
 
 untrue : IsTrue false → ⊥
 untrue e = cc
@@ -37,29 +37,29 @@ pub simple_list : (v : Value) (vs : List Value) (o : Option Value) (r : Bool) �
 simple_list v vs None r e h = h ∙ ap is_simple_value (sym (ap value_view e ∙ plain_list_seen vs))
 simple_list v vs (Some x) r e h = h ∙ ap is_simple_value (sym (ap value_view e ∙ tailed_list_seen vs x))
 
-branches_at : (bs : List (List Stmt)) (ss : List Stmt) (b : Bool) → bs ≡ ss ∷ [] → IsTrue b ↔ (ss ≡ []) → b ≡ is_empty_body (branches_view (map (map stmt_view) bs))
-branches_at bs ss b e h = at_one ss b h ∙ ap (λ (l : List (List Stmt)). is_empty_body (branches_view (map (map stmt_view) l))) (sym e)
+branches_at : (bs : List (List Stmt)) (ss : List Stmt) (b : Bool) → bs ≡ ss ∷ [] → IsTrue b ↔ (ss ≡ []) → b ≡ says_nothing (branches_view (map (map stmt_view) bs))
+branches_at bs ss b e h = at_one ss b h ∙ ap (λ (l : List (List Stmt)). says_nothing (branches_view (map (map stmt_view) l))) (sym e)
   where
-    at_one : (ss : List Stmt) (b : Bool) → IsTrue b ↔ (ss ≡ []) → b ≡ is_empty_body (branches_view (map (map stmt_view) (ss ∷ [])))
+    at_one : (ss : List Stmt) (b : Bool) → IsTrue b ↔ (ss ≡ []) → b ≡ says_nothing (branches_view (map (map stmt_view) (ss ∷ [])))
     at_one [] true h = refl
     at_one [] false h = absurd (untrue (h.1 refl))
     at_one (s ∷ ss) true h = absurd (filled s ss (h.0 refl))
     at_one (s ∷ ss) false h = refl
 
-pub empty_one : (b : Body) (ss : List Stmt) (r : Bool) → b.branches ≡ ss ∷ [] → IsTrue r ↔ (ss ≡ []) → r ≡ is_empty_body (body_view b)
-empty_one b ss r e h = branches_at b.branches ss r e h ∙ ap is_empty_body (sym (body_seen b))
+pub empty_one : (b : Body) (ss : List Stmt) (r : Bool) → b.branches ≡ ss ∷ [] → IsTrue r ↔ (ss ≡ []) → r ≡ says_nothing (body_view b)
+empty_one b ss r e h = branches_at b.branches ss r e h ∙ ap says_nothing (sym (body_seen b))
 
-pub empty_none : (b : Body) → length b.branches < 1 → false ≡ is_empty_body (body_view b)
-empty_none b h = at b.branches h ∙ ap is_empty_body (sym (body_seen b))
+pub empty_none : (b : Body) → length b.branches < 1 → false ≡ says_nothing (body_view b)
+empty_none b h = at b.branches h ∙ ap says_nothing (sym (body_seen b))
   where
-    at : (bs : List (List Stmt)) → length bs < 1 → false ≡ is_empty_body (branches_view (map (map stmt_view) bs))
+    at : (bs : List (List Stmt)) → length bs < 1 → false ≡ says_nothing (branches_view (map (map stmt_view) bs))
     at [] h = refl
     at (x ∷ bs) h = absurd (omega (arith, h))
 
-pub empty_many : (b : Body) → 2 ≤ length b.branches → false ≡ is_empty_body (body_view b)
-empty_many b h = at b.branches h ∙ ap is_empty_body (sym (body_seen b))
+pub empty_many : (b : Body) → 2 ≤ length b.branches → false ≡ says_nothing (body_view b)
+empty_many b h = at b.branches h ∙ ap says_nothing (sym (body_seen b))
   where
-    at : (bs : List (List Stmt)) → 2 ≤ length bs → false ≡ is_empty_body (branches_view (map (map stmt_view) bs))
+    at : (bs : List (List Stmt)) → 2 ≤ length bs → false ≡ says_nothing (branches_view (map (map stmt_view) bs))
     at [] h = absurd (omega (arith, h))
     at (x ∷ []) h = absurd (omega (arith, h))
     at ([] ∷ y ∷ bs) h = refl

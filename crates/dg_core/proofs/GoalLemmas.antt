@@ -23,7 +23,7 @@ use Rattle.dg_base.specs.declared.program.Term.{Term}
 use Rattle.dg_base.proofs.NodeLemmas.{inside, within_out}
 use Rattle.dg_names.specs.Among.{HasPred}
 use Rattle.dg_core.specs.Bodies.{in_value, in_parts, in_stmt, in_stmts, in_branches, in_arms}
-use Rattle.dg_core.specs.Goals.{Scope, past, place_or_zero, in_16_bits, number_in, term_of, terms_of, built_in_goal, place_goal, query_goal, asked, change_goals, unit, count_selects, stmt_goals, lists, arm_goals}
+use Rattle.dg_core.specs.Goals.{Scope, past, place_number, in_16_bits, number_in, term_of, terms_of, built_in_goal, place_goal, query_goal, asked, change_goals, unit, count_selects, stmt_goals, lists, arm_goals}
 use Rattle.dg_core.specs.Goals as lowered
 use Rattle.dg_core.specs.Places.{head_values}
 use Rattle.dg_core.proofs.HoldLemmas.{Hold, front, back}
@@ -119,7 +119,7 @@ built_in_made p vars n s a b c many built_in.HasParent g h j k = leaf p vars n _
 place_made : (p : Core) (vars n : ℕ) (s : Scope) (ps : Parts) (many : Bool) (o : Option ℕ) → position (bytes_eq (name_of ps)) s.places ≡ o → IsGround p vars s → Contains s.names.preds (name_of ps) → All (IsTermOf p vars) (terms_of s ps) → AreMade p vars n n (place_goal s ps many o ∷ [])
 place_made p vars n s ps many None e g m k = leaf p vars n _ (form.Ask (number_in s.names.preds (name_of ps)) (terms_of s ps) many) (goal.outs-Ask _ _ _) (g.preds s ps m) k tt refl
 place_made p vars n s ps many (Some place) e g m k =
-    let number : number_in s.places (name_of ps) ≡ in_16_bits place = ap (λ (o : Option ℕ). in_16_bits (place_or_zero o)) e in
+    let number : number_in s.places (name_of ps) ≡ in_16_bits place = ap (λ (o : Option ℕ). in_16_bits (place_number o)) e in
     leaf p vars n _ (form.Holds (in_16_bits place) (terms_of s ps) many) (goal.outs-Holds _ _ _)
     (subst (λ (i : ℕ). FitsProgram p (form.Holds i (terms_of s ps) many)) number (g.places s ps (there_at (name_of ps) s.places place e))) k tt refl
 

@@ -39,7 +39,7 @@ use Rattle.dg_core.specs.Core.{Before, outer_scope, scope_of, rule_of, failing, 
 use Rattle.dg_core.specs.Given.{IsGiven}
 use Rattle.dg_core.specs.Bodies.{in_parts}
 use Rattle.dg_core.specs.Goals.{Scope, past, unit, lists, count_selects}
-use Rattle.dg_core.specs.Places.{Placed, is_among, parent_name, place_names, placed_of, declaration_in, declarations, declared_names, changed_in, kind_by, kind_of, values_named, head_values, are_fact, is_empty_body, is_no_fact, is_bad_start, declared_behind, first_bad_start}
+use Rattle.dg_core.specs.Places.{Placed, is_among, parent_name, place_names, placed_of, declaration_in, declarations, declared_names, changed_in, kind_by, kind_of, values_named, head_values, are_fact, says_nothing, is_no_fact, is_bad_start, declared_behind, first_bad_start}
 use Rattle.dg_core.specs.Rows.{names_of, AreCaught}
 use Rattle.dg_core.specs.Variables.{layouts_in, rule_variables}
 use Rattle.dg_core.proofs.AskLemmas.{query_fits, place_in, place_fits, parents_fit, entry_fits}
@@ -288,7 +288,7 @@ rule_begins names items n name ps b behind true q g there k e =
     let s = scope_of (outer_scope names items) n.closures ps b in
     let same = (bytes_decides (name_of ps) name).0 q in
     let placed : is_among (name_of ps) (place_names items) ≡ true = among_there (name_of ps) (place_names items) (subst (Contains (place_names items)) (sym same) there) in
-    let fact = (and_parts (is_empty_body b) (are_fact (kind_of (declared_names items) (name_of ps)) (head_values ps)) (second (is_among (name_of ps) (place_names items)) _ placed e)).1 in
+    let fact = (and_parts (says_nothing b) (are_fact (kind_of (declared_names items) (name_of ps)) (head_values ps)) (second (is_among (name_of ps) (place_names items)) _ placed e)).1 in
     let h = known_rule names items n.closures ps b k in
     let begin = fact_start (core_of names items) (vars_of ps b) s (kind_of (declared_names items) (name_of ps)) (head_values ps) fact (rule_ground names items n.closures ps b g k) (parts_hold s ps (front (IsKnown s) (of_parts false ps) (of_body false b) h.1)) in
     let r = rule_of (outer_scope names items) n ps b behind in

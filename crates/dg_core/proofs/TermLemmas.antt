@@ -20,7 +20,7 @@ use Rattle.dg_base.specs.declared.program.Term.TheOpen as top
 use Rattle.dg_names.specs.Among.{IsAmong}
 use Rattle.dg_core.specs.Given.{IsFit}
 use Rattle.dg_core.specs.Bodies.{Closed, in_value, in_values}
-use Rattle.dg_core.specs.Goals.{Scope, past, place_or_zero, in_16_bits, number_in, closure_of, term_of, listed, terms_of, arg}
+use Rattle.dg_core.specs.Goals.{Scope, past, place_number, in_16_bits, number_in, closure_of, term_of, listed, terms_of, arg}
 use Rattle.dg_core.proofs.AskLemmas.{place_if, small}
 use Rattle.dg_core.proofs.HoldLemmas.{Hold, front, back}
 
@@ -29,7 +29,7 @@ pub number_below : (n : List ℕ) (ms : List (List ℕ)) → Contains ms n → l
 number_below n ms there few =
     let place = place_if n ms (position (bytes_eq n) ms) refl there in
     let found = position-Some (bytes_eq n) ms place.0 n place.1 in
-    let number : number_in ms n ≡ place.0 = ap (λ (o : Option ℕ). in_16_bits (place_or_zero o)) place.1 ∙ small place.0 (omega (arith, found.0, few)) in
+    let number : number_in ms n ≡ place.0 = ap (λ (o : Option ℕ). in_16_bits (place_number o)) place.1 ∙ small place.0 (omega (arith, found.0, few)) in
     subst (λ (k : ℕ). k < length ms) (sym number) found.0
 
 -- what the names of a scope stand for is in the program, and its variables are among so many

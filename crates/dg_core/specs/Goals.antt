@@ -36,9 +36,9 @@ past scope cs = at scope (scope.before + length (direct cs))
 -- ---- numbers
 
 -- The number of a place, and 0 where there is none.
-abbrev pub place_or_zero : Option ℕ → ℕ
-place_or_zero None = 0
-place_or_zero (Some n) = n
+abbrev pub place_number : Option ℕ → ℕ
+place_number None = 0
+place_number (Some n) = n
 
 -- A number of 16 bits, and 0 for another one.
 abbrev pub in_16_bits : ℕ → ℕ
@@ -46,7 +46,7 @@ in_16_bits n = if nat_lt n 65536 then n else 0
 
 -- The number of a name among names, and 0 where it isn't there.
 abbrev pub number_in : List (List ℕ) → List ℕ → ℕ
-number_in names name = in_16_bits (place_or_zero (position (bytes_eq name) names))
+number_in names name = in_16_bits (place_number (position (bytes_eq name) names))
 
 -- ---- terms
 

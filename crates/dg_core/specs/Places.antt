@@ -90,9 +90,9 @@ are_fact Parent (v ∷ w ∷ []) = is_object_value v && is_object_value w
 are_fact kind vs = false
 
 -- A body in which nothing is written.
-abbrev pub is_empty_body : Body → Bool
-is_empty_body (branch no_stmts no_branches) = true
-is_empty_body b = false
+abbrev pub says_nothing : Body → Bool
+says_nothing (branch no_stmts no_branches) = true
+says_nothing b = false
 
 -- The names of a tree's places, and which of them are declared.
 pub record Placed : Type 0 where
@@ -104,7 +104,7 @@ placed_of is = record { names = place_names is; declared = declared_names is }
 
 -- A rule of a place that is no fact.
 abbrev pub is_no_fact : Placed → Parts → Body → Bool
-is_no_fact p ps b = is_among (name_of ps) p.names && not (is_empty_body b && are_fact (kind_of p.declared (name_of ps)) (head_values ps))
+is_no_fact p ps b = is_among (name_of ps) p.names && not (says_nothing b && are_fact (kind_of p.declared (name_of ps)) (head_values ps))
 
 -- An item that gives no initial value, though it should: a rule of a place that is no fact, or the second declaration of a name, some being declared before.
 abbrev pub is_bad_start : Placed → List (List ℕ) → Said → Bool

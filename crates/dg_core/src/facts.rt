@@ -69,7 +69,7 @@ fn are_fact(kind: PlaceKind, values: &[&Value]) -> bool
 }
 
 fn is_empty(body: &Body) -> bool
-    ensures { result ≡ spec.is_empty_body (body_view body.now) }
+    ensures { result ≡ spec.says_nothing (body_view body.now) }
 {
     match body.branches.as_slice() {
         [only] => only.is_empty(),

@@ -20,7 +20,7 @@ use std::alloc::{AllocError, Global};
 
 /// A place as a number, and 0 where there is none.
 pub fn number_of(place: Option<usize>) -> u16
-    ensures { result ≡ spec.in_16_bits (spec.place_or_zero place) }
+    ensures { result ≡ spec.in_16_bits (spec.place_number place) }
 {
     match place {
         Some(at) if at <= 65535 => at as u16,

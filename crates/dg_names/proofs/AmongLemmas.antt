@@ -17,7 +17,7 @@ use Rattle.dg_base.specs.Tree.{Parts, Said, Item}
 use Rattle.dg_base.specs.declared.names.Builtin.{Builtin}
 use Rattle.dg_base.specs.Readable.{IsReadable}
 use Rattle.dg_names.specs.Among.{HasPred, IsAmong, IsSmall, ArePrintable, AreFew}
-use Rattle.dg_names.specs.Counts.{places_in, rule_count, closures_at, selects_at, is_full, is_excess, are_many_names, are_many, has_excess}
+use Rattle.dg_names.specs.Counts.{places_in, count_rules, closures_at, selects_at, is_full, is_excess, are_many_names, are_many, has_excess}
 use Rattle.dg_names.specs.Named.{Named, firsts, is_fixed, predicate_in, object_in, thing_words, names_of}
 use Rattle.dg_names.proofs.MemberLemmas.{first_there, firsts_are}
 
@@ -134,7 +134,7 @@ few_names d h =
 pub names_few : (is : List Item) → first_passing has_excess are_many [] is ≡ None → AreFew (names_of is)
 names_few is h =
     few_names (names_of is)
-    (or_parts (are_many_names (names_of is)) (nat_lt 16000 (rule_count is) || (nat_lt 16000 (weight_of closures_at (mentioned is)) || nat_lt 500 (weight_of selects_at (mentioned is)))) (passed_on [] is refl h)).0
+    (or_parts (are_many_names (names_of is)) (nat_lt 16000 (count_rules is) || (nat_lt 16000 (weight_of closures_at (mentioned is)) || nat_lt 500 (weight_of selects_at (mentioned is)))) (passed_on [] is refl h)).0
 
 -- ---- what is mentioned is small
 

@@ -12,7 +12,7 @@ use Rattle.dg_base.specs.declared.refusal.ReadFault.TheVariants.{Refused}
 use Rattle.dg_base.proofs.MentionLemmas.{names_append, weight_append, mentioned_push}
 use Rattle.dg_base.proofs.PassingLemmas as one
 use Rattle.dg_names.specs.Named.{Named, predicate_in, object_in, thing_words, names_of}
-use Rattle.dg_names.specs.Counts.{is_rule, rule_count, has_excess, closures_at, selects_at, are_many_names, are_many, IsNamed}
+use Rattle.dg_names.specs.Counts.{is_rule, count_rules, has_excess, closures_at, selects_at, are_many_names, are_many, IsNamed}
 use Rattle.dg_names.specs.Scopes.{with_names}
 use Rattle.dg_names.specs.State.{Told, told, behind, untold, told_on, told_names, has_many}
 use Rattle.dg_names.proofs.FirstLemmas.{firsts_of, with_append}
@@ -48,15 +48,15 @@ swapped true false x = refl
 swapped false true x = refl
 swapped false false x = refl
 
-rules_push : (before : List Item) (i : Item) → rule_count (before ++ i ∷ []) ≡ (if is_rule i.said then rule_count before + 1 else rule_count before)
+rules_push : (before : List Item) (i : Item) → count_rules (before ++ i ∷ []) ≡ (if is_rule i.said then count_rules before + 1 else count_rules before)
 rules_push [] i = refl
 rules_push (j ∷ before) i =
     ap (λ (n : ℕ). if is_rule j.said then n + 1 else n) (rules_push before i)
-    ∙ swapped (is_rule j.said) (is_rule i.said) (rule_count before)
+    ∙ swapped (is_rule j.said) (is_rule i.said) (count_rules before)
 
 -- what is told of these items
 abbrev counted : List Item → Told
-counted is = record (told (mentioned is) untold) { rules = rule_count is }
+counted is = record (told (mentioned is) untold) { rules = count_rules is }
 
 pub counted_push : (before : List Item) (i : Item) → counted (before ++ i ∷ []) ≡ behind (counted before) i.said
 counted_push before i =
@@ -91,9 +91,9 @@ named_all is =
 
 many_same : (is : List Item) → has_many (counted is) ≡ are_many is
 many_same is =
-    ap (λ (d : Named). are_many_names d || (nat_lt 16000 (rule_count is) || (nat_lt 16000 (0 + weight_of closures_at (mentioned is)) || nat_lt 500 (0 + weight_of selects_at (mentioned is))))) (named_all is)
-    ∙ ap (λ (k : ℕ). are_many_names (names_of is) || (nat_lt 16000 (rule_count is) || (nat_lt 16000 k || nat_lt 500 (0 + weight_of selects_at (mentioned is))))) (omega arith)
-    ∙ ap (λ (k : ℕ). are_many_names (names_of is) || (nat_lt 16000 (rule_count is) || (nat_lt 16000 (weight_of closures_at (mentioned is)) || nat_lt 500 k))) (omega arith)
+    ap (λ (d : Named). are_many_names d || (nat_lt 16000 (count_rules is) || (nat_lt 16000 (0 + weight_of closures_at (mentioned is)) || nat_lt 500 (0 + weight_of selects_at (mentioned is))))) (named_all is)
+    ∙ ap (λ (k : ℕ). are_many_names (names_of is) || (nat_lt 16000 (count_rules is) || (nat_lt 16000 k || nat_lt 500 (0 + weight_of selects_at (mentioned is))))) (omega arith)
+    ∙ ap (λ (k : ℕ). are_many_names (names_of is) || (nat_lt 16000 (count_rules is) || (nat_lt 16000 (weight_of closures_at (mentioned is)) || nat_lt 500 k))) (omega arith)
 
 -- the first of these items at which a count passes
 abbrev pub passing_in : Told → List Item → Option Item

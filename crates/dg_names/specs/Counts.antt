@@ -71,9 +71,9 @@ is_rule (access ps b) = true
 is_rule said = false
 
 -- The number of rules.
-abbrev pub rule_count : List Item → ℕ
-rule_count [] = 0
-rule_count (i ∷ is) = if is_rule i.said then rule_count is + 1 else rule_count is
+abbrev pub count_rules : List Item → ℕ
+count_rules [] = 0
+count_rules (i ∷ is) = if is_rule i.said then count_rules is + 1 else count_rules is
 
 -- Too many objects, words or predicates.
 abbrev pub are_many_names : Named → Bool
@@ -82,7 +82,7 @@ are_many_names named = nat_lt 1000 (length named.objects) || (nat_lt 4000 (lengt
 -- A count in all passes its number.
 abbrev pub are_many : List Item → Bool
 are_many is = are_many_names (names_of is) ||
-    (nat_lt 16000 (rule_count is) || (nat_lt 16000 (weight_of closures_at (mentioned is)) || nat_lt 500 (weight_of selects_at (mentioned is))))
+    (nat_lt 16000 (count_rules is) || (nat_lt 16000 (weight_of closures_at (mentioned is)) || nat_lt 500 (weight_of selects_at (mentioned is))))
 
 -- The names of these items, or why they are refused.
 abbrev pub IsNamed : List Item → Result Named Refusal → Type 0

@@ -19,7 +19,7 @@ use Rattle.z_story.specs.Parts.{AreRoutines}
 use Rattle.dg_story.specs.declared.numbering.Numbers.{Numbers}
 use Rattle.dg_story.specs.declared.texts.Part.{Part}
 use Rattle.dg_story.specs.declared.texts.Part.TheVariants as part
-use Rattle.dg_story.specs.Texts.{first_byte, read_byte, with_letter, letters_from, say, says, characters_of, first_closes, end_with, text_end, separated, text_acts}
+use Rattle.dg_story.specs.Texts.{first_byte, read_byte, with_letter, letters_from, say, says, characters_of, first_closes, end_with, text_ending, separated, text_acts}
 use Rattle.dg_story.specs.Numbers.{routines_of_op, routines_of_ops, blocks_size, rules_count, block_starts, first_rule, pred_starts, numbers_of, number_or_fail, block_number, pred_number, routine_count}
 use Rattle.dg_story.specs.Instructions.{ask_acts, op_acts, op_way}
 use Rattle.dg_story.specs.Routines.{choosing, rules_routines, preds_routines, op_routines, ops_routines, blocks_routines}
@@ -121,8 +121,8 @@ letters_lines c text = says_lines c (characters_of text) (letters_words part.Not
 
 text_lines : (c : Counts) (text : List ℕ) → 10 ≤ c.routines → AreLines c (text_acts text)
 text_lines c text many =
-    lines_append c (separated text) (says text ++ acts.Copy 22 (atoms.Num (text_end text)) ∷ []) (separated_lines c text many)
-    (lines_append c (says text) (acts.Copy 22 (atoms.Num (text_end text)) ∷ []) (letters_lines c text) (keeps_end c (text_end text) (end_small (last_of None text))))
+    lines_append c (separated text) (says text ++ acts.Copy 22 (atoms.Num (text_ending text)) ∷ []) (separated_lines c text many)
+    (lines_append c (says text) (acts.Copy 22 (atoms.Num (text_ending text)) ∷ []) (letters_lines c text) (keeps_end c (text_ending text) (end_small (last_of None text))))
 
 -- ## Instructions
 

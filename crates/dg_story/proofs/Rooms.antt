@@ -21,7 +21,7 @@ use Rattle.z_story.specs.Parts.{routine_code}
 use Rattle.dg_story.specs.declared.numbering.Numbers.{Numbers}
 use Rattle.dg_story.specs.declared.texts.Part.{Part}
 use Rattle.dg_story.specs.declared.texts.Part.TheVariants as part
-use Rattle.dg_story.specs.Texts.{letters_from, characters_of, say, says, first_closes, text_end, separated, text_acts}
+use Rattle.dg_story.specs.Texts.{letters_from, characters_of, say, says, first_closes, text_ending, separated, text_acts}
 use Rattle.dg_story.specs.Numbers.{routines_of_op, routines_of_ops, blocks_size, rules_count, block_number}
 use Rattle.dg_story.specs.Routines.{going, choosing, rules_routines, preds_routines, pieces, op_routines, ops_routines, blocks_routines, runtime}
 
@@ -83,7 +83,7 @@ says_many [] = refl
 says_many (n ∷ ns) = omega (arith, says_many ns)
 
 abbrev keeps_end : List ℕ → List Act
-keeps_end text = acts.Copy 22 (atoms.Num (text_end text)) ∷ []
+keeps_end text = acts.Copy 22 (atoms.Num (text_ending text)) ∷ []
 
 separated_bytes : (text : List ℕ) → body_bytes (separated text) ≤ 4
 separated_bytes text = by_closing (first_closes text)
@@ -108,7 +108,7 @@ text_bytes text =
       bytes_append (says text) (keeps_end text),
       separated_bytes text,
       says_bytes (characters_of text),
-      num_bytes (nat_lt (text_end text) 256),
+      num_bytes (nat_lt (text_ending text) 256),
     )
 
 pub text_many : (text : List ℕ) → length (text_acts text) ≤ 2 + characters text

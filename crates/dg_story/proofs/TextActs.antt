@@ -12,7 +12,7 @@ use Rattle.z_lang.specs.declared.act.Act.TheVariants as acts
 use Rattle.z_lang.specs.State.{State, Program}
 use Rattle.z_lang.specs.Acts.{with_output}
 use Rattle.z_lang.specs.Runs.{ActsOutcome, ActsRun, done, calls}
-use Rattle.dg_story.specs.Texts.{characters_of, say, says, end_with, text_end, separated, text_acts}
+use Rattle.dg_story.specs.Texts.{characters_of, say, says, end_with, text_ending, separated, text_acts}
 use Rattle.dg_story.specs.declared.support.TheConstants.{SEPARATE_ACTS}
 use Rattle.dg_story.specs.inside.Ends.{kept_end}
 use Rattle.dg_story.specs.inside.Cells.{with_cell, Holds}
@@ -103,11 +103,11 @@ module _ (p : Program) (f w : ℕ) (some : 1 ≤ f) (base : p.world.layout.base 
   -- A text is printed behind what was printed, and how it ends is kept.
   pub text_runs : (body more : List Act) (o : ActsOutcome) (s' : State) (n : ℕ) → p.routine_at (p.names.routine 3) ≡ Some (record { locals = 0; body = SEPARATE_ACTS }) → (last : Option ℕ) → cells 6 ≡ kept_end last →
       (cs : List ℕ) (first : ℕ) (text : List ℕ) → All IsPrintable cs → encode_utf8_all cs ≡ first ∷ text →
-      ActsRun p f w body more (record s { memory = with_cell s.memory 6 (text_end (first ∷ text)); output = s.output ++ (separator [] last first ++ (first ∷ text)) }) o s' n →
+      ActsRun p f w body more (record s { memory = with_cell s.memory 6 (text_ending (first ∷ text)); output = s.output ++ (separator [] last first ++ (first ∷ text)) }) o s' n →
       LeadsOn p f w body (text_acts (first ∷ text) ++ more) s o s' (5 + length cs) n
   text_runs body more o s' n at last e cs first text all is rest =
       let whole : List ℕ = first ∷ text in
-      let k = text_end whole in
+      let k = text_ending whole in
       let printed : State = record s { output = s.output ++ (separator [] last first ++ whole) } in
       let put = puts p printed cells 22 k h base (omega arith) (omega arith) (end_small whole) in
       let last_act = done (copies p printed (record printed { memory = with_cell s.memory 6 k }) 22 (atoms.Num k) k refl put.put_is) rest in
@@ -135,10 +135,10 @@ module _ (p : Program) (f w : ℕ) (some : 1 ≤ f) (base : p.world.layout.base 
       with_small None = omega arith
       with_small (Some b) = by_open (opens b)
 
-      end_small : (t : List ℕ) → text_end t < 65536
+      end_small : (t : List ℕ) → text_ending t < 65536
       end_small t = with_small (last_of None t)
 
-      acts_are : (t : List ℕ) (more : List Act) → text_acts t ++ more ≡ separated t ++ (says t ++ acts.Copy 22 (atoms.Num (text_end t)) ∷ more)
+      acts_are : (t : List ℕ) (more : List Act) → text_acts t ++ more ≡ separated t ++ (says t ++ acts.Copy 22 (atoms.Num (text_ending t)) ∷ more)
       acts_are t more =
-          append_assoc (separated t) (says t ++ acts.Copy 22 (atoms.Num (text_end t)) ∷ []) more
-          ∙ ap (λ (l : List Act). separated t ++ l) (append_assoc (says t) (acts.Copy 22 (atoms.Num (text_end t)) ∷ []) more)
+          append_assoc (separated t) (says t ++ acts.Copy 22 (atoms.Num (text_ending t)) ∷ []) more
+          ∙ ap (λ (l : List Act). separated t ++ l) (append_assoc (says t) (acts.Copy 22 (atoms.Num (text_ending t)) ∷ []) more)

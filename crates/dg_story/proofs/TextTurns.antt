@@ -23,7 +23,7 @@ use Rattle.z_lang.specs.Standing.{Context}
 use Rattle.dg_story.specs.declared.support.TheConstants.{SEPARATE_ACTS}
 use Rattle.dg_story.specs.Numbers.{numbers_of, routines_of_op}
 use Rattle.dg_story.specs.declared.texts.Part.TheVariants as part
-use Rattle.dg_story.specs.Texts.{characters_of, say, says, end_with, text_end, text_acts}
+use Rattle.dg_story.specs.Texts.{characters_of, say, says, end_with, text_ending, text_acts}
 use Rattle.dg_story.specs.Routines.{routine, going, pieces, op_routines, ops_routines, all_routines}
 use Rattle.dg_story.specs.inside.Cells.{with_cell, replaced, Holds, state}
 use Rattle.dg_story.specs.inside.Ends.{kept_end}
@@ -229,7 +229,7 @@ module _ (p : Program) (f w : ℕ) (some : 1 ≤ f) (base : p.world.layout.base 
   space_prints : (before : Option ℕ) → last ≡ kept_end before → (first : ℕ) → closes first ≡ false → Printing p f w last (acts.Call None (atoms.Routine 3) args.Zero) (separator [] before first) 4
   space_prints before is first q = record { runs = λ body more s s' o n cells h e rest. calls_separate p f w some base s cells h body more o s' n at before (e ∙ is) first q rest }
 
-  end_small : (t : List ℕ) → text_end t < 65536
+  end_small : (t : List ℕ) → text_ending t < 65536
   end_small t = with_small (last_of None t)
     where
       by_open : (b : Bool) → end_code b < 65536
@@ -242,14 +242,14 @@ module _ (p : Program) (f w : ℕ) (some : 1 ≤ f) (base : p.world.layout.base 
 
   -- The acts of a text print it behind what was printed, and set LAST.
   text_acting : (before : Option ℕ) → last ≡ kept_end before → (cs : List ℕ) (first : ℕ) (text : List ℕ) → All IsPrintable cs → encode_utf8_all cs ≡ first ∷ text →
-      ActsIn p f w last (text_acts (first ∷ text)) (separator [] before first ++ (first ∷ text)) (Some (text_end (first ∷ text))) (length cs + 5)
+      ActsIn p f w last (text_acts (first ∷ text)) (separator [] before first ++ (first ∷ text)) (Some (text_ending (first ∷ text))) (length cs + 5)
   text_acting before is cs first text all e = by_closing (closes first) refl
     where
       whole : List ℕ
       whole = first ∷ text
 
       k : ℕ
-      k = text_end whole
+      k = text_ending whole
 
       said : Acting p f w last (says whole ++ acts.Copy 22 (atoms.Num k) ∷ []) whole (Some k) (length cs + 1)
       said =
@@ -295,7 +295,7 @@ ends_some : (a : ℕ) (text : List ℕ) → kept_end (last_of (Some a) text) ≡
 ends_some a [] = refl
 ends_some a (b ∷ text) = ends_some b text
 
-end_kept : (prints : List Print) (first : ℕ) (text : List ℕ) → (met_from nothing_met prints).gap ≡ [] → text_end (first ∷ text) ≡ kept_end (met_from nothing_met (prints ++ Piece (first ∷ text) ∷ [])).last
+end_kept : (prints : List Print) (first : ℕ) (text : List ℕ) → (met_from nothing_met prints).gap ≡ [] → text_ending (first ∷ text) ≡ kept_end (met_from nothing_met (prints ++ Piece (first ∷ text) ∷ [])).last
 end_kept prints first text e =
     let m = met_from nothing_met prints in
     sym (ends_some first text) ∙ sym (ap (λ (x : Met). kept_end x.last) (met_more nothing_met prints (Piece (first ∷ text) ∷ []) ∙ piece_met m (first ∷ text) e))
@@ -317,7 +317,7 @@ module _ (t : Telling) (story : List ℕ) (c : Context) (pc : ℕ) (plays : Play
       let acting = text_acting t.p 7 80 (omega arith) plays.map.base (plays.routines 3 (routine 0 SEPARATE_ACTS) refl) (cells 6) before mid.last cs first text all is in
       let further = length (text_acts (first ∷ text)) / 1000 in
       let way = n + routines_of_op x in
-      let told = pieces_move t story c pc plays further (render prints) (separator [] before first ++ (first ∷ text)) cells z n way (cells 6) acting.n (text_acts (first ∷ text)) (Some (text_end (first ∷ text))) r.lands here.next refl
+      let told = pieces_move t story c pc plays further (render prints) (separator [] before first ++ (first ∷ text)) cells z n way (cells 6) acting.n (text_acts (first ∷ text)) (Some (text_ending (first ∷ text))) r.lands here.next refl
       (from_front (all_routines t.code t.keeps) n (op_routines ns n x) (ops_routines ns way rest) ops) acting.acting in
       let many = text_many (first ∷ text) in
       let letters : length cs ≡ length (characters_of (first ∷ text)) = ap length (sym (sym (ap characters_of is) ∙ letters_are cs all)) in

@@ -63,8 +63,8 @@ end_with None = 2
 end_with (Some last) = if opens last then 1 else 2
 
 -- How a text ends.
-abbrev pub text_end : List ℕ → ℕ
-text_end text = end_with (last_of None text)
+abbrev pub text_ending : List ℕ → ℕ
+text_ending text = end_with (last_of None text)
 
 -- A space comes in front, where the text doesn't begin with a character that closes.
 abbrev pub separated : List ℕ → List Act
@@ -72,7 +72,7 @@ separated text = if first_closes text then [] else acts.Call None (atoms.Routine
 
 -- A text is printed behind what was printed, and how it ends is kept.
 abbrev pub text_acts : List ℕ → List Act
-text_acts text = separated text ++ (says text ++ acts.Copy 22 (atoms.Num (text_end text)) ∷ [])
+text_acts text = separated text ++ (says text ++ acts.Copy 22 (atoms.Num (text_ending text)) ∷ [])
 
 -- A run ends with a line.
 abbrev pub closing_acts : List ℕ → List Act

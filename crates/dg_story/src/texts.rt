@@ -126,7 +126,7 @@ fn end_with(last: u8) -> u16
 
 // How a text ends.
 fn end_of(text: &[u8]) -> u16
-    ensures { result ≡ spec.text_end text.now }
+    ensures { result ≡ spec.text_ending text.now }
 {
     match text {
         [] => 2,

@@ -12,7 +12,7 @@ use Rattle.z_model.specs.declared.story.StoryRefusal.{StoryRefusal}
 use Rattle.dialog_tool.specs.Command.{debug, play, run, build, singles, make, Command, Task, source_named}
 use Rattle.dialog_tool.specs.Call.{Call, Outside, IsAsTold, file_at, file_of}
 use Rattle.dialog_tool.specs.Lines.{Says, said, unsaid}
-use Rattle.dialog_tool.specs.Playing.{status_of_end, story_run, played, unread, unwritten}
+use Rattle.dialog_tool.specs.Playing.{status_of_end, call_run, played, unread, unwritten}
 use Rattle.dg_compile.specs.Source.{Compiles}
 use Rattle.dialog_tool.specs.Answers.{Answers, Comes, Decides, Prints, Reads, lost, refused, program, RunsSource, ran, input_lost, out_lost, Lists, Makes, reports, overflows, refuses, Loads, lost_story, no_story, story, Builds, no_story_of, plays, HasNone, IsStored, held, not_held, no_room_for_it, Stores, Does, ComesTo, no_memory, does, stores, status_of}
 
@@ -131,7 +131,7 @@ no_story_there c o t result r h (lost_story l p) = early (five c _ result p)
 no_story_there c o t result r h (no_story q k p) = printed c 4 _ result p
 no_story_there c o t result r h (story k p) = let no = sym h ∙ k in cc
 
-played_so : (c : Call) (o : Outside) (t : Task) (result : ℕ) → story_refusal (file_of o t) ≡ None → Loads c o t result → Comes (status_of_end (story_run c o t (file_of o t)).end) result
+played_so : (c : Call) (o : Outside) (t : Task) (result : ℕ) → story_refusal (file_of o t) ≡ None → Loads c o t result → Comes (status_of_end (call_run c o t (file_of o t)).end) result
 played_so c o t result h (lost_story l p) = early (five c _ result p)
 played_so c o t result h (no_story q k p) = let no = sym h ∙ k in cc
 played_so c o t result h (story k (played end e p)) = inl (e ∙ ap status_of_end p.plays.ends)
@@ -203,7 +203,7 @@ decided c result one a =
       no_story = λ o told t words r h. by (Some (play t)) _ words inr (no_story_there c a.outside t result r (found o told t.name (λ l. story_refusal l ≡ Some r) h)) (λ name to e s. cc);
       plays = λ o told typed t words h.
           let same = outside_is a.outside o (here_it_is c.shelf.contents a.outside o told a.found.contents) (as_told c.input.left o.typed a.outside.typed typed a.found.typed) in
-          by (Some (play t)) _ words inr (λ d. subst (λ (p : Outside). Comes (status_of_end (story_run c p t (file_of p t)).end) result) (sym same)
+          by (Some (play t)) _ words inr (λ d. subst (λ (p : Outside). Comes (status_of_end (call_run c p t (file_of p t)).end) result) (sym same)
           (played_so c a.outside t result (subst (λ (p : Outside). story_refusal (file_of p t) ≡ None) same h) d)) (λ name to e s. cc);
     }
   where

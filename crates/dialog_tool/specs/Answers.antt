@@ -24,7 +24,7 @@ use Rattle.dialog_tool.specs.Command.{Command, debug, play, run, build, singles,
 use Rattle.dialog_tool.specs.Call.{Call, Outside, Finds, file_at, file_of, dice_for}
 use Rattle.dialog_tool.specs.Lines.{Says, usage_line, refusal_line, story_line, build_line, file_fault_line}
 use Rattle.dialog_tool.specs.Making.{made_limits, most_output, made_report, too_long_line}
-use Rattle.dialog_tool.specs.Playing.{story_run, status_of_end, PlaysStory}
+use Rattle.dialog_tool.specs.Playing.{call_run, status_of_end, PlaysStory}
 use Rattle.dialog_tool.specs.Report.{report}
 use Rattle.dg_compile.specs.Source.{Compiles}
 
@@ -199,4 +199,4 @@ pub record Decides (c : Call) (result : ℕ) : Type 0 where
   pub no_story : (o : Outside) → c.shelf.contents ≡ Some o.contents → (t : Task) → c.command ≡ Some (play t)
       → (r : StoryRefusal) → story_refusal (file_of o t) ≡ Some r → Comes 4 result
   pub plays : (o : Outside) → c.shelf.contents ≡ Some o.contents → c.input.left ≡ Some o.typed → (t : Task) → c.command ≡ Some (play t)
-      → story_refusal (file_of o t) ≡ None → Comes (status_of_end (story_run c o t (file_of o t)).end) result
+      → story_refusal (file_of o t) ≡ None → Comes (status_of_end (call_run c o t (file_of o t)).end) result

@@ -31,8 +31,8 @@ story_start o bytes = start_state bytes o.typed
 abbrev pub run_up_to : Call → Outside → Task → List ℕ → ℕ → ZRun
 run_up_to c o t bytes n = zrun (story_given c t bytes) n (story_start o bytes)
 
-abbrev pub story_run : Call → Outside → Task → List ℕ → ZRun
-story_run c o t bytes = run_up_to c o t bytes t.steps
+abbrev pub call_run : Call → Outside → Task → List ℕ → ZRun
+call_run c o t bytes = run_up_to c o t bytes t.steps
 
 -- What a run of the task's instructions did, by the player's answer, and which of the typed bytes it left: those that the input tells
 -- behind it, where it told its bytes.
@@ -43,7 +43,7 @@ pub record TaskPlays (answer : Result ZEnd Fault) (c : Call) (o : Outside) (t : 
 
 -- the texts that a run may be writing: its output with the line of its end, or its output up to where the input failed with the line that says so
 pub data MayTell (c : Call) (o : Outside) (t : Task) (bytes text : List ℕ) : Type 0 where
-  whole : text ≡ played_text (story_run c o t bytes) → MayTell c o t bytes text
+  whole : text ≡ played_text (call_run c o t bytes) → MayTell c o t bytes text
   cut_off : (m : ℕ) → (rest : List ℕ) → StoppedAt (story_given c t bytes) (story_start o bytes) t.steps m rest
       → text ≡ with_end_line (run_up_to c o t bytes m).state.output unread_line → MayTell c o t bytes text
 

@@ -1,14 +1,14 @@
 -- Stretches of a run, one behind another.
 use Rattle.std.proofs.Common.{◌≡◌, ℕ, suc, ◌+◌, ap, ◌∙◌, arith}
 use Rattle.z_model.specs.declared.end.Halt.{Halt}
-use Rattle.z_model.specs.Run.{ZGiven, ZState, ZRun, On, Ended, ending_of, go_on, zstep, zrun}
+use Rattle.z_model.specs.Run.{ZGiven, ZState, ZRun, On, Ended, halt_ending, go_on, zstep, zrun}
 use Rattle.z_lang.specs.Leads.{Leads, Ends}
 
 on_step : (w : ZGiven) (k : ℕ) (z z' : ZState) → zstep w z ≡ On z' → zrun w (suc k) z ≡ zrun w k z'
 unfolding zrun
 on_step w k z z' e = ap (go_on (zrun w k)) e
 
-last_step : (w : ZGiven) (k : ℕ) (z z' : ZState) (halt : Halt) → zstep w z ≡ Ended halt z' → zrun w (suc k) z ≡ record { end = ending_of halt; state = z' }
+last_step : (w : ZGiven) (k : ℕ) (z z' : ZState) (halt : Halt) → zstep w z ≡ Ended halt z' → zrun w (suc k) z ≡ record { end = halt_ending halt; state = z' }
 unfolding zrun
 last_step w k z z' halt e = ap (go_on (zrun w k)) e
 
@@ -27,5 +27,5 @@ ends_step w n z z1 r e l = record { by = λ k. let q : suc n + k ≡ suc (n + k)
 pub ends_then : (w : ZGiven) (n m : ℕ) (z z1 : ZState) (r : ZRun) → Leads w n z z1 → Ends w m z1 r → Ends w (n + m) z r
 ends_then w n m z z1 r l e = record { by = λ k. let q : n + m + k ≡ n + (m + k) = omega arith in ap (λ (i : ℕ). zrun w i z) q ∙ l.by (m + k) ∙ e.by k }
 
-pub ends_last : (w : ZGiven) (z z1 : ZState) (halt : Halt) → zstep w z ≡ Ended halt z1 → Ends w 1 z (record { end = ending_of halt; state = z1 })
+pub ends_last : (w : ZGiven) (z z1 : ZState) (halt : Halt) → zstep w z ≡ Ended halt z1 → Ends w 1 z (record { end = halt_ending halt; state = z1 })
 ends_last w z z1 halt e = record { by = λ k. let q : 1 + k ≡ suc k = omega arith in ap (λ (i : ℕ). zrun w i z) q ∙ last_step w k z z1 halt e }

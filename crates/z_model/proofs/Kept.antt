@@ -46,7 +46,7 @@ use Rattle.z_model.specs.Effects.{added, adds, adds_and_tests, pulls, returns_po
 use Rattle.z_model.specs.Step.{do_two, do_one, do_zero, do_several, do_extended, do_instr, machine_step}
 use Rattle.z_model.specs.Text.{string_at, text_bytes}
 use Rattle.z_model.specs.Typed.{typed_line, typed_left}
-use Rattle.z_model.specs.Run.{ZGiven, ZState, Next, On, Ended, go_on, zstep, zrun, next_by, with_output, effect_on, on_unless, line_taken, line_read, key_taken, key_code, with_line, word_at}
+use Rattle.z_model.specs.Run.{ZGiven, ZState, Next, On, Ended, go_on, zstep, zrun, next_by, after_output, effect_on, on_unless, line_taken, line_read, key_taken, key_code, with_line, word_at}
 use Rattle.z_model.specs.Laws.{IsLaid, KeepsCode, CodeStays, state_behind}
 
 -- ---- answers of which something holds
@@ -602,7 +602,7 @@ module _ (w : ZGiven) (laid : IsLaid w.layout) where
   effect_after s (PrintsUnicode c) m k = k
   effect_after s (PrintsNumber x) m k = k
   effect_after s (PrintsText at) m k = k
-  effect_after s (PrintsLine at) m k = unless_after s (with_output s m (text_bytes (string_at m.memory at) ++ 10 ∷ [])) (returned w.layout m 1) (returned_kept w.layout laid s.machine.memory m 1 k)
+  effect_after s (PrintsLine at) m k = unless_after s (after_output s m (text_bytes (string_at m.memory at) ++ 10 ∷ [])) (returned w.layout m 1) (returned_kept w.layout laid s.machine.memory m 1 k)
   effect_after s Draws m k = k
   effect_after s (Reads buffer most store) m k = line_after s m buffer most store s.typed k
   effect_after s (ReadsKey store) m k = key_after s m store s.typed k

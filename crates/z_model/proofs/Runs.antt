@@ -11,7 +11,7 @@ use Rattle.z_model.specs.Machine.{Machine, stored_if}
 use Rattle.z_model.specs.Numbers.{signed_16}
 use Rattle.z_model.specs.Flow.{returned}
 use Rattle.z_model.specs.Step.{machine_step}
-use Rattle.z_model.specs.Run.{ZState, ZGiven, Next, On, Ended, ending_of, ZRun, go_on, zstep, zrun, next_by, with_output, effect_on, on_unless, line_taken, line_read, key_taken, key_code, word_at}
+use Rattle.z_model.specs.Run.{ZState, ZGiven, Next, On, Ended, halt_ending, ZRun, go_on, zstep, zrun, next_by, after_output, effect_on, on_unless, line_taken, line_read, key_taken, key_code, word_at}
 use Rattle.z_model.specs.Typed.{typed_line, typed_left}
 use Rattle.z_model.specs.Text.{string_at, text_bytes}
 use Rattle.z_model.specs.Zscii.{code_utf8}
@@ -19,7 +19,7 @@ use Rattle.std.specs.Prelude.{encode_utf8}
 use Rattle.std.specs.Fmt.{signed_decimal}
 use Rattle.z_model.specs.Laws.{then_more, RunLaws}
 
-halted : (more : ZState → ZRun) (halt : Halt) (s : ZState) → then_more more (record { end = ending_of halt; state = s }) ≡ record { end = ending_of halt; state = s }
+halted : (more : ZState → ZRun) (halt : Halt) (s : ZState) → then_more more (record { end = halt_ending halt; state = s }) ≡ record { end = halt_ending halt; state = s }
 halted more AtQuit s = refl
 halted more AtInput s = refl
 halted more (AtFault fault at) s = refl
@@ -65,7 +65,7 @@ effect_grows w s (PrintsCode c) m = record { behind = code_utf8 c; is = refl }
 effect_grows w s (PrintsUnicode c) m = record { behind = encode_utf8 c; is = refl }
 effect_grows w s (PrintsNumber x) m = record { behind = signed_decimal (signed_16 x); is = refl }
 effect_grows w s (PrintsText at) m = record { behind = text_bytes (string_at m.memory at); is = refl }
-effect_grows w s (PrintsLine at) m = unless_grows s (with_output s m (text_bytes (string_at m.memory at) ++ 10 ∷ [])) (returned w.layout m 1) (record { behind = text_bytes (string_at m.memory at) ++ 10 ∷ []; is = refl })
+effect_grows w s (PrintsLine at) m = unless_grows s (after_output s m (text_bytes (string_at m.memory at) ++ 10 ∷ [])) (returned w.layout m 1) (record { behind = text_bytes (string_at m.memory at) ++ 10 ∷ []; is = refl })
 effect_grows w s Draws m = same_begins s.output
 effect_grows w s (Reads buffer most store) m = line_grows w s m buffer most store s.typed
 effect_grows w s (ReadsKey store) m = key_grows w s m store s.typed

@@ -50,8 +50,8 @@ abbrev pub broken_at : ZState → ZFault → Next
 broken_at s fault = Ended (AtFault fault s.machine.pc) s
 
 -- a state with another machine, and more output
-abbrev pub with_output : ZState → Machine → List ℕ → ZState
-with_output s m text = record s { machine = m; output = s.output ++ text }
+abbrev pub after_output : ZState → Machine → List ℕ → ZState
+after_output s m text = record s { machine = m; output = s.output ++ text }
 
 abbrev pub on_unless : ZState → ZState → Result Machine ZFault → Next
 on_unless s after (Ok m) = On (record after { machine = m })
@@ -87,11 +87,11 @@ key_taken w s m store (byte ∷ typed) = on_unless s (record s { typed = typed }
 -- the outside's part of an instruction, behind which the machine is m
 abbrev pub effect_on : ZGiven → ZState → Effect → Machine → Next
 effect_on w s Goes m = On (record s { machine = m })
-effect_on w s (PrintsCode c) m = On (with_output s m (code_utf8 c))
-effect_on w s (PrintsUnicode c) m = On (with_output s m (encode_utf8 c))
-effect_on w s (PrintsNumber x) m = On (with_output s m (signed_decimal (signed_16 x)))
-effect_on w s (PrintsText at) m = On (with_output s m (text_bytes (string_at m.memory at)))
-effect_on w s (PrintsLine at) m = on_unless s (with_output s m (text_bytes (string_at m.memory at) ++ 10 ∷ [])) (returned w.layout m 1)
+effect_on w s (PrintsCode c) m = On (after_output s m (code_utf8 c))
+effect_on w s (PrintsUnicode c) m = On (after_output s m (encode_utf8 c))
+effect_on w s (PrintsNumber x) m = On (after_output s m (signed_decimal (signed_16 x)))
+effect_on w s (PrintsText at) m = On (after_output s m (text_bytes (string_at m.memory at)))
+effect_on w s (PrintsLine at) m = on_unless s (after_output s m (text_bytes (string_at m.memory at) ++ 10 ∷ [])) (returned w.layout m 1)
 effect_on w s Draws m = On (record s { machine = m; drawn = next_drawn w s.drawn })
 effect_on w s (Reads buffer most store) m = line_taken w s m buffer most store s.typed
 effect_on w s (ReadsKey store) m = key_taken w s m store s.typed
@@ -110,14 +110,14 @@ pub record ZRun : Type 0 where
   pub end : ZEnd
   pub state : ZState
 
-abbrev pub ending_of : Halt → ZEnd
-ending_of AtQuit = ends.Quit
-ending_of AtInput = ends.InputEnded
-ending_of (AtFault fault at) = ends.Broken fault at
+abbrev pub halt_ending : Halt → ZEnd
+halt_ending AtQuit = ends.Quit
+halt_ending AtInput = ends.InputEnded
+halt_ending (AtFault fault at) = ends.Broken fault at
 
 abbrev pub go_on : (ZState → ZRun) → Next → ZRun
 go_on more (On s) = more s
-go_on more (Ended halt s) = record { end = ending_of halt; state = s }
+go_on more (Ended halt s) = record { end = halt_ending halt; state = s }
 
 -- at most n instructions
 unfoldable pub zrun : ZGiven → ℕ → ZState → ZRun

@@ -8,7 +8,7 @@ use Rattle.z_model.specs.declared.end.Halt.TheVariants.{AtQuit, AtInput, AtFault
 use Rattle.z_model.specs.declared.end.ZEnd.TheVariants as ends
 use Rattle.z_model.specs.Machine.{Machine}
 use Rattle.z_model.specs.Step.{machine_step}
-use Rattle.z_model.specs.Run.{ZState, ZGiven, ZRun, Next, word_at, zstep, zrun, go_on, ending_of}
+use Rattle.z_model.specs.Run.{ZState, ZGiven, ZRun, Next, word_at, zstep, zrun, go_on, halt_ending}
 use Rattle.z_model.specs.Closing.{is_open}
 use Rattle.z_play.specs.inside.Effects.{CanFinish}
 use Rattle.dg_base.specs.Written.{SinkView, Wrote, BrokeOff}
@@ -107,9 +107,9 @@ going_on w start n left old here new g c = record {
   begins = opens old here new g.output c.printed g.begins c.begins;
 }
 
-pub run_ended : (w : ZGiven) (start : ZState) (n left : ℕ) (old here new : Scene) (drawn : ℕ) (halt : Halt) (g : Going w start n (left + 1) old here) → Came (next_from w here g.typed) (Some halt) here new → RanTo (zrun w n start) (ending_of halt) old (scene new.machine drawn new.begun new.left new.seen)
+pub run_ended : (w : ZGiven) (start : ZState) (n left : ℕ) (old here new : Scene) (drawn : ℕ) (halt : Halt) (g : Going w start n (left + 1) old here) → Came (next_from w here g.typed) (Some halt) here new → RanTo (zrun w n start) (halt_ending halt) old (scene new.machine drawn new.begun new.left new.seen)
 run_ended w start n left old here new drawn halt g c =
-    let all : zrun w n start ≡ record { end = ending_of halt; state = state c.last c.typed new.drawn (g.output ++ c.printed) } = over_all w start n left old here g _ (c.is g.output) in
+    let all : zrun w n start ≡ record { end = halt_ending halt; state = state c.last c.typed new.drawn (g.output ++ c.printed) } = over_all w start n left old here g _ (c.is g.output) in
     record {
       ends = sym (ap (λ (r : ZRun). r.end) all);
       left = c.left ∙ ap (λ (r : ZRun). Some r.state.typed) (sym all);

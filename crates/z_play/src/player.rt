@@ -1,6 +1,6 @@
 // Stories, loaded and run.
 ghost use Rattle.std.specs.Prelude.{◌≡◌, ◌<◌, ◌++◌, ℕ, List, Some, Err, false, IfOk, IfErr, OnOk, OnErr, length, []};
-ghost use Rattle.z_model.specs.Run.{ZGiven, ZState, ending_of};
+ghost use Rattle.z_model.specs.Run.{ZGiven, ZState, halt_ending};
 ghost use Rattle.z_model.specs.Closing.{is_open, end_line, newline_if, unread_line};
 ghost use Rattle.z_model.specs.Story.{story_refusal, first_machine, given_of, start_state, IsHeader};
 ghost use Rattle.z_play.specs.View.{machine, layout_in, Sound, Kept};
@@ -240,7 +240,7 @@ fn advance<S: Source, K: Sink>(
 }
 
 fn end_as(halt: Halt) -> ZEnd
-    ensures { result ≡ ending_of halt }
+    ensures { result ≡ halt_ending halt }
 {
     match halt {
         Halt::AtQuit => ZEnd::Quit,

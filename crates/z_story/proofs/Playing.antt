@@ -6,7 +6,7 @@ use Rattle.std.proofs.lemmas.Option.{same_Some}
 use Rattle.z_model.specs.Flow.{zeros}
 use Rattle.z_model.specs.Machine.{stored_if}
 use Rattle.z_model.specs.declared.story.Layout.{Layout}
-use Rattle.z_model.specs.Run.{ZGiven, ZState, ZRun, zrun, zstep, ending_of}
+use Rattle.z_model.specs.Run.{ZGiven, ZState, ZRun, zrun, zstep, halt_ending}
 use Rattle.z_model.specs.declared.end.Halt.{Halt}
 use Rattle.z_model.specs.declared.end.Halt.TheVariants.{AtQuit}
 use Rattle.z_model.specs.declared.end.ZEnd.{ZEnd}
@@ -82,9 +82,9 @@ module _ (lists : (given : ZGiven) (names : Names) (rs : List Routine) (story : 
   comes : (k : ℕ) (r : Routine) → slice_get parts.routines k ≡ Some r → (c : Context) (f w n : ℕ) (s s' : State) (o : ActsOutcome) → IsKept p.world.layout.base story s.memory → HasRoom c s f w → ActsRun p f w r.body r.body s o s' n → Follows p story (label_from (first_at parts k) (ops_of_acts r.body)) c o s' n (state_at s c (first_at parts k))
   comes k r e c f w n s s' o kept room runs = follow p story stands (packed_at parts k) r (found_at parts k r e) (label_from (first_at parts k) (ops_of_acts r.body)) (has_code k r e).ops c f w n s s' o kept room runs
 
-  safe_by : (labels : ℕ → ℕ) (c : Context) (n : ℕ) (s' : State) (o : ActsOutcome) (z : ZState) → ((halt : Halt) → o ≡ Stops halt → NotBroken (ending_of halt)) → ArrivesAt p story labels c o s' n z → IsSafe p.world c o s' n z
+  safe_by : (labels : ℕ → ℕ) (c : Context) (n : ℕ) (s' : State) (o : ActsOutcome) (z : ZState) → ((halt : Halt) → o ≡ Stops halt → NotBroken (halt_ending halt)) → ArrivesAt p story labels c o s' n z → IsSafe p.world c o s' n z
   safe_by labels c n s' (Returns x) z well h = λ m back. leads_unbroken p.world n z (machine_state s' m) (h m back)
-  safe_by labels c n s' (Stops halt) z well h = ends_unbroken p.world n z (record { end = ending_of halt; state = h.0 }) h.2 (well halt refl)
+  safe_by labels c n s' (Stops halt) z well h = ends_unbroken p.world n z (record { end = halt_ending halt; state = h.0 }) h.2 (well halt refl)
   safe_by labels c n s' (Rests acts) z well h = leads_unbroken p.world n z (state_at s' c h.pc) h.leads
 
   does : (k : ℕ) (r : Routine) → slice_get parts.routines k ≡ Some r → DoesItsActs (program parts story dice) story (first_at parts k) r
@@ -147,7 +147,7 @@ module _ (lists : (given : ZGiven) (names : Names) (rs : List Routine) (story : 
 
     goes_by : (x : ActsOutcome) → ArrivesAt p story labels first_context x s' (suc n) (start_state story typed) → GoesBy (λ k. zrun p.world k (start_state story typed)) x s'.output (n + 1)
     goes_by (Returns x) h = behind_return x h
-    goes_by (Stops halt) h = λ k le. output_is h.0 h.1 (ending_of halt) k (ended_by p.world (suc n) k (start_state story typed) (record { end = ending_of halt; state = h.0 }) h.2 (omega arith))
+    goes_by (Stops halt) h = λ k le. output_is h.0 h.1 (halt_ending halt) k (ended_by p.world (suc n) k (start_state story typed) (record { end = halt_ending halt; state = h.0 }) h.2 (omega arith))
     goes_by (Rests acts) h =
         let one : suc n ≡ n + 1 = omega arith in
         subst (λ (i : ℕ). IsRun (zrun p.world i (start_state story typed)) ends.StepLimit s'.output) one (output_is (state_at s' first_context h.pc) refl ends.StepLimit (suc n) (led_to p.world (suc n) (start_state story typed) (state_at s' first_context h.pc) h.leads))
@@ -157,12 +157,12 @@ module _ (lists : (given : ZGiven) (names : Names) (rs : List Routine) (story : 
     goes = goes_by o whole
 
     -- a run that isn't broken at the outcome
-    unbroken_by : (x : ActsOutcome) → ArrivesAt p story labels first_context x s' (suc n) (start_state story typed) → ((halt : Halt) → x ≡ Stops halt → NotBroken (ending_of halt)) → IsUnbroken p.world (suc n) (start_state story typed)
+    unbroken_by : (x : ActsOutcome) → ArrivesAt p story labels first_context x s' (suc n) (start_state story typed) → ((halt : Halt) → x ≡ Stops halt → NotBroken (halt_ending halt)) → IsUnbroken p.world (suc n) (start_state story typed)
     unbroken_by (Returns x) h well =
         let back = record s' { locals = [] } in
         let end = end_at image_first call_first in
         leads_unbroken p.world (suc n) (start_state story typed) (state_at back opening end) (h (machine_at back opening end) (comes_back p.world.layout s' end x))
-    unbroken_by (Stops halt) h well = ends_unbroken p.world (suc n) (start_state story typed) (record { end = ending_of halt; state = h.0 }) h.2 (well halt refl) (suc n)
+    unbroken_by (Stops halt) h well = ends_unbroken p.world (suc n) (start_state story typed) (record { end = halt_ending halt; state = h.0 }) h.2 (well halt refl) (suc n)
     unbroken_by (Rests acts) h well = leads_unbroken p.world (suc n) (start_state story typed) (state_at s' first_context h.pc) h.leads
 
     unbroken : IsUnbroken p.world (n + 1) (start_state story typed)

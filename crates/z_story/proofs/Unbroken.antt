@@ -7,7 +7,7 @@ use Rattle.z_model.specs.declared.end.ZEnd.{ZEnd}
 use Rattle.z_model.specs.declared.end.ZEnd.TheVariants as ends
 use Rattle.z_model.specs.Laws.{then_more}
 use Rattle.z_model.proofs.Runs.{run_laws}
-use Rattle.z_model.specs.Run.{ZGiven, ZState, ZRun, zrun, ending_of}
+use Rattle.z_model.specs.Run.{ZGiven, ZState, ZRun, zrun, halt_ending}
 use Rattle.z_lang.specs.declared.act.Act.{Act}
 use Rattle.z_lang.specs.State.{State, Program}
 use Rattle.z_lang.specs.Runs.{ActsOutcome, Stops, ActsRun, rests, at_label, goes, taken, passed, done, calls, calls_last, ends_input, returns, quits}
@@ -42,10 +42,10 @@ ends_unbroken w n z r l well k i le =
     unbroken_to w (n + k) z (λ fault at e. well fault at (ap (λ (x : ZRun). x.end) (sym (l.by k)) ∙ e)) i (omega arith)
 
 -- an end of acts isn't a fault
-quit_is_well : (o : ActsOutcome) (h halt : Halt) → o ≡ Stops halt → o ≡ Stops h → NotBroken (ending_of h) → NotBroken (ending_of halt)
-quit_is_well o h halt e e' well = subst (λ (x : Halt). NotBroken (ending_of x)) (let same : Stops h ≡ Stops halt = sym e' ∙ e in cc same) well
+quit_is_well : (o : ActsOutcome) (h halt : Halt) → o ≡ Stops halt → o ≡ Stops h → NotBroken (halt_ending h) → NotBroken (halt_ending halt)
+quit_is_well o h halt e e' well = subst (λ (x : Halt). NotBroken (halt_ending x)) (let same : Stops h ≡ Stops halt = sym e' ∙ e in cc same) well
 
-pub stops_well : (p : Program) (halt : Halt) {f w n : ℕ} {body acts : List Act} {s s' : State} {o : ActsOutcome} → o ≡ Stops halt → ActsRun p f w body acts s o s' n → NotBroken (ending_of halt)
+pub stops_well : (p : Program) (halt : Halt) {f w n : ℕ} {body acts : List Act} {s s' : State} {o : ActsOutcome} → o ≡ Stops halt → ActsRun p f w body acts s o s' n → NotBroken (halt_ending halt)
 stops_well p halt e rests = absurd (cc)
 stops_well p halt e (at_label r) = stops_well p halt e r
 stops_well p halt e (goes b r) = stops_well p halt e r

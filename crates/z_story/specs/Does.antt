@@ -5,7 +5,7 @@ use Rattle.z_model.specs.declared.fault.ZFault.{ZFault}
 use Rattle.z_model.specs.declared.end.ZEnd.{ZEnd}
 use Rattle.z_model.specs.declared.end.ZEnd.TheVariants as ends
 use Rattle.z_model.specs.Machine.{Machine}
-use Rattle.z_model.specs.Run.{ZGiven, ZState, ZRun, zrun, ending_of}
+use Rattle.z_model.specs.Run.{ZGiven, ZState, ZRun, zrun, halt_ending}
 use Rattle.z_model.specs.Story.{given_of, start_state, memory_of, story_run}
 use Rattle.z_code.specs.Targets.{label_from}
 use Rattle.z_lang.specs.declared.act.Routine.{Routine}
@@ -62,7 +62,7 @@ IsRun run end output = (run.end ≡ end) × (run.state.output ≡ output)
 -- routine returns, the story quits with the next instruction; and else it has come so far.
 abbrev pub GoesBy : (ℕ → ZRun) → ActsOutcome → List ℕ → ℕ → Type 0
 GoesBy run (Returns x) output n = (k : ℕ) → n + 1 ≤ k → IsRun (run k) ends.Quit output
-GoesBy run (Stops halt) output n = (k : ℕ) → n ≤ k → IsRun (run k) (ending_of halt) output
+GoesBy run (Stops halt) output n = (k : ℕ) → n ≤ k → IsRun (run k) (halt_ending halt) output
 GoesBy run (Rests acts) output n = IsRun (run n) ends.StepLimit output
 
 -- Where the first routine's acts run to an outcome in n instructions, within the player's frames and words, the story's run goes by it, and isn't
