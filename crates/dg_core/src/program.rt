@@ -245,7 +245,7 @@ fn rules_of<'a>(
         (scope_view around.now).names.preds) }
     ensures named { IfOk result (λ all. pred_names all.preds.items ≡ (scope_view around.now).names.preds) }
     ensures kept { IfOk result (λ all. (n : ℕ) → rows_kept (scope_view around.now) n all.kept.items
-        ≡ spec.rows_from (scope_view around.now) (record { count_selects = n; closures = 0 }) (map item_view items.now)) }
+        ≡ spec.rows_from (scope_view around.now) (record { selects = n; closures = 0 }) (map item_view items.now)) }
     ensures inner { IfOk result (λ all. selects_kept all.kept.items ≡ spec.inner_selects (map item_view items.now)) }
     ensures sites { IfOk result (λ all. all.before.selects ≡ spec.all_selects (map item_view items.now)) }
 {
