@@ -1,20 +1,25 @@
 -- A variable that is joined to the end of a value, and values in which it doesn't stand.
 use Rattle.std.proofs.lemmas.Bool.{ne_eqb}
-use Rattle.std.proofs.Common.{◌-◌, ◌≤◌, ◌≡◌, ℕ, ◌<◌, refl, sym, ap, ◌∙◌, subst, arith, Some, false}
-use Rattle.std.specs.Prelude.{Bool, Result, Ok, Err}
-use Rattle.dg_meaning.specs.Values.{Value, Var, Node, Pair, More, NoMore}
+use Rattle.std.proofs.Common.{◌-◌, ◌≤◌, ◌≡◌, ℕ, ◌<◌, refl, sym, ap, ◌∙◌, subst, arith, Some, false, length, get_or}
+use Rattle.std.specs.Prelude.{Bool, Result, Ok, Err, max}
+use Rattle.dg_meaning.specs.Values.{Value, Values, Var, Node, Pair, More, NoMore, pair}
 use Rattle.dg_meaning.specs.Substitutions.{walk, resolved, contains, is_bound, IsSubstitution}
-use Rattle.dg_meaning.specs.Unify.{unify, Binds, binds}
+use Rattle.dg_meaning.specs.Unify.{unify, Binds, binds, top}
+use Rattle.dg_meaning.proofs.LookUps.{walk_node}
 use Rattle.dg_meaning.proofs.Walks.{walked, resolved_node}
 use Rattle.dg_unify.specs.Store.{Store, told, or_nil, ShowsVar, ShowsPair, Follows}
 use Rattle.dg_unify.specs.Slots.{label_at, value_in, Fields, AreSound, store_of}
 use Rattle.dg_unify.specs.inside.Ends.{subst_in, told_in, TellsOf, IsEnd, EndsAt, MayLink}
-use Rattle.dg_unify.specs.inside.Turns.{FollowsTurn, TurnsInto, met_of}
+use Rattle.dg_unify.specs.inside.Turns.{IsUnbound, FollowsTurn, TurnsInto, met_of}
+use Rattle.dg_unify.specs.Laws.{place_of_var}
+use Rattle.dg_unify.specs.declared.slots.Slot.{Slot}
+use Rattle.dg_unify.specs.declared.slots.Slot.TheVariants as slot
+use Rattle.dg_unify.proofs.Stores.{bind_var}
 use Rattle.dg_unify.specs.declared.bindings.Ref.{Ref}
 use Rattle.dg_unify.specs.declared.bindings.Full.{Full}
-use Rattle.dg_unify.proofs.StoreLemmas.{Younger, walked_to, holds_told, contains_var}
+use Rattle.dg_unify.proofs.StoreLemmas.{Younger, walked_to, holds_some, holds_told, contains_var}
 use Rattle.dg_unify.proofs.Reading.{simple_told}
-use Rattle.dg_unify.proofs.Meets.{met_vars, met_right, tie_younger, point_follows, unbound_at}
+use Rattle.dg_unify.proofs.Meets.{met_vars, met_left, met_right, tie_younger, point_follows, unbound_at}
 use Rattle.dg_unify.proofs.Goings.{stays_broke}
 use Rattle.dg_arena.specs.Joins.{IsFree, IsAbsent, IsBefore}
 
@@ -80,3 +85,45 @@ module _ (f : Fields) (sound : AreSound f) (to var end : Ref) (n : ℕ) (free : 
 
     pub joins : Follows s new (unify (subst_in f) (told_in f to) (told_in f var)) r
     joins = turn_ends s new sound.fits.sound to var r (turned (told_in f end) refl)
+
+-- ## A variable and a pair of values in which it doesn't stand
+
+number_is : (m n : ℕ) → Some (Var m) ≡ Some (Var n) → m ≡ n
+number_is m n e = cc
+
+module _ (f : Fields) (sound : AreSound f) (var whole head tail : Ref) (n : ℕ) (x : Slot) (read : x ≡ get_or f.slots var.0 x) (is_var : x ≡ slot.Var n) (free : IsUnbound (store_of false f) var)
+    (head_in : TellsOf f head) (tail_in : TellsOf f tail) (is : value_in f.slots whole.0 ≡ Some (pair (told_in f head) (told_in f tail))) (no_head : IsAbsent f head n) (no_tail : IsAbsent f tail n) where
+  abbrev st : Store
+  st = store_of false f
+
+  abbrev parts : Values
+  parts = More (told_in f head) (More (told_in f tail) NoMore)
+
+  whole_is : told_in f whole ≡ Node Pair parts
+  whole_is = ap or_nil is
+
+  pair_clear : IsAbsent f whole n
+  pair_clear = pair_absent f whole head tail n (record { head = told_in f head; tail = told_in f tail; is = whole_is; head_is = holds_told st head head_in; tail_is = holds_told st tail tail_in }) no_head no_tail
+
+  whole_walks : walk (subst_in f) (told_in f whole) ≡ Node Pair parts
+  whole_walks = ap (walk (subst_in f)) whole_is ∙ walk_node (subst_in f) Pair parts
+
+  same_number : free.number ≡ n
+  same_number = bind_var false f var free.number free.value x read n is_var
+
+  pub pair_link : MayLink f n whole
+  pair_link = record {
+    within = subst (λ k. k < f.vars) same_number (sound.fits.below var.0 free.number (place_of_var f.slots (length f.slots) var.0 free.number free.value).1);
+    told = holds_some st whole (Node Pair parts) is;
+    end_is = whole_walks ∙ sym whole_is;
+    fits = record { unbound = subst (λ k. is_bound k (subst_in f) ≡ false) same_number free.free; absent = pair_clear };
+  }
+
+  pub pair_top : (h t : ℕ) → top (told_in f head) ≤ h → top (told_in f tail) ≤ t → top (told_in f whole) ≤ max h t
+  pair_top h t lh lt = rw whole_is (omega (arith, lh, lt))
+
+  pub pair_joins : (new : Store) (r : Result Bool Full) → FollowsTurn st new (Binds n (walk (subst_in f) (told_in f whole))) r → (to : Ref) → ShowsVar st (walked_to st to) var → Follows st new (unify (subst_in f) (told_in f to) (told_in f whole)) r
+  pair_joins new r h to sx =
+      let same : n ≡ sx.number = sym same_number ∙ number_is free.number sx.number (sym free.value ∙ sx.value) in
+      let bound : FollowsTurn st new (binds (subst_in f) n (walked_to st whole)) r = point_follows st new sound.fits.sound n (told_in f whole) (sym pair_clear) r h in
+      turn_ends st new sound.fits.sound to whole r (met_left st new sound.fits.sound to whole var Pair parts r sx whole_walks (subst (λ k. FollowsTurn st new (binds (subst_in f) k (walked_to st whole)) r) same bound))

@@ -1,4 +1,5 @@
 pub mod Rooms
 pub mod Making
+pub mod Fencing
 pub mod Clearing
 pub mod Joining

@@ -1,22 +1,28 @@
 -- What calls that make something leave of an arena.
-use Rattle.std.proofs.Common.{◌≡◌, ℕ, true, ◌+◌, ◌*◌, ◌<◌, ◌≤◌, List, [], ◌∷◌, ◌++◌, Bool, refl, ap, ◌∙◌, arith, Some, false, length, length-append, All}
+use Rattle.std.proofs.Common.{◌≡◌, ℕ, zero, suc, true, ◌+◌, ◌-◌, ◌*◌, ◌<◌, ◌≤◌, List, [], ◌∷◌, ◌++◌, Bool, refl, sym, ap, ◌∙◌, subst, arith, Some, false, length, length-append, append-nil, append_assoc, reverse, All}
 use Rattle.std.specs.Prelude.{◌&&◌}
-use Rattle.dg_meaning.specs.Values.{Value, Node, Unknown, Closure, leaf, pair}
-use Rattle.dg_meaning.specs.Unify.{top}
-use Rattle.dg_unify.specs.Store.{Saved, Store, told, told_parts, IsTold, Kept, Fresh, Made, Blocked, Bound, trail_for}
+use Rattle.dg_meaning.specs.Values.{Value, Var, Node, Unknown, Closure, leaf, pair}
+use Rattle.dg_unify.specs.Store.{State, Saved, Store, told, told_parts, IsTold, Kept, Fresh, Made, Blocked, Bound, trail_for}
 use Rattle.dg_unify.specs.Slots.{value_in, is_constant, Fields, fields_at, AreSound, store_of, Stand, captured_slots, letter_slots, word_slots}
 use Rattle.dg_unify.specs.inside.Ends.{told_in, MayLink}
 use Rattle.dg_unify.specs.declared.bindings.Ref.{Ref}
-use Rattle.dg_unify.specs.Fences.{fence_for_new, fence_for_link}
+use Rattle.dg_unify.specs.Fences.{IsFenced, fence_for_new}
+use Rattle.dg_unify.proofs.Lists.{reverse_snoc}
 use Rattle.dg_unify.specs.declared.bindings.Mark.{Mark}
 use Rattle.dg_unify.specs.declared.fence.Fence.{Fence}
 use Rattle.dg_unify.specs.declared.slots.Slot.{Slot}
 use Rattle.dg_unify.specs.declared.slots.Slot.TheVariants as slot
 use Rattle.dg_unify.specs.declared.slots.Link.{Link}
 use Rattle.dg_unify.proofs.SlotsLemmas.{ArePlain, AreInner, MarksRightly, plain_captured, inner_captured, plain_letters, inner_letters, words_length, no_marks, pair_marks}
-use Rattle.dg_unify.proofs.FenceLemmas.{Stays, end_of, fence_kept, fence_made, fence_linked, fence_undone}
+use Rattle.dg_unify.proofs.FenceLemmas.{Stays, end_of, fence_kept, fence_made, fence_undone}
 use Rattle.dg_unify.proofs.Stores.{Grown, grown_slots, grown_links, kept_grown, stand_grown, fresh_made, fresh_sound, value_made, value_sound, words_sound, block_made, link_sound, link_bound, var_at, pair_at, closure_at, word_at, captured_length, letters_length}
+use Rattle.dg_unify.proofs.StoreLemmas.{kept_same, kept_on}
+use Rattle.dg_unify.specs.Linked.{log_of, vars_of}
+use Rattle.dg_arena.specs.declared.arena.Arena.{Arena}
+use Rattle.dg_arena.specs.Held.{fields_of}
 use Rattle.dg_arena.specs.Room.{WereCounted}
+use Rattle.dg_arena.specs.Rows.{VarsAt, MadeVars}
+use Rattle.dg_arena.specs.inside.Slots.{var_slots}
 
 -- marks that stand, with what they counted
 abbrev pub Marks : Fields → List Saved → Type 0
@@ -119,6 +125,104 @@ makes_var f slots log vars is room es el ev =
       made = λ r at. fresh_made false f f' r is.sound g ev refl refl refl room (ap (value_in slots) at ∙ var_at f.slots slots f.vars (length f.slots) es refl low) at;
     }
 
+-- ---- variables in a row
+
+slots_long : (n k : ℕ) → length (var_slots n k) ≡ k
+slots_long n zero = refl
+slots_long n (suc k) = ap suc (slots_long (suc n) k)
+
+pub one_more_var : (slots slots' : List Slot) (n n' k k' : ℕ) → slots' ≡ slots ++ slot.Var n ∷ [] → n' ≡ n + 1 → k ≡ k' + 1 → slots' ++ var_slots n' k' ≡ slots ++ var_slots n k
+one_more_var slots slots' n n' k k' es en ek =
+    let next : n' ≡ suc n = omega (arith, en) in
+    let less : k ≡ suc k' = omega (arith, ek) in
+    rw (es, next, less) (append_assoc slots (slot.Var n ∷ []) (var_slots (suc n) k'))
+
+leaves_on : (f g h : Fields) → Leaves f g → Leaves g h → Leaves f h
+leaves_on f g h a b = record {
+  sound = b.sound;
+  kept = kept_on (store_of false f) (store_of false g) (store_of false h) a.kept b.kept;
+  saved = λ ms k. b.saved ms (a.saved ms k);
+  counted = b.counted;
+}
+
+leaves_same : (f g : Fields) → IsCounted f → f ≡ g → Leaves f g
+leaves_same f g is e = subst (Leaves f) e (record {
+  sound = is.sound;
+  kept = kept_same (store_of false f);
+  saved = λ ms k. k;
+  counted = is.counted;
+})
+
+abbrev pub with_row : Fields → List Slot → List Link → ℕ → ℕ → Fields
+with_row f slots log vars heap = record f { slots = slots; log = log; vars = vars; heap = heap }
+
+pub record Row (k : ℕ) (f f' : Fields) : Type 0 where
+  pub leaves : Leaves f f'
+  pub state : (store_of false f').state ≡ record (store_of false f).state { vars = f.vars + k; heap = f.heap + k }
+  pub values : (at : ℕ) → at ≡ length f.slots → VarsAt (store_of false f') at f.vars k
+
+row_made : (k : ℕ) (f : Fields) (slots : List Slot) (log : List Link) (vars heap : ℕ) → IsCounted f → f.heap + k ≤ f.heap_limit → slots ≡ f.slots ++ var_slots f.vars k → log ≡ f.log → vars ≡ f.vars + k → heap ≡ f.heap + k → Row k f (with_row f slots log vars heap)
+row_made zero f slots log vars heap is room es el ev eh =
+    let f' = with_row f slots log vars heap in
+    let v0 : vars ≡ f.vars = omega (arith, ev) in
+    let h0 : heap ≡ f.heap = omega (arith, eh) in
+    let same : f ≡ f' = rw (es ∙ append-nil f.slots, el, v0, h0) refl in
+    let nv : f.vars ≡ f.vars + 0 = omega arith in
+    let nh : f.heap ≡ f.heap + 0 = omega arith in
+    let old = (store_of false f).state in
+    record {
+      leaves = leaves_same f f' is same;
+      state = ap (λ (x : Fields). (store_of false x).state) (sym same) ∙ ap (λ v. record old { vars = v }) nv ∙ ap (λ h. record old { vars = f.vars + 0; heap = h }) nh;
+      values = λ at e. tt;
+    }
+row_made (suc k) f slots log vars heap is room es el ev eh =
+    let g = with_var f (f.slots ++ slot.Var f.vars ∷ []) f.log (f.vars + 1) in
+    let one = makes_var f g.slots f.log (f.vars + 1) is (omega arith) refl refl refl in
+    let counted : IsCounted g = record { sound = one.leaves.sound; counted = one.leaves.counted; small = is.small } in
+    let next : suc f.vars ≡ f.vars + 1 = omega arith in
+    let more : slots ≡ g.slots ++ var_slots g.vars k = es ∙ sym (append_assoc f.slots (slot.Var f.vars ∷ []) (var_slots (suc f.vars) k)) ∙ ap (λ n. g.slots ++ var_slots n k) next in
+    let rest = row_made k g slots log vars heap counted (omega arith) more el (omega (arith, ev)) (omega (arith, eh)) in
+    let f' = with_row f slots log vars heap in
+    let fresh = one.made (record { 0 = length f.slots }) refl in
+    let nv : f.vars + 1 + k ≡ f.vars + suc k = omega arith in
+    let nh : f.heap + 1 + k ≡ f.heap + suc k = omega arith in
+    record {
+      leaves = leaves_on f g f' one.leaves rest.leaves;
+      state =
+          rest.state
+          ∙ ap (λ (x : State). record x { vars = f.vars + 1 + k; heap = f.heap + 1 + k }) fresh.state
+          ∙ ap (λ v. record (store_of false f).state { vars = v; heap = f.heap + 1 + k }) nv
+          ∙ ap (λ h. record (store_of false f).state { vars = f.vars + suc k; heap = h }) nh;
+      values = λ at e. (
+        rest.leaves.kept.values (record { 0 = at }) (Var f.vars) (one.made (record { 0 = at }) e).value,
+        subst (λ n. VarsAt (store_of false f') (suc at) n k) (sym next) (rest.values (suc at) (omega (arith, e, length-append f.slots (slot.Var f.vars ∷ [])))),
+      );
+    }
+
+pub record MakesRow (k : ℕ) (f f' : Fields) : Type 0 where
+  pub leaves : Leaves f f'
+  pub fenced : (fence now next : Fence) → now ≡ end_of f → next ≡ fence_for_new fence now → Stays f fence → Stays f' next
+  pub made : (at : ℕ) → at ≡ length f.slots → MadeVars k (store_of false f) (store_of false f') at
+
+pub makes_row : (k : ℕ) (f : Fields) (slots : List Slot) (log : List Link) (vars heap : ℕ) → IsCounted f → f.heap + k ≤ f.heap_limit → slots ≡ f.slots ++ var_slots f.vars k → log ≡ f.log → vars ≡ f.vars + k → heap ≡ f.heap + k → MakesRow k f (with_row f slots log vars heap)
+makes_row k f slots log vars heap is room es el ev eh =
+    let f' = with_row f slots log vars heap in
+    let extra = var_slots f.vars k in
+    let g = grown_slots f f' extra es el refl refl in
+    let row = row_made k f slots log vars heap is room es el ev eh in
+    let long : length slots ≡ length f.slots + k = omega (arith, ap length es, length-append f.slots extra, slots_long f.vars k) in
+    record {
+      leaves = row.leaves;
+      fenced = λ fence now next now_is next_is h. fence_made f f' extra fence now next is.sound g (omega (arith, ev)) now_is next_is h;
+      made = λ at e. record { fits = room; state = row.state; values = row.values at e; place = e; next = long };
+    }
+
+counted_here : (a : Arena) → IsCounted (fields_of a)
+counted_here a = record { sound = a.sound; counted = a.roomy.counted; small = a.roomy.small }
+
+pub row_here : (a : Arena) (k : ℕ) (slots : List Slot) (log : List Link) (vars : ℕ) → k ≤ a.heap_limit - a.heap → slots ≡ a.cells.items ++ var_slots (vars_of a.links) k → log ≡ log_of a.links → vars ≡ vars_of a.links + k → MakesRow k (fields_of a) (with_row (fields_of a) slots log vars (a.heap + k))
+row_here a k slots log vars room es el ev = makes_row k (fields_of a) slots log vars (a.heap + k) (counted_here a) (omega (arith, room, a.sound.heap_fits)) es el ev refl
+
 -- ---- blocks
 
 pub record MakesBlock (f : Fields) (slots : List Slot) (ws : List ℕ) : Type 0 where
@@ -149,7 +253,7 @@ makes_block f slots ws is room es =
 
 pub record Binds (f f' : Fields) (x : ℕ) (to : Ref) : Type 0 where
   pub leaves : Leaves f f'
-  pub fenced : (fence now next : Fence) (t : ℕ) → top (told_in f to) ≤ t → now ≡ end_of f' → next ≡ fence_for_link fence x t now → Stays f fence → Stays f' next
+  pub fenced : (fence : Fence) → IsFenced f.slots (record { var = x; to = to } ∷ reverse f.log) f.vars fence → Stays f' fence
   pub bound : Bound (store_of false f) (store_of false f') x (told_in f to)
 
 abbrev pub with_link : Fields → List Link → ℕ → ℕ → Fields
@@ -161,6 +265,7 @@ binds f log vars n x to is may el ev en fits =
     let f' = with_link f log vars (f.trail + n) in
     let g = grown_links f f' (l ∷ []) refl el refl refl in
     let sound = link_sound f f' x to is.sound may g ev refl fits in
+    let back : reverse log ≡ l ∷ reverse f.log = ap reverse el ∙ reverse_snoc f.log l in
     record {
       leaves = record {
         sound = sound;
@@ -168,7 +273,7 @@ binds f log vars n x to is may el ev en fits =
         saved = λ ms h. marks_grown f f' [] (l ∷ []) ms g (omega arith) h;
         counted = is.counted;
       };
-      fenced = λ fence now next t most now_is next_is h. fence_linked f f' fence now next l t sound g ev most now_is next_is h;
+      fenced = λ fence h. rw (back, ev) h;
       bound = link_bound false f f' x to n may g ev refl refl refl en fits;
     }
 

@@ -1,3 +1,5 @@
 pub mod Held
 pub mod Joins
 pub mod Room
+pub mod Rows
+pub mod inside

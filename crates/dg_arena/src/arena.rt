@@ -1,16 +1,21 @@
 // A store that takes its room once.
 
-ghost use Rattle.std.specs.Prelude.{vec_capacity, ◌≡◌, ◌&&◌, ◌+◌, ◌≤◌, ℕ, List, [], Some, None, true, false};
+ghost use Rattle.std.specs.Prelude.{vec_capacity, ◌≡◌, ◌&&◌, ◌+◌, ◌≤◌, ℕ, List, [], ◌∷◌, Some, None, true, false};
 ghost use Rattle.std.specs.Prelude.{IfOk, IfSome, MatchResult, length, reverse};
-ghost use Rattle.dg_unify.specs.Store.{Holds, Saved, Kept, Shows, HeapFull, TrailFull, Blocked, Bound};
+ghost use Rattle.dg_unify.specs.Store.{Holds, Saved, Kept, told, Shows, ShowsVar, HeapFull, TrailFull, Blocked, Bound};
 ghost use Rattle.dg_unify.specs.Linked.{log_of, vars_of, var_room, link_room};
 ghost use Rattle.dg_unify.specs.Slots.{AreSound, is_constant, store_of};
+ghost use Rattle.dg_meaning.specs.Values.{pair};
+ghost use Rattle.dg_meaning.specs.Substitutions.{walk};
+ghost use Rattle.dg_unify.specs.inside.Turns.{IsUnbound};
 ghost use Rattle.dg_unify.specs.inside.Ends.{TellsOf, told_in, IsEnd, Leads, EndsAt, MayLink};
 ghost use Rattle.dg_unify.specs.Fences.{IsFenced};
 ghost use Rattle.dg_unify.specs.Props.{are_sound_prop, is_fenced_prop};
 ghost use Rattle.dg_arena.specs.Room.{HasRoom};
 ghost use Rattle.dg_arena.specs.Joins.{IsFree, IsAbsent, IsBefore, Joins};
+ghost use Rattle.dg_arena.specs.Rows.{MadeVars};
 
+use crate::rows::push_vars;
 use crate::words::push_words;
 use dg_base::Simple;
 use dg_unify::{
@@ -107,6 +112,26 @@ impl Arena {
         Ok(at)
     }
 
+    /// So many new variables, at places in a row, each of which takes one of the heap; and the first place.
+    #[inline(always)]
+    pub fn row(&mut self, count: u16) -> Result<u32, Full>
+        ensures kept { Kept (meaning_of self.old) (meaning_of self.new) }
+        ensures saved { (ms : List Saved) → saves_of self.old ms → saves_of self.new ms }
+        ensures waits { self.new.waits ≡ self.old.waits }
+        ensures made { MatchResult result (λ at. MadeVars count (meaning_of self.old) (meaning_of self.new) at)
+            (λ e. HeapFull count (meaning_of self.old) (meaning_of self.new) e) }
+    {
+        if self.heap_limit - self.heap < count as u32 {
+            return Err(Full::Heap);
+        }
+        let at = self.cells.len() as u32;
+        let fence = self.fence.for_new(self.fence_now());
+        push_vars(&mut self.cells, &mut self.links, count);
+        self.fence = fence;
+        self.heap += count as u32;
+        Ok(at)
+    }
+
     /// The word at a place of a block.
     pub fn word(&self, at: u32) -> u32
         requires { (w : ℕ) × (meaning_of self.now).word at ≡ Some w }
@@ -151,7 +176,43 @@ impl Arena {
         if !self.is_before(end, var, number) {
             return None;
         }
-        match self.link(number, end) {
+        match self.link_fenced(number, end) {
+            Ok(()) => Some(Ok(true)),
+            Err(full) => Some(Err(full)),
+        }
+    }
+
+    /// Binds an unbound variable to a pair, where it is clear at once that it doesn't stand in the parts of that. Else nothing is
+    /// done.
+    #[inline(always)]
+    pub fn join_pair(
+        &mut self,
+        var: Ref,
+        whole: Ref,
+        head: Ref,
+        tail: Ref,
+    ) -> Option<Result<bool, Full>>
+        requires var_in { IsUnbound (meaning_of self.old) var }
+        requires head_in { Holds (meaning_of self.old) head }
+        requires tail_in { Holds (meaning_of self.old) tail }
+        requires whole_in { (meaning_of self.old).value whole ≡ Some (pair (told (meaning_of self.old) head) (told (meaning_of self.old) tail)) }
+        ensures kept { Kept (meaning_of self.old) (meaning_of self.new) }
+        ensures saved { (ms : List Saved) → saves_of self.old ms → saves_of self.new ms }
+        ensures joined { (to : Ref) → ShowsVar (meaning_of self.old) (walk (meaning_of self.old).state.subst (told (meaning_of self.old) to)) var →
+            Joins (meaning_of self.old) (meaning_of self.new) to whole result }
+    {
+        let number = match self.cells[var.0 as usize] {
+            Slot::Var(number) => number,
+            _ => return None,
+        };
+        if !self.part_clear(head, number) {
+            return None;
+        }
+        if !self.part_clear(tail, number) {
+            return None;
+        }
+        let top = self.part_top(head).max(self.part_top(tail));
+        match self.link_below(number, whole, top) {
             Ok(()) => Some(Ok(true)),
             Err(full) => Some(Err(full)),
         }
@@ -268,7 +329,9 @@ impl Arena {
     #[inline(always)]
     fn is_before(&self, end: Ref, var: Ref, number: u32) -> bool
         requires { TellsOf (fields_of self.now) end }
-        ensures { result ≡ true → IsBefore (fields_of self.now) end var number }
+        ensures before { result ≡ true → IsBefore (fields_of self.now) end var number }
+        ensures fenced { result ≡ true →
+            IsFenced self.now.cells.items (record { var = number; to = end } ∷ reverse (log_of self.now.links)) (vars_of self.now.links) self.now.fence }
     {
         if end.0 >= FIRST_SIMPLE {
             return true;
@@ -364,6 +427,24 @@ impl Arena {
         }
     }
 
+    // The same; of a pair it isn't looked at the parts.
+    #[inline(always)]
+    fn part_top(&self, at: Ref) -> usize
+        requires { TellsOf (fields_of self.now) at }
+        ensures { top (told_in (fields_of self.now) at) ≤ result }
+    {
+        if at.0 >= FIRST_SIMPLE {
+            return 0;
+        }
+        if (at.0 as usize) < self.fence.slots {
+            return self.fence.vars;
+        }
+        match self.cells[at.0 as usize] {
+            Slot::Var(number) => number as usize + 1,
+            _ => self.links.vars(),
+        }
+    }
+
     // Binds a variable to an end.
     #[inline(always)]
     fn link(&mut self, var: u32, to: Ref) -> Result<(), Full>
@@ -374,14 +455,42 @@ impl Arena {
         ensures made { MatchResult result (λ _. Bound (meaning_of self.old) (meaning_of self.new) var (told_in (fields_of self.old) to))
             (λ e. TrailFull (meaning_of self.old) (meaning_of self.new) var e) }
     {
+        let top = self.top_for(to);
+        self.link_below(var, to, top)
+    }
+
+    // The same of an end that has only variables below a number.
+    #[inline(always)]
+    fn link_below(&mut self, var: u32, to: Ref, bound: usize) -> Result<(), Full>
+        requires may { MayLink (fields_of self.old) var to }
+        requires below { top (told_in (fields_of self.old) to) ≤ bound }
+        ensures kept { Kept (meaning_of self.old) (meaning_of self.new) }
+        ensures saved { (ms : List Saved) → saves_of self.old ms → saves_of self.new ms }
+        ensures waits { self.new.waits ≡ self.old.waits }
+        ensures made { MatchResult result (λ _. Bound (meaning_of self.old) (meaning_of self.new) var (told_in (fields_of self.old) to))
+            (λ e. TrailFull (meaning_of self.old) (meaning_of self.new) var e) }
+    {
+        self.fence = self.fence.for_link(var, bound, self.fence_now());
+        self.link_fenced(var, to)
+    }
+
+    // The same, where the fence stands right with this binding.
+    #[inline(always)]
+    fn link_fenced(&mut self, var: u32, to: Ref) -> Result<(), Full>
+        requires may { MayLink (fields_of self.old) var to }
+        requires fenced { IsFenced self.old.cells.items (record { var = var; to = to } ∷ reverse (log_of self.old.links)) (vars_of self.old.links) self.old.fence }
+        ensures kept { Kept (meaning_of self.old) (meaning_of self.new) }
+        ensures saved { (ms : List Saved) → saves_of self.old ms → saves_of self.new ms }
+        ensures waits { self.new.waits ≡ self.old.waits }
+        ensures made { MatchResult result (λ _. Bound (meaning_of self.old) (meaning_of self.new) var (told_in (fields_of self.old) to))
+            (λ e. TrailFull (meaning_of self.old) (meaning_of self.new) var e) }
+    {
         let more = trail_for(self.since, var);
         if self.trail_limit - self.trail < more {
             return Err(Full::Trail);
         }
-        let fence = self.fence.for_link(var, self.top_for(to), self.fence_now());
         self.links.bind_reserved(var, to);
         self.trail += more;
-        self.fence = fence;
         Ok(())
     }
 }

@@ -2,6 +2,7 @@
 #![tactic(auto)]
 
 mod arena;
+mod rows;
 mod words;
 
 pub use arena::Arena;

@@ -1,4 +1,4 @@
-use Rattle.std.proofs.Common.{◌≡◌, arith, true, sym, ap, ◌∙◌, reverse}
+use Rattle.std.proofs.Common.{arith, sym, reverse}
 use Rattle.dg_unify.specs.Linked.{log_of, vars_of}
 use Rattle.dg_unify.proofs.Reading.{within_slots, var_read}
 use Rattle.dg_unify.proofs.FenceLemmas.{between_absent}
