@@ -17,7 +17,7 @@ use Rattle.dg_unify.specs.Store.{State, Store, told, Kept, Holds, Charged, Shows
 use Rattle.dg_unify.specs.declared.bindings.Ref.{Ref}
 use Rattle.dg_unify.specs.declared.bindings.Full.{Full}
 use Rattle.dg_unify.specs.declared.bindings.Full.TheVariants as full
-use Rattle.dg_unify.proofs.StoreLemmas.{kept_on, told_is, holds_some, holds_told}
+use Rattle.dg_unify.proofs.StoreLemmas.{kept_on, kept_told, told_is, holds_some, holds_told}
 use Rattle.dg_unify.proofs.Meets.{more_same}
 use Rattle.dg_unify.proofs.Goings.{broke_later}
 use Rattle.dg_arena.specs.declared.arena.Arena.{Arena}
@@ -75,6 +75,13 @@ follows_pair s t sound v w x y x' y' r wv is f =
 -- what is read of a program where none is at hand
 pub no_program : CoreProgram
 no_program = record { preds = []; closures = []; places = []; objects = []; words = []; sites = 0; entry = 0 }
+
+-- the parts of a pair, and the pair that was made of them
+pub holds_first : (mid now : Arena) (first : Ref) (v : Value) → Stays mid now → (meaning_of mid).value first ≡ Some v → Holds (meaning_of now) first
+holds_first mid now first v t h = holds_some (meaning_of now) first v (t.keeps.kept.values first v h)
+
+pub whole_there : (s w : Store) (first second whole : Ref) → Kept s w → Holds s first → Holds s second → w.value whole ≡ Some (pair (told s first) (told s second)) → w.value whole ≡ Some (pair (told w first) (told w second))
+whole_there s w first second whole kept h k made = rw (kept_told s w first kept h, kept_told s w second kept k) made
 
 module _ (old mid now : Arena) (p : CoreProgram) (vs : List Value) (head tail : Term) (first second arg : Ref) (s : Stays old mid) (t : Stays mid now) (v1 : (meaning_of mid).value first ≡ Some (value_of p vs head)) (v2 : (meaning_of now).value second ≡ Some (value_of p vs tail)) (ha : Holds (meaning_of old) arg) where
   abbrev stays : Stays old now

@@ -1,13 +1,11 @@
 -- Variables in a row.
-use Rattle.std.proofs.Common.{◌≡◌, ℕ, zero, suc, ◌+◌, ◌<◌, ◌≤◌, List, [], ◌∷◌, ◌++◌, Some, None, refl, sym, ap, ◌∙◌, subst, arith, length}
-use Rattle.dg_meaning.specs.Values.{Value, Var}
+use Rattle.std.proofs.Common.{◌≡◌, ℕ, zero, suc, ◌+◌, ◌<◌, ◌≤◌, List, [], None, refl, sym, ap, ◌∙◌, subst, arith, length}
 use Rattle.dg_meaning.specs.Moves.{new_vars}
 use Rattle.dg_base.specs.declared.run.Limits.{Limits}
-use Rattle.dg_unify.specs.Store.{State, Store, Saved, Kept, Charged, HeapFull, Fresh}
-use Rattle.dg_unify.specs.declared.bindings.Ref.{Ref}
-use Rattle.dg_unify.specs.declared.bindings.Full.{Full}
+use Rattle.dg_unify.specs.Store.{State, Store, Saved, Kept, Charged}
 use Rattle.dg_arena.specs.declared.arena.Arena.{Arena}
 use Rattle.dg_arena.specs.Held.{meaning_of, saves_of}
+use Rattle.dg_arena.specs.Rows.{VarsAt, MadeVars}
 use Rattle.dg_mid.specs.declared.code.Code.{Code}
 use Rattle.dg_mid.specs.State.{Mid}
 use Rattle.dg_machine.specs.declared.memory.Memory.{Memory}
@@ -15,54 +13,17 @@ use Rattle.dg_machine.specs.declared.now.Row.{Row}
 use Rattle.dg_machine.specs.Refs.{ValuesAt, RowAt, MadeRow, Keeps}
 use Rattle.dg_unify.proofs.StoreLemmas.{kept_on}
 use Rattle.dg_machine.specs.Layout.{Holds, HasRoom, Lacks, MadeRule, made_state, HasFrameRoom, heap_in}
-use Rattle.dg_machine.proofs.Kept.{values_kept}
 use Rattle.dg_machine.proofs.TermLemmas.{plain_row}
-use Rattle.dg_machine.proofs.Opens.{heap_full, roomy, roomy_on, on_arena, refs_on}
-
-new_vars_more : (n v : ℕ) → new_vars (suc n) v ≡ new_vars n v ++ Var (v + n) ∷ []
-new_vars_more zero v = ap (λ x. Var x ∷ []) (omega arith)
-new_vars_more (suc n) v = ap (λ l. Var v ∷ l) (new_vars_more n (suc v) ∙ ap (λ x. new_vars n (suc v) ++ Var x ∷ []) (omega arith))
+use Rattle.dg_machine.proofs.Opens.{roomy, roomy_on, on_arena, refs_on}
 
 pub new_vars_length : (n v : ℕ) → length (new_vars n v) ≡ n
 new_vars_length zero v = refl
 new_vars_length (suc n) v = ap suc (new_vars_length n (suc v))
 
-values_end : (s : Store) (at : ℕ) (vs : List Value) (v : Value) → ValuesAt s at vs → s.value (record { 0 = at + length vs }) ≡ Some v → ValuesAt s at (vs ++ v ∷ [])
-values_end s at [] v h e = let none : at + 0 ≡ at = omega arith in (subst (λ n. s.value (record { 0 = n }) ≡ Some v) none e, tt)
-values_end s at (w ∷ vs) v h e =
-    let next : at + suc (length vs) ≡ suc at + length vs = omega arith in
-    (h.0, values_end s (suc at) vs v h.1 (subst (λ n. s.value (record { 0 = n }) ≡ Some v) next e))
-
--- so many variables were made in a row, and the next one will stand behind them
-pub record Begun (n : ℕ) (old now : Store) (first : ℕ) : Type 0 where
-  pub state : now.state ≡ record old.state { vars = old.state.vars + n; heap = old.state.heap + n }
-  pub values : ValuesAt now first (new_vars n old.state.vars)
-  pub next : now.places ≡ first + n
-
-pub row_starts : (s t : Store) (r : Ref) → Fresh s t r → Begun 1 s t r.0
-row_starts s t r f = record {
-  state = f.state;
-  values = (f.value, tt);
-  next = omega (arith, f.next, f.place);
-}
-
-pub row_on : (n m : ℕ) (s t u : Store) (first : ℕ) (r : Ref) → m ≡ n + 1 → Begun n s t first → Kept t u → Fresh t u r → Begun m s u first
-row_on n m s t u first r e x kept f =
-    let vars : t.state.vars ≡ s.state.vars + n = ap (λ (y : State). y.vars) x.state in
-    let more : new_vars m s.state.vars ≡ new_vars n s.state.vars ++ Var (s.state.vars + n) ∷ [] = ap (λ k. new_vars k s.state.vars) (let one : m ≡ suc n = omega (arith, e) in one) ∙ new_vars_more n s.state.vars in
-    let place : r.0 ≡ first + length (new_vars n s.state.vars) = omega (arith, f.place, x.next, new_vars_length n s.state.vars) in
-    let there : u.value (record { 0 = first + length (new_vars n s.state.vars) }) ≡ Some (Var (s.state.vars + n)) = subst (λ k. u.value (record { 0 = k }) ≡ Some (Var (s.state.vars + n))) place (f.value ∙ ap (λ k. Some (Var k)) vars) in
-    let heap : s.state.heap + n + 1 ≡ s.state.heap + m = omega (arith, e) in
-    let count : s.state.vars + n + 1 ≡ s.state.vars + m = omega (arith, e) in
-    record {
-      state =
-          f.state
-          ∙ ap (λ (y : State). record y { vars = y.vars + 1; heap = y.heap + 1 }) x.state
-          ∙ ap (λ k. record s.state { vars = k; heap = s.state.heap + n + 1 }) count
-          ∙ ap (λ k. record s.state { vars = s.state.vars + m; heap = k }) heap;
-      values = subst (ValuesAt u first) (sym more) (values_end u first (new_vars n s.state.vars) (Var (s.state.vars + n)) (values_kept t u first (new_vars n s.state.vars) kept x.values) there);
-      next = omega (arith, f.next, x.next, e);
-    }
+-- what a row of the store has
+vars_values : (s : Store) (at n k : ℕ) → VarsAt s at n k → ValuesAt s at (new_vars k n)
+vars_values s at n zero h = tt
+vars_values s at n (suc k) h = (h.0, vars_values s (suc at) (suc n) k h.1)
 
 pub row_none : (s : Store) (row : Row) → row.closure ≡ None → row.captured ≡ 0 → row.count ≡ 0 → MadeRow 0 s s row
 row_none s row none captured e =
@@ -70,19 +31,11 @@ row_none s row none captured e =
     let vars : s.state.vars ≡ s.state.vars + 0 = omega arith in
     record { state = ap (λ k. record s.state { heap = k }) heap ∙ ap (λ k. record s.state { vars = k; heap = s.state.heap + 0 }) vars; row_is = plain_row s row [] none captured tt (sym e) }
 
-pub row_made : (n : ℕ) (s t : Store) (row : Row) → Begun n s t row.first → row.closure ≡ None → row.captured ≡ 0 → row.count ≡ n → MadeRow n s t row
-row_made n s t row x none captured e = record { state = x.state; row_is = plain_row t row (new_vars n s.state.vars) none captured x.values (new_vars_length n s.state.vars ∙ sym e) }
-
-pub row_low : (n : ℕ) (s : Store) (a : Arena) (first : ℕ) → Begun n s (meaning_of a) first → first + n ≤ 2147483648
-row_low n s a first x =
-    let places : (meaning_of a).places ≡ length a.cells.items = refl in
-    omega (arith, x.next, places, a.roomy.counted, a.roomy.small, a.sound.heap_fits)
-
-pub row_full : (n m : ℕ) (a b d : Arena) (first : ℕ) (e : Full) → n + 1 ≤ m → Kept (meaning_of a) (meaning_of b) → Begun n (meaning_of a) (meaning_of b) first → HeapFull 1 (meaning_of b) (meaning_of d) e → (meaning_of a).heap_limit < (meaning_of a).state.heap + m
-row_full n m a b d first e le kept x f =
-    let over = heap_full 1 b d e f in
-    let heap : (meaning_of b).state.heap ≡ (meaning_of a).state.heap + n = ap (λ (y : State). y.heap) x.state in
-    omega (arith, over, heap, kept.heap_limit, le)
+pub row_made : (n : ℕ) (s t : Store) (row : Row) → MadeVars n s t row.first → row.closure ≡ None → row.captured ≡ 0 → row.count ≡ n → MadeRow n s t row
+row_made n s t row x none captured e = record {
+  state = x.state;
+  row_is = plain_row t row (new_vars n s.state.vars) none captured (vars_values t row.first s.state.vars n x.values) (new_vars_length n s.state.vars ∙ sym e);
+}
 
 -- ## A rule
 

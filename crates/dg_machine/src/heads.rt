@@ -13,7 +13,7 @@ ghost use Rattle.dg_machine.specs.Refs.{RowAt, RefsAt, AreRefs, Keeps};
 ghost use Rattle.dg_machine.specs.Heads.{IsFlat, AreFlat, FlatTerm, FlatTerms, flat_in, flat_cells, at_heap, Matches};
 
 use crate::now::Row;
-use crate::terms::{join, match_heads, plain_value};
+use crate::terms::{join, join_pair, match_heads, plain_value};
 use dg_arena::Arena;
 use dg_base::Term;
 use dg_unify::{Bindings, Full, Ref, View, unify};
@@ -81,6 +81,10 @@ fn match_pair(arena: &mut Arena, row: Row, head: &Term, tail: &Term, arg: Ref) -
         View::Pair(a, b) => match arena.charge(3) {
             Err(full) => Err(full),
             Ok(()) => match_heads(arena, &[a, b], &[first, second]),
+        },
+        View::Unbound(var) => match arena.pair(first, second) {
+            Err(full) => Err(full),
+            Ok(whole) => join_pair(arena, arg, var, whole, first, second),
         },
         _ => match arena.pair(first, second) {
             Err(full) => Err(full),

@@ -46,20 +46,13 @@ pub fn make_row(arena: &mut Arena, count: u16) -> Result<Row, Full>
             count,
         });
     }
-    let first = match arena.fresh() {
-        Err(full) => return Err(full),
-        Ok(var) => var.0,
-    };
-    'variables: for _ in 1..count {
-        match arena.fresh() {
-            Err(full) => return Err(full),
-            Ok(_) => {}
-        }
+    match arena.row(count) {
+        Err(full) => Err(full),
+        Ok(first) => Ok(Row {
+            closure: None,
+            captured: 0,
+            first,
+            count,
+        }),
     }
-    Ok(Row {
-        closure: None,
-        captured: 0,
-        first,
-        count,
-    })
 }

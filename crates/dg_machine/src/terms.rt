@@ -3,9 +3,10 @@ ghost use Rattle.std.specs.Prelude.{◌≡◌, List, Some};
 ghost use Rattle.std.specs.List.{zip};
 ghost use Rattle.dg_base.specs.declared.program.Term.{out-Term};
 ghost use Rattle.dg_base.specs.declared.program.CoreProgram.{CoreProgram};
-ghost use Rattle.dg_meaning.specs.Values.{Value, leaf, value_of, value_of_var};
+ghost use Rattle.dg_meaning.specs.Values.{Value, leaf, pair, value_of, value_of_var};
+ghost use Rattle.dg_meaning.specs.Substitutions.{walk};
 ghost use Rattle.dg_meaning.specs.Unify.{solve, unify as unified};
-ghost use Rattle.dg_unify.specs.Store.{Follows, Holds, told, label_of};
+ghost use Rattle.dg_unify.specs.Store.{Follows, Holds, ShowsVar, told, label_of};
 ghost use Rattle.dg_arena.specs.Held.{meaning_of};
 ghost use Rattle.dg_machine.specs.Built.{IsPlain};
 ghost use Rattle.dg_machine.specs.Refs.{RowAt, RefsAt, AreRefs, Keeps, Stays};
@@ -71,6 +72,31 @@ pub fn join(arena: &mut Arena, a: Ref, b: Ref) -> Result<bool, Full>
     match arena.join(a, b) {
         Some(joined) => joined,
         None => unify(arena, a, b),
+    }
+}
+
+/// Unifies a value that leads to an unbound variable with a pair of these parts.
+#[inline(always)]
+pub fn join_pair(
+    arena: &mut Arena,
+    a: Ref,
+    var: Ref,
+    whole: Ref,
+    head: Ref,
+    tail: Ref,
+) -> Result<bool, Full>
+    requires a_in { Holds (meaning_of arena.old) a }
+    requires shows { ShowsVar (meaning_of arena.old) (walk (meaning_of arena.old).state.subst (told (meaning_of arena.old) a)) var }
+    requires head_in { Holds (meaning_of arena.old) head }
+    requires tail_in { Holds (meaning_of arena.old) tail }
+    requires whole_in { (meaning_of arena.old).value whole ≡ Some (pair (told (meaning_of arena.old) head) (told (meaning_of arena.old) tail)) }
+    ensures keeps { Keeps arena.old arena.new }
+    ensures unified { Follows (meaning_of arena.old) (meaning_of arena.new)
+        (unified (meaning_of arena.old).state.subst (told (meaning_of arena.old) a) (told (meaning_of arena.old) whole)) result }
+{
+    match arena.join_pair(var, whole, head, tail) {
+        Some(joined) => joined,
+        None => unify(arena, a, whole),
     }
 }
 
