@@ -10,6 +10,7 @@ use dg_mid::{Key, RuleCode};
 use dg_unify::View;
 
 /// Whether a value without parts has another label than a key.
+#[inline(always)]
 fn simple_differs(simple: Simple, key: Key) -> bool
     ensures { result ≡ differs_from (simple_label simple) (label_of key) }
 {
@@ -33,6 +34,7 @@ fn simple_differs(simple: Simple, key: Key) -> bool
 }
 
 /// Whether what a view shows has another label than a key.
+#[inline(always)]
 fn differs(view: View, key: Key) -> bool
     ensures { result ≡ view_differs view key }
 {
@@ -50,6 +52,7 @@ fn differs(view: View, key: Key) -> bool
 }
 
 /// Whether the first argument of a query, where there is one, excludes the rules of a key.
+#[inline(always)]
 fn excludes(first: Option<View>, key: Key) -> bool
     ensures { result ≡ view_excludes first key }
 {
@@ -60,6 +63,7 @@ fn excludes(first: Option<View>, key: Key) -> bool
 }
 
 /// The rules from the first on that isn't excluded.
+#[inline(always)]
 pub fn pass<'r>(first: Option<View>, rules: &'r [RuleCode]) -> &'r [RuleCode]
     ensures { result.now ≡ codes_from first rules.now }
 {
