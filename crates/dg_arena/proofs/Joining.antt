@@ -19,7 +19,7 @@ use Rattle.dg_unify.specs.declared.bindings.Ref.{Ref}
 use Rattle.dg_unify.specs.declared.bindings.Full.{Full}
 use Rattle.dg_unify.proofs.StoreLemmas.{Younger, walked_to, holds_some, holds_told, contains_var}
 use Rattle.dg_unify.proofs.Reading.{simple_told}
-use Rattle.dg_unify.proofs.Meets.{met_vars, met_left, met_right, tie_younger, point_follows, unbound_at}
+use Rattle.dg_unify.proofs.Meets.{met_vars, met_left, met_right, tie_younger, tie_older, point_follows, unbound_at}
 use Rattle.dg_unify.proofs.Goings.{stays_broke}
 use Rattle.dg_arena.specs.Joins.{IsFree, IsAbsent, IsBefore}
 
@@ -85,6 +85,28 @@ module _ (f : Fields) (sound : AreSound f) (to var end : Ref) (n : ℕ) (free : 
 
     pub joins : Follows s new (unify (subst_in f) (told_in f to) (told_in f var)) r
     joins = turn_ends s new sound.fits.sound to var r (turned (told_in f end) refl)
+
+-- ## The same from the left: a value that ends in the variable, and one in which it doesn't stand
+
+module _ (f : Fields) (sound : AreSound f) (to from end value : Ref) (n : ℕ) (free : IsFree f end n) (leads : EndsAt f to end) (ends : EndsAt f from value) (before : IsBefore f value end n) (new : Store) (young : Younger (store_of false f)) (r : Result Bool Full)
+    (h : FollowsTurn (store_of false f) new (Binds n (walk (subst_in f) (told_in f value))) r) where
+  abbrev here : Store
+  here = store_of false f
+
+  abbrev shows : ShowsVar here (walked_to here to) end
+  shows = record { number = n; is = sym leads.is ∙ ap or_nil free.value; value = free.value }
+
+  turned_left : (w : Value) → told_in f value ≡ w → TurnsInto here new to from (met_of r)
+  turned_left (Var m) is =
+      let sy : ShowsVar here (walked_to here from) value = record { number = m; is = sym ends.is ∙ is; value = holds_told here value ends.told ∙ ap Some is } in
+      let lt : value.0 < end.0 = before.older m is in
+      met_vars here new sound.fits.sound to from end value r shows sy (tie_older here new young end value n m (unbound_at here sound.fits.sound from value sy) free.value sy.value (λ e. omega arith) (omega arith) r h)
+  turned_left (Node l vs) is =
+      met_left here new sound.fits.sound to from end l vs r shows (sym ends.is ∙ is)
+      (subst (λ w. FollowsTurn here new (binds (subst_in f) n w) r) (ends.end_is ∙ ends.is) (point_follows here new sound.fits.sound n (told_in f value) (sym before.absent) r h))
+
+  pub joins_left : Follows here new (unify (subst_in f) (told_in f to) (told_in f from)) r
+  joins_left = turn_ends here new sound.fits.sound to from r (turned_left (told_in f value) refl)
 
 -- ## A variable and a pair of values in which it doesn't stand
 

@@ -3,3 +3,4 @@ pub mod Making
 pub mod Fencing
 pub mod Clearing
 pub mod Joining
+pub mod Settling

@@ -14,6 +14,7 @@ ghost use Rattle.dg_unify.specs.Props.{are_sound_prop, is_fenced_prop};
 ghost use Rattle.dg_arena.specs.Room.{HasRoom};
 ghost use Rattle.dg_arena.specs.Joins.{IsFree, IsAbsent, IsBefore, Joins};
 ghost use Rattle.dg_arena.specs.Rows.{MadeVars};
+ghost use Rattle.dg_arena.specs.inside.Settled.{Settles};
 
 use crate::rows::push_vars;
 use crate::words::push_words;
@@ -23,6 +24,9 @@ use dg_unify::{
     letter_at, number_of, push_captured, push_letters, simple_at, trail_for,
 };
 use std::alloc::{AllocError, Global};
+
+// The first number that names the empty list. Of two smaller ones each names another value without parts.
+const FIRST_NIL: u32 = 2147680256;
 
 /// Values, bindings and blocks of words, in room that is taken once.
 #[derive(Drop)]
@@ -158,8 +162,9 @@ impl Arena {
         });
     }
 
-    /// Unifies a value with an unbound variable, where it is clear at once that the variable is the younger and doesn't stand in the
-    /// value: then it is bound. Else nothing is done.
+    /// Unifies two values, where it is clear at once what comes of that: one is a variable that is younger than the other and doesn't
+    /// stand in it, or both are the same, or the second has no parts. Else nothing is done. It is the faster where the second is a new
+    /// variable.
     #[inline(always)]
     pub fn join(&mut self, to: Ref, var: Ref) -> Option<Result<bool, Full>>
         requires to_in { Holds (meaning_of self.old) to }
@@ -169,7 +174,7 @@ impl Arena {
         ensures joined { Joins (meaning_of self.old) (meaning_of self.new) to var result }
     {
         let number = match self.free_at(var) {
-            None => return None,
+            None => return self.join_known(to, var),
             Some(number) => number,
         };
         let end = self.end_of(to);
@@ -305,6 +310,61 @@ impl Arena {
         ensures { result ≡ (is_constant self.now.cells.items a && is_constant self.now.cells.items b) }
     {
         self.is_constant(a) && self.is_constant(b)
+    }
+
+    // The same, where the second value may be anything.
+    fn join_known(&mut self, to: Ref, from: Ref) -> Option<Result<bool, Full>>
+        requires to_in { Holds (meaning_of self.old) to }
+        requires from_in { Holds (meaning_of self.old) from }
+        ensures kept { Kept (meaning_of self.old) (meaning_of self.new) }
+        ensures saved { (ms : List Saved) → saves_of self.old ms → saves_of self.new ms }
+        ensures joined { Joins (meaning_of self.old) (meaning_of self.new) to from result }
+    {
+        let end = self.end_of(to);
+        let value = self.end_of(from);
+        let number = match self.free_at(end) {
+            None => {
+                return match self.same_ends(end, value) {
+                    None => None,
+                    Some(same) => Some(Ok(same)),
+                };
+            }
+            Some(number) => number,
+        };
+        if !self.is_before(value, end, number) {
+            return None;
+        }
+        match self.link_fenced(number, value) {
+            Ok(()) => Some(Ok(true)),
+            Err(full) => Some(Err(full)),
+        }
+    }
+
+    // Whether two values that are no bound variables are the same, or clash, where that is clear at once.
+    fn same_ends(&self, end: Ref, value: Ref) -> Option<bool>
+        requires end_in { TellsOf (fields_of self.now) end }
+        requires value_in { TellsOf (fields_of self.now) value }
+        ensures { IfSome result (λ same. Settles (fields_of self.now) end value same) }
+    {
+        if end.0 == value.0 {
+            return Some(true);
+        }
+        if value.0 < FIRST_SIMPLE {
+            return None;
+        }
+        if end.0 >= FIRST_SIMPLE {
+            if end.0 < FIRST_NIL {
+                return Some(false);
+            }
+            if value.0 < FIRST_NIL {
+                return Some(false);
+            }
+            return None;
+        }
+        match self.cells[end.0 as usize] {
+            Slot::Var(_) => None,
+            _ => Some(false),
+        }
     }
 
     // The number of an unbound variable, if a value is one.
