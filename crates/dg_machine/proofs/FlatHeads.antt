@@ -14,7 +14,6 @@ use Rattle.dg_machine.specs.declared.memory.Memory.{Memory}
 use Rattle.dg_machine.specs.declared.now.Row.{Row}
 use Rattle.dg_machine.specs.Heads.{FlatTerms}
 use Rattle.dg_machine.specs.Layout.{MadeRule, Matched, Unmatched, Lacks, made_state, headed_state, heap_in, limit_in}
-use Rattle.dg_machine.proofs.HeadMatching.{flat_takes}
 use Rattle.dg_machine.proofs.Opens.{roomy}
 
 module _ (code : Code) (l : Limits) (m : Mid) (p : CoreProgram) (vars n : ℕ) (head : List Term) (flat : FlatTerms head n) (mid : Memory) (row : Row) (made : MadeRule code l vars m mid row) where
@@ -22,7 +21,7 @@ module _ (code : Code) (l : Limits) (m : Mid) (p : CoreProgram) (vars n : ℕ) (
   ruled = record m { state = made_state vars m.state }
 
   takes : cells p head ≡ n
-  takes = flat_takes p head flat.flat ∙ sym flat.takes
+  takes = flat.takes p
 
   heap_is : heap_in mid ≡ m.state.heap + (6 + vars)
   heap_is = ap (λ (s : State). s.heap) made.held.0.state_is

@@ -5,11 +5,12 @@ use Rattle.std.specs.List.{zip}
 use Rattle.std.proofs.lemmas.List.{drop_more, drop_all}
 use Rattle.std.proofs.lemmas.Bool.{cond-true, cond-false}
 use Rattle.dg_base.specs.declared.run.Limits.{Limits}
-use Rattle.dg_meaning.specs.Values.{Value}
-use Rattle.dg_meaning.specs.Substitutions.{Substitution, IsSubstitution}
-use Rattle.dg_meaning.specs.Unify.{Equations, Unified, agreed, counted, solve, unify, and_then}
+use Rattle.dg_meaning.specs.Values.{Value, Pair, More, NoMore, pair}
+use Rattle.dg_meaning.specs.Substitutions.{Substitution, IsSubstitution, walk}
+use Rattle.dg_meaning.specs.Unify.{Equations, Unified, agreed, counted, cost, solve, unify, and_then}
 use Rattle.dg_meaning.proofs.Solving.{solve_extends}
-use Rattle.dg_meaning.proofs.UnifyLaws.{solve_none, solve_first}
+use Rattle.dg_meaning.proofs.LookUps.{walk_node}
+use Rattle.dg_meaning.proofs.UnifyLaws.{solve_none, solve_first, unify_pair}
 use Rattle.dg_meaning.proofs.Bindings.{made_is}
 use Rattle.dg_unify.specs.Store.{State, Store, told, Kept, OnlyBinds, Does, BrokeOff, Follows, UnifyFull, trail_for, trail_of}
 use Rattle.dg_unify.specs.declared.bindings.Ref.{Ref}
@@ -33,26 +34,33 @@ use Rattle.dg_machine.proofs.Opens.{roomy, roomy_on, on_arena, grows_not, refs_o
 abbrev pub pairs_from : List Value → List Value → ℕ → Equations
 pairs_from us ws n = zip (drop n us) (drop n ws)
 
--- what is left, where the answer of the whole is that of the rest
-pub record Matching (old now : State) (us ws : List Value) (n : ℕ) : Type 0 where
+-- what is left of a unification, where the answer of the whole is that of the rest
+pub record Left (old now : State) (es fs : Equations) : Type 0 where
   pub binds : OnlyBinds old now
   pub made : Substitution
   pub grown : now.subst ≡ made ++ old.subst
   pub before : ℕ
-  pub same : solve old.subst (pairs_from us ws 0) ≡ counted before (solve now.subst (pairs_from us ws n))
+  pub same : solve old.subst es ≡ counted before (solve now.subst fs)
+
+-- the same of the pairs from a number on
+abbrev pub Matching : State → State → List Value → List Value → ℕ → Type 0
+Matching old now us ws n = Left old now (pairs_from us ws 0) (pairs_from us ws n)
+
+pub left_starts : (s : State) (es : Equations) → Left s s es es
+left_starts s es = record { binds = more_same s; made = []; grown = refl; before = 0; same = counted_none (solve s.subst es) }
 
 pub matching_starts : (s : State) (us ws : List Value) → Matching s s us ws 0
-matching_starts s us ws = record { binds = more_same s; made = []; grown = refl; before = 0; same = counted_none (solve s.subst (pairs_from us ws 0)) }
+matching_starts s us ws = left_starts s (pairs_from us ws 0)
 
 -- the answer of the rest is that of the whole
-matching_ends : (old now new : Store) (us ws : List Value) (n : ℕ) → Kept old now → Matching old.state now.state us ws n → (r : Result Bool Full) → Follows now new (solve now.state.subst (pairs_from us ws n)) r → Follows old new (solve old.state.subst (pairs_from us ws 0)) r
-matching_ends old now new us ws n kept m (Ok d) u = record {
+pub left_ends : (old now new : Store) (es fs : Equations) → Kept old now → Left old.state now.state es fs → (r : Result Bool Full) → Follows now new (solve now.state.subst fs) r → Follows old new (solve old.state.subst es) r
+left_ends old now new es fs kept m (Ok d) u = record {
   agrees = u.agrees ∙ sym (ap (λ (x : Unified). x.agrees) m.same);
   subst = u.subst ∙ sym (ap (λ (x : Unified). x.subst) m.same);
   binds = binds_on old.state now.state new.state m.binds u.binds;
 }
-matching_ends old now new us ws n kept m (Err e) h =
-    broke_later old now new kept m.binds m.made m.grown (solve now.state.subst (pairs_from us ws n)) (solve old.state.subst (pairs_from us ws 0)) [] (ap (λ (x : Unified). x.subst) m.same) e h
+left_ends old now new es fs kept m (Err e) h =
+    broke_later old now new kept m.binds m.made m.grown (solve now.state.subst fs) (solve old.state.subst es) [] (ap (λ (x : Unified). x.subst) m.same) e h
 
 pub zip_none : {A B : Type 0} (xs : List A) → zip {K = A} {X = B} xs [] ≡ []
 zip_none [] = refl
@@ -66,50 +74,42 @@ none_left us ws n (inr le) = ap (λ (l : List Value). zip (drop n us) l) (drop_a
 pub matched : (old now : Store) (us ws : List Value) (n : ℕ) → Kept old now → IsSubstitution now.state.subst → Matching old.state now.state us ws n → (length us ≤ n) ⊎ (length ws ≤ n) → Follows old now (solve old.state.subst (pairs_from us ws 0)) (Ok true)
 matched old now us ws n kept sound m le =
     let e : solve now.state.subst (pairs_from us ws n) ≡ agreed now.state.subst = ap (solve now.state.subst) (none_left us ws n le) ∙ solve_none now.state.subst sound in
-    matching_ends old now now us ws n kept m (Ok true) (rw e (record { agrees = refl; subst = refl; binds = more_same now.state }))
+    left_ends old now now (pairs_from us ws 0) (pairs_from us ws n) kept m (Ok true) (rw e (record { agrees = refl; subst = refl; binds = more_same now.state }))
 
-module _ (old now : Store) (kept : Kept old now) (sound : IsSubstitution now.state.subst) (us ws : List Value) (n : ℕ) (d : Value) (la : n < length us) (lb : n < length ws) (a : Ref) (w : Value) (ea : told now a ≡ get_or us n d) (eb : w ≡ get_or ws n d) (m : Matching old.state now.state us ws n) where
+-- the first of what is left
+module _ (old now : Store) (kept : Kept old now) (sound : IsSubstitution now.state.subst) (es rest : Equations) (v w : Value) (m : Left old.state now.state es ((v, w) ∷ rest)) where
   abbrev S : Substitution
   S = now.state.subst
 
   abbrev one : Unified
-  one = unify S (told now a) (w)
-
-  abbrev rest : Equations
-  rest = pairs_from us ws (n + 1)
+  one = unify S v w
 
   abbrev next : Substitution → Unified
   next S' = solve S' rest
 
-  -- the first of the pairs that are left
-  first_then : solve S (pairs_from us ws n) ≡ and_then one next
-  first_then =
-      ap (λ (l : List Value). solve S (zip l (drop n ws))) (drop_more us n d la)
-      ∙ ap (λ (l : List Value). solve S (zip (get_or us n d ∷ drop (n + 1) us) l)) (drop_more ws n d lb)
-      ∙ ap (λ v. solve S ((v, get_or ws n d) ∷ rest)) (sym ea)
-      ∙ ap (λ v. solve S ((told now a, v) ∷ rest)) (sym eb)
-      ∙ solve_first S (told now a, w) rest sound
+  first_then : solve S ((v, w) ∷ rest) ≡ and_then one next
+  first_then = solve_first S (v, w) rest sound
 
-  pub match_full : (new : Store) (e : Full) → BrokeOff now new one e → Follows old new (solve old.state.subst (pairs_from us ws 0)) (Err e)
-  match_full new e h =
-      let grew = solve_extends S ((told now a, w) ∷ []) sound in
-      let w = then_extends one next (λ S' is. solve_extends S' rest (subst IsSubstitution (sym is) grew.sound)) in
-      matching_ends old now new us ws n kept m (Err e) (broke_later now now new (kept_same now) (more_same now.state) [] refl one (solve S (pairs_from us ws n)) w.0 (ap (λ (x : Unified). x.subst) first_then ∙ w.1) e h)
+  pub left_full : (new : Store) (e : Full) → BrokeOff now new one e → Follows old new (solve old.state.subst es) (Err e)
+  left_full new e h =
+      let grew = solve_extends S ((v, w) ∷ []) sound in
+      let x = then_extends one next (λ S' is. solve_extends S' rest (subst IsSubstitution (sym is) grew.sound)) in
+      left_ends old now new es ((v, w) ∷ rest) kept m (Err e) (broke_later now now new (kept_same now) (more_same now.state) [] refl one (solve S ((v, w) ∷ rest)) x.0 (ap (λ (y : Unified). y.subst) first_then ∙ x.1) e h)
 
-  pub match_clash : (new : Store) (answer : Bool) → answer ≡ false → Does now new one answer → Follows old new (solve old.state.subst (pairs_from us ws 0)) (Ok false)
-  match_clash new answer is h =
-      let e : solve S (pairs_from us ws n) ≡ one = first_then ∙ cond-false one.agrees (counted one.count (next one.subst)) one (sym h.agrees ∙ is) in
-      matching_ends old now new us ws n kept m (Ok false) (record {
+  pub left_clash : (new : Store) (answer : Bool) → answer ≡ false → Does now new one answer → Follows old new (solve old.state.subst es) (Ok false)
+  left_clash new answer is h =
+      let e : solve S ((v, w) ∷ rest) ≡ one = first_then ∙ cond-false one.agrees (counted one.count (next one.subst)) one (sym h.agrees ∙ is) in
+      left_ends old now new es ((v, w) ∷ rest) kept m (Ok false) (record {
         agrees = sym is ∙ h.agrees ∙ sym (ap (λ (x : Unified). x.agrees) e);
         subst = h.subst ∙ sym (ap (λ (x : Unified). x.subst) e);
         binds = h.binds;
       })
 
-  pub match_on : (new : Store) (answer : Bool) → answer ≡ true → Does now new one answer → Matching old.state new.state us ws (n + 1)
-  match_on new answer is h =
-      let same : solve S (pairs_from us ws n) ≡ counted one.count (solve new.state.subst rest) =
+  pub left_on : (new : Store) (answer : Bool) → answer ≡ true → Does now new one answer → Left old.state new.state es rest
+  left_on new answer is h =
+      let same : solve S ((v, w) ∷ rest) ≡ counted one.count (solve new.state.subst rest) =
       first_then ∙ cond-true one.agrees (counted one.count (next one.subst)) one (sym h.agrees ∙ is) ∙ ap (λ S'. counted one.count (solve S' rest)) (sym h.subst) in
-      let grew = solve_extends S ((told now a, w) ∷ []) sound in
+      let grew = solve_extends S ((v, w) ∷ []) sound in
       record {
         binds = binds_on old.state now.state new.state m.binds h.binds;
         made = grew.made ++ m.made;
@@ -117,6 +117,41 @@ module _ (old now : Store) (kept : Kept old now) (sound : IsSubstitution now.sta
         before = m.before + one.count;
         same = m.same ∙ ap (counted m.before) same ∙ counted_twice m.before one.count (solve new.state.subst rest);
       }
+
+-- of two pairs their parts are left
+pub left_parts : (old now : State) (es : Equations) → IsSubstitution now.subst → (v w x y x' y' : Value) → walk now.subst v ≡ pair x y → w ≡ pair x' y' → Left old now es ((v, w) ∷ []) → Left old now es ((x, x') ∷ (y, y') ∷ [])
+left_parts old now es sound v w x y x' y' wv is m =
+    let S = now.subst in
+    let ww : walk S w ≡ pair x' y' = ap (walk S) is ∙ walk_node S Pair (More x' (More y' NoMore)) in
+    let e : unify S v w ≡ counted (cost S v w) (solve S ((x, x') ∷ (y, y') ∷ [])) = unify_pair S v w x y x' y' sound wv ww ∙ ap (counted (cost S v w)) (sym (solve_first S (x, x') ((y, y') ∷ []) sound)) in
+    record { binds = m.binds; made = m.made; grown = m.grown; before = m.before + cost S v w; same = m.same ∙ ap (counted m.before) e ∙ counted_twice m.before (cost S v w) (solve S ((x, x') ∷ (y, y') ∷ [])) }
+
+module _ (old now : Store) (kept : Kept old now) (sound : IsSubstitution now.state.subst) (us ws : List Value) (n : ℕ) (d : Value) (la : n < length us) (lb : n < length ws) (a : Ref) (w : Value) (ea : told now a ≡ get_or us n d) (eb : w ≡ get_or ws n d) (m : Matching old.state now.state us ws n) where
+  abbrev all : Equations
+  all = pairs_from us ws 0
+
+  abbrev others : Equations
+  others = pairs_from us ws (n + 1)
+
+  -- the first of the pairs that are left
+  first_is : pairs_from us ws n ≡ (told now a, w) ∷ others
+  first_is =
+      ap (λ (l : List Value). zip l (drop n ws)) (drop_more us n d la)
+      ∙ ap (λ (l : List Value). zip (get_or us n d ∷ drop (n + 1) us) l) (drop_more ws n d lb)
+      ∙ ap (λ v. (v, get_or ws n d) ∷ others) (sym ea)
+      ∙ ap (λ v. (told now a, v) ∷ others) (sym eb)
+
+  first_left : Left old.state now.state all ((told now a, w) ∷ others)
+  first_left = subst (λ fs. Left old.state now.state all fs) first_is m
+
+  pub match_full : (new : Store) (e : Full) → BrokeOff now new (unify now.state.subst (told now a) w) e → Follows old new (solve old.state.subst all) (Err e)
+  match_full new e h = left_full old now kept sound all others (told now a) w first_left new e h
+
+  pub match_clash : (new : Store) (answer : Bool) → answer ≡ false → Does now new (unify now.state.subst (told now a) w) answer → Follows old new (solve old.state.subst all) (Ok false)
+  match_clash new answer is h = left_clash old now kept sound all others (told now a) w first_left new answer is h
+
+  pub match_on : (new : Store) (answer : Bool) → answer ≡ true → Does now new (unify now.state.subst (told now a) w) answer → Matching old.state new.state us ws (n + 1)
+  match_on new answer is h = left_on old now kept sound all others (told now a) w first_left new answer is h
 
 -- ## In memory
 

@@ -48,11 +48,11 @@ pub fn body_row(arena: &Arena, closure: Ref, own: Row) -> Row
 }
 
 /// Puts the values of variables in a row, for which there is room, behind others.
-fn push_vars(arena: &mut Arena, row: Row, vars: &[u16], to: &mut Vec<Ref>)
-    requires row { (vs : List Value) × RowAt (meaning_of arena.old) row vs }
+fn push_vars(arena: &mut Arena, row: &Row, vars: &[u16], to: &mut Vec<Ref>)
+    requires row { (vs : List Value) × RowAt (meaning_of arena.old) row.now vs }
     requires room { vec_len to.old + length vars.now ≤ vec_capacity to.old }
     ensures stays { Stays arena.old arena.new }
-    ensures values { (vs : List Value) → RowAt (meaning_of arena.old) row vs →
+    ensures values { (vs : List Value) → RowAt (meaning_of arena.old) row.now vs →
         RefsAt (meaning_of arena.new) (drop (length to.old.items) to.new.items) (map (value_of_var vs) vars.now) }
     ensures before { take (length to.old.items) to.new.items ≡ to.old.items }
     ensures count { length to.new.items ≡ length to.old.items + length vars.now }
@@ -68,14 +68,14 @@ fn push_vars(arena: &mut Arena, row: Row, vars: &[u16], to: &mut Vec<Ref>)
 fn closure_value(
     arena: &mut Arena,
     tables: &Tables,
-    row: Row,
+    row: &Row,
     place: u16,
     spare: &mut Vec<Ref>,
 ) -> Result<Ref, Full>
-    requires row { (vs : List Value) × RowAt (meaning_of arena.old) row vs }
+    requires row { (vs : List Value) × RowAt (meaning_of arena.old) row.now vs }
     requires spare { SpareFits (meaning_of arena.old) (vec_capacity spare.old) spare.old.items }
     ensures keeps { Keeps arena.old arena.new }
-    ensures made { (p : CoreProgram) → (vs : List Value) → IsOf p tables.now → RowAt (meaning_of arena.old) row vs → MatchResult result
+    ensures made { (p : CoreProgram) → (vs : List Value) → IsOf p tables.now → RowAt (meaning_of arena.old) row.now vs → MatchResult result
         (λ r. Made (cells_of p (ClosureTerm place)) (meaning_of arena.old) (meaning_of arena.new) r (value_of p vs (ClosureTerm place)))
         (λ _. Overflows (cells_of p (ClosureTerm place)) (meaning_of arena.old)) }
     ensures spare { OnOk result (spare.new.items ≡ spare.old.items) }
@@ -101,15 +101,15 @@ fn closure_value(
 pub fn leaf_value(
     arena: &mut Arena,
     tables: &Tables,
-    row: Row,
+    row: &Row,
     term: &Term,
     spare: &mut Vec<Ref>,
 ) -> Result<Ref, Full>
     requires leaf { IsNoPair (out-Term term.now) }
-    requires row { (vs : List Value) × RowAt (meaning_of arena.old) row vs }
+    requires row { (vs : List Value) × RowAt (meaning_of arena.old) row.now vs }
     requires spare { SpareFits (meaning_of arena.old) (vec_capacity spare.old) spare.old.items }
     ensures keeps { Keeps arena.old arena.new }
-    ensures made { (p : CoreProgram) → (vs : List Value) → IsOf p tables.now → RowAt (meaning_of arena.old) row vs → MatchResult result
+    ensures made { (p : CoreProgram) → (vs : List Value) → IsOf p tables.now → RowAt (meaning_of arena.old) row.now vs → MatchResult result
         (λ r. Made (cells_of p term.now) (meaning_of arena.old) (meaning_of arena.new) r (value_of p vs term.now))
         (λ _. Overflows (cells_of p term.now) (meaning_of arena.old)) }
     ensures spare { OnOk result (spare.new.items ≡ spare.old.items) }

@@ -1,19 +1,22 @@
 // Heads that are matched as they are read: what a pair of a head says is written only where it isn't there.
-ghost use Rattle.std.specs.Prelude.{◌≡◌, ◌+◌, ◌≤◌, List, true, IfSome, OnOk, map};
+ghost use Rattle.std.specs.Prelude.{◌≡◌, ◌+◌, ◌*◌, ◌≤◌, [], ◌∷◌, List, Some, true, IfSome, OnOk, MatchResult, length, map};
 ghost use Rattle.std.specs.List.{zip};
-ghost use Rattle.dg_base.specs.declared.program.Term.{Term as TheTerm, out-Term};
+ghost use Rattle.dg_base.specs.declared.program.Term.{out-Term};
 ghost use Rattle.dg_base.specs.declared.program.Term.TheVariants.{Pair as Pair-Term};
 ghost use Rattle.dg_base.specs.declared.program.CoreProgram.{CoreProgram};
 ghost use Rattle.dg_meaning.specs.Values.{Value, value_of};
+ghost use Rattle.dg_meaning.specs.Cells.{cells};
+ghost use Rattle.dg_meaning.specs.Substitutions.{walk};
 ghost use Rattle.dg_meaning.specs.Unify.{solve, unify as unified};
-ghost use Rattle.dg_unify.specs.Store.{told, Holds, Follows};
+ghost use Rattle.dg_unify.specs.Store.{told, Holds, Made, ShowsVar, Follows};
 ghost use Rattle.dg_arena.specs.Held.{meaning_of};
 ghost use Rattle.dg_machine.specs.Built.{IsPlain, AreArguments};
 ghost use Rattle.dg_machine.specs.Refs.{RowAt, RefsAt, AreRefs, Keeps};
-ghost use Rattle.dg_machine.specs.Heads.{IsFlat, AreFlat, FlatTerm, FlatTerms, flat_in, flat_cells, at_heap, Matches};
+ghost use Rattle.dg_machine.specs.Heads.{Flat, AreFlat, FlatTerm, FlatTerms, at_heap, listed, Matches};
+ghost use Rattle.dg_machine.specs.inside.Writing.{Overflows};
 
 use crate::now::Row;
-use crate::terms::{join, join_pair, match_heads, plain_value};
+use crate::terms::{join, join_pair, plain_value};
 use dg_arena::Arena;
 use dg_base::Term;
 use dg_unify::{Bindings, Full, Ref, View, unify};
@@ -31,16 +34,19 @@ fn is_plain(term: &Term) -> bool
 fn flat_term(term: &Term) -> Option<u32>
     ensures { IfSome result (λ n. FlatTerm term.now n) }
 {
-    match term {
-        Term::Pair(head, tail) => {
-            if is_plain(head.get()) && is_plain(tail.get()) {
-                Some(3)
-            } else {
-                None
-            }
+    let mut pairs = 0;
+    let mut rest = term;
+    'pairs: while let Term::Pair(head, tail) = rest {
+        if pairs == 12 || !is_plain(head.get()) {
+            return None;
         }
-        Term::Closure(_) => None,
-        _ => Some(0),
+        pairs += 1;
+        rest = tail.get();
+    }
+    if is_plain(rest) {
+        Some(3 * pairs)
+    } else {
+        None
     }
 }
 
@@ -62,72 +68,158 @@ pub fn flat_cells(head: &[Term]) -> Option<u32>
     Some(cells)
 }
 
-/// Unifies a value with a pair of two terms: its parts with them, where it is a pair.
+/// Makes the pairs of a list, whose values and end are there.
+fn make_list(arena: &mut Arena, values: &[Ref], end: Ref) -> Result<Ref, Full>
+    requires values { AreRefs (meaning_of arena.old) values.now }
+    requires end { Holds (meaning_of arena.old) end }
+    ensures keeps { Keeps arena.old arena.new }
+    ensures made { (vs : List Value) → (v : Value) → RefsAt (meaning_of arena.old) values.now vs → (meaning_of arena.old).value end ≡ Some v →
+        MatchResult result (λ r. Made (3 * length values.now) (meaning_of arena.old) (meaning_of arena.new) r (listed vs v))
+        (λ _. Overflows (3 * length values.now) (meaning_of arena.old)) }
+{
+    let mut made = end;
+    let mut left = values.len();
+    'values: while left > 0 {
+        left -= 1;
+        match arena.pair(values[left], made) {
+            Err(full) => return Err(full),
+            Ok(pair) => made = pair,
+        }
+    }
+    Ok(made)
+}
+
+/// The value of a flat term, among variables in a row.
+fn flat_value(arena: &mut Arena, row: &Row, term: &Term) -> Result<Ref, Full>
+    requires flat { Flat term.now }
+    requires row { (vs : List Value) × RowAt (meaning_of arena.old) row.now vs }
+    ensures keeps { Keeps arena.old arena.new }
+    ensures made { (p : CoreProgram) → (vs : List Value) → RowAt (meaning_of arena.old) row.now vs → MatchResult result
+        (λ r. Made (cells p (term.now ∷ [])) (meaning_of arena.old) (meaning_of arena.new) r (value_of p vs term.now))
+        (λ _. Overflows (cells p (term.now ∷ [])) (meaning_of arena.old)) }
+{
+    let mut values = [Ref(0); 12];
+    let mut count = 0;
+    let mut rest = term;
+    'heads: while let Term::Pair(head, tail) = rest {
+        values[count] = plain_value(arena, row, head.get());
+        count += 1;
+        rest = tail.get();
+    }
+    let end = plain_value(arena, row, rest);
+    make_list(arena, &values[..count], end)
+}
+
+/// Unifies a value with that of a flat term, which is written.
+fn match_written(arena: &mut Arena, row: &Row, term: &Term, arg: Ref) -> Result<bool, Full>
+    requires flat { Flat term.now }
+    requires row { (vs : List Value) × RowAt (meaning_of arena.old) row.now vs }
+    requires arg { Holds (meaning_of arena.old) arg }
+    requires room { (p : CoreProgram) → (meaning_of arena.old).state.heap + cells p (term.now ∷ []) ≤ (meaning_of arena.old).heap_limit }
+    ensures keeps { Keeps arena.old arena.new }
+    ensures matched { (p : CoreProgram) → (vs : List Value) → RowAt (meaning_of arena.old) row.now vs →
+        Follows (at_heap ((meaning_of arena.old).state.heap + cells p (term.now ∷ [])) (meaning_of arena.old)) (meaning_of arena.new)
+        (unified (meaning_of arena.old).state.subst (told (meaning_of arena.old) arg) (value_of p vs term.now)) result }
+{
+    match flat_value(arena, row, term) {
+        Err(full) => Err(full),
+        Ok(whole) => unify(arena, arg, whole),
+    }
+}
+
+/// Unifies a value that leads to an unbound variable with a pair of terms without parts.
 #[inline(always)]
-fn match_pair(arena: &mut Arena, row: Row, head: &Term, tail: &Term, arg: Ref) -> Result<bool, Full>
+fn match_unbound(
+    arena: &mut Arena,
+    row: &Row,
+    head: &Term,
+    tail: &Term,
+    arg: Ref,
+    var: Ref,
+) -> Result<bool, Full>
     requires head { IsPlain (out-Term head.now) }
     requires tail { IsPlain (out-Term tail.now) }
-    requires row { (vs : List Value) × RowAt (meaning_of arena.old) row vs }
+    requires row { (vs : List Value) × RowAt (meaning_of arena.old) row.now vs }
     requires arg { Holds (meaning_of arena.old) arg }
+    requires shows { ShowsVar (meaning_of arena.old) (walk (meaning_of arena.old).state.subst (told (meaning_of arena.old) arg)) var }
     requires room { (meaning_of arena.old).state.heap + 3 ≤ (meaning_of arena.old).heap_limit }
     ensures keeps { Keeps arena.old arena.new }
-    ensures matched { (p : CoreProgram) → (vs : List Value) → RowAt (meaning_of arena.old) row vs →
+    ensures matched { (p : CoreProgram) → (vs : List Value) → RowAt (meaning_of arena.old) row.now vs →
         Follows (at_heap ((meaning_of arena.old).state.heap + 3) (meaning_of arena.old)) (meaning_of arena.new)
         (unified (meaning_of arena.old).state.subst (told (meaning_of arena.old) arg) (value_of p vs (Pair-Term head.now tail.now))) result }
 {
     let first = plain_value(arena, row, head);
     let second = plain_value(arena, row, tail);
-    match arena.walk(arg) {
-        View::Pair(a, b) => match arena.charge(3) {
-            Err(full) => Err(full),
-            Ok(()) => match_heads(arena, &[a, b], &[first, second]),
-        },
-        View::Unbound(var) => match arena.pair(first, second) {
-            Err(full) => Err(full),
-            Ok(whole) => join_pair(arena, arg, var, whole, first, second),
-        },
-        _ => match arena.pair(first, second) {
-            Err(full) => Err(full),
-            Ok(whole) => unify(arena, arg, whole),
-        },
+    match arena.pair(first, second) {
+        Err(full) => Err(full),
+        Ok(whole) => join_pair(arena, arg, var, whole, first, second),
     }
 }
 
-/// Unifies a value with that of a flat term.
+/// Unifies a value with that of a term without parts.
 #[inline(always)]
-fn match_flat(arena: &mut Arena, row: Row, term: &Term, arg: Ref) -> Result<bool, Full>
-    requires flat { IsFlat (out-Term term.now) }
-    requires row { (vs : List Value) × RowAt (meaning_of arena.old) row vs }
+fn match_plain(arena: &mut Arena, row: &Row, term: &Term, arg: Ref) -> Result<bool, Full>
+    requires plain { IsPlain (out-Term term.now) }
+    requires row { (vs : List Value) × RowAt (meaning_of arena.old) row.now vs }
     requires arg { Holds (meaning_of arena.old) arg }
-    requires room { (meaning_of arena.old).state.heap + flat_in (out-Term term.now) ≤ (meaning_of arena.old).heap_limit }
     ensures keeps { Keeps arena.old arena.new }
-    ensures matched { (p : CoreProgram) → (vs : List Value) → RowAt (meaning_of arena.old) row vs →
-        Follows (at_heap ((meaning_of arena.old).state.heap + flat_in (out-Term term.now)) (meaning_of arena.old)) (meaning_of arena.new)
+    ensures matched { (p : CoreProgram) → (vs : List Value) → RowAt (meaning_of arena.old) row.now vs →
+        Follows (meaning_of arena.old) (meaning_of arena.new)
         (unified (meaning_of arena.old).state.subst (told (meaning_of arena.old) arg) (value_of p vs term.now)) result }
 {
-    match term {
-        Term::Pair(head, tail) => match_pair(arena, row, head.get(), tail.get(), arg),
-        _ => {
-            let value = plain_value(arena, row, term);
-            join(arena, arg, value)
+    let value = plain_value(arena, row, term);
+    join(arena, arg, value)
+}
+
+/// Unifies a value with that of a flat term: their parts, as far as the value is a list; cells are taken of what is written.
+#[inline(always)]
+fn match_flat(arena: &mut Arena, row: &Row, term: &Term, arg: Ref) -> Result<bool, Full>
+    requires flat { Flat term.now }
+    requires row { (vs : List Value) × RowAt (meaning_of arena.old) row.now vs }
+    requires arg { Holds (meaning_of arena.old) arg }
+    requires room { (p : CoreProgram) → (meaning_of arena.old).state.heap + cells p (term.now ∷ []) ≤ (meaning_of arena.old).heap_limit }
+    ensures keeps { Keeps arena.old arena.new }
+    ensures matched { (p : CoreProgram) → (vs : List Value) → RowAt (meaning_of arena.old) row.now vs →
+        Follows (at_heap (meaning_of arena.new).state.heap (meaning_of arena.old)) (meaning_of arena.new)
+        (unified (meaning_of arena.old).state.subst (told (meaning_of arena.old) arg) (value_of p vs term.now)) result }
+    ensures more { OnOk result ((meaning_of arena.old).state.heap ≤ (meaning_of arena.new).state.heap) }
+    ensures few { OnOk result ((p : CoreProgram) → (meaning_of arena.new).state.heap ≤ (meaning_of arena.old).state.heap + cells p (term.now ∷ [])) }
+{
+    let mut rest = term;
+    let mut at = arg;
+    'pairs: while let Term::Pair(head, tail) = rest {
+        match arena.walk(at) {
+            View::Pair(first, others) => match match_plain(arena, row, head.get(), first) {
+                Err(full) => return Err(full),
+                Ok(false) => return Ok(false),
+                Ok(true) => {
+                    at = others;
+                    rest = tail.get();
+                }
+            },
+            View::Unbound(var) if is_plain(tail.get()) => {
+                return match_unbound(arena, row, head.get(), tail.get(), at, var);
+            }
+            _ => return match_written(arena, row, rest, at),
         }
     }
+    match_plain(arena, row, rest, at)
 }
 
 /// Unifies each argument with the flat term at its place, from left to right up to the end of the shorter list or a clash, and answers
 /// whether all agree.
 #[inline(always)]
-fn match_each(arena: &mut Arena, row: Row, args: &[Ref], head: &[Term]) -> Result<bool, Full>
+fn match_each(arena: &mut Arena, row: &Row, args: &[Ref], head: &[Term]) -> Result<bool, Full>
     requires args { AreRefs (meaning_of arena.old) args.now }
-    requires row { (vs : List Value) × RowAt (meaning_of arena.old) row vs }
+    requires row { (vs : List Value) × RowAt (meaning_of arena.old) row.now vs }
     requires flat { AreFlat head.now }
-    requires room { (meaning_of arena.old).state.heap + flat_cells head.now ≤ (meaning_of arena.old).heap_limit }
+    requires room { (p : CoreProgram) → (meaning_of arena.old).state.heap + cells p head.now ≤ (meaning_of arena.old).heap_limit }
     ensures keeps { Keeps arena.old arena.new }
-    ensures matched { (p : CoreProgram) → (us vs : List Value) → RefsAt (meaning_of arena.old) args.now us → RowAt (meaning_of arena.old) row vs →
+    ensures matched { (p : CoreProgram) → (us vs : List Value) → RefsAt (meaning_of arena.old) args.now us → RowAt (meaning_of arena.old) row.now vs →
         Matches (meaning_of arena.new).state.heap (meaning_of arena.old) (meaning_of arena.new)
         (solve (meaning_of arena.old).state.subst (zip us (map (value_of p vs) head.now))) result }
     ensures more { OnOk result ((meaning_of arena.old).state.heap ≤ (meaning_of arena.new).state.heap) }
-    ensures few { OnOk result ((meaning_of arena.new).state.heap ≤ (meaning_of arena.old).state.heap + flat_cells head.now) }
+    ensures few { OnOk result ((p : CoreProgram) → (meaning_of arena.new).state.heap ≤ (meaning_of arena.old).state.heap + cells p head.now) }
 {
     let mut at = 0;
     'pairs: while at < args.len() && at < head.len() {
@@ -144,17 +236,17 @@ fn match_each(arena: &mut Arena, row: Row, args: &[Ref], head: &[Term]) -> Resul
 #[inline(always)]
 pub fn match_flats(
     arena: &mut Arena,
-    row: Row,
+    row: &Row,
     args: &[Ref],
     head: &[Term],
     cells: u32,
 ) -> Result<bool, Full>
     requires args { AreRefs (meaning_of arena.old) args.now }
-    requires row { (vs : List Value) × RowAt (meaning_of arena.old) row vs }
+    requires row { (vs : List Value) × RowAt (meaning_of arena.old) row.now vs }
     requires flat { FlatTerms head.now cells }
     requires room { (meaning_of arena.old).state.heap + cells ≤ (meaning_of arena.old).heap_limit }
     ensures keeps { Keeps arena.old arena.new }
-    ensures matched { (p : CoreProgram) → (us vs : List Value) → RefsAt (meaning_of arena.old) args.now us → RowAt (meaning_of arena.old) row vs →
+    ensures matched { (p : CoreProgram) → (us vs : List Value) → RefsAt (meaning_of arena.old) args.now us → RowAt (meaning_of arena.old) row.now vs →
         Matches ((meaning_of arena.old).state.heap + cells) (meaning_of arena.old) (meaning_of arena.new)
         (solve (meaning_of arena.old).state.subst (zip us (map (value_of p vs) head.now))) result }
 {

@@ -284,7 +284,7 @@ impl Memory {
         match write_terms(
             &mut self.arena,
             tables,
-            row,
+            &row,
             terms,
             &mut self.args,
             &mut self.path,
@@ -306,7 +306,7 @@ impl Memory {
         match write_one(
             &mut self.arena,
             tables,
-            row,
+            &row,
             a,
             &mut self.args,
             &mut self.path,
@@ -328,7 +328,7 @@ impl Memory {
         match write_both(
             &mut self.arena,
             tables,
-            row,
+            &row,
             a,
             b,
             &mut self.args,
@@ -351,7 +351,7 @@ impl Memory {
         match write_three(
             &mut self.arena,
             tables,
-            row,
+            &row,
             a,
             b,
             c,
@@ -432,7 +432,7 @@ impl Memory {
             return Ok(true);
         }
         let argument = self.arg(1);
-        let parameter = var_value(&mut self.arena, row, row.captured);
+        let parameter = var_value(&mut self.arena, &row, row.captured);
         match unify(&mut self.arena, argument, parameter) {
             Err(full) => Err(full),
             Ok(agreed) => Ok(agreed),
@@ -579,7 +579,7 @@ impl Memory {
         match write_terms(
             &mut self.arena,
             tables,
-            row,
+            &row,
             head,
             &mut self.heads,
             &mut self.path,
@@ -652,7 +652,7 @@ impl Memory {
         ensures values { Kept (meaning_of self.old.arena) (meaning_of self.new.arena) }
         ensures choices { self.new.choices ≡ self.old.choices }
     {
-        match match_flats(&mut self.arena, row, self.args.as_slice(), head, cells) {
+        match match_flats(&mut self.arena, &row, self.args.as_slice(), head, cells) {
             Err(full) => Err(full),
             Ok(agreed) => Ok(agreed),
         }

@@ -12,6 +12,7 @@ ghost use Rattle.dg_machine.specs.inside.Writing.{Overflows, SpareFits};
 use crate::closures::leaf_value;
 use crate::now::{Row, Side};
 use crate::tables::Tables;
+use crate::terms::plain_value;
 use crate::writing::write_term;
 use dg_arena::Arena;
 use dg_base::Term;
@@ -21,17 +22,17 @@ use dg_unify::{Full, Ref};
 fn write_value(
     arena: &mut Arena,
     tables: &Tables,
-    row: Row,
+    row: &Row,
     term: &Term,
     path: &mut Vec<Side>,
     spare: &mut Vec<Ref>,
 ) -> Result<Ref, Full>
     requires fits { (meaning_of arena.old).heap_limit < 3 * vec_capacity path.old + 3 }
-    requires row { (vs : List Value) × RowAt (meaning_of arena.old) row vs }
+    requires row { (vs : List Value) × RowAt (meaning_of arena.old) row.now vs }
     requires spare { SpareFits (meaning_of arena.old) (vec_capacity spare.old) spare.old.items }
     ensures keeps { Keeps arena.old arena.new }
     ensures capacity { vec_capacity path.new ≡ vec_capacity path.old }
-    ensures written { (p : CoreProgram) → (vs : List Value) → IsOf p tables.now → RowAt (meaning_of arena.old) row vs →
+    ensures written { (p : CoreProgram) → (vs : List Value) → IsOf p tables.now → RowAt (meaning_of arena.old) row.now vs →
         MatchResult result (λ r. Made (cells p (term.now ∷ [])) (meaning_of arena.old) (meaning_of arena.new) r (value_of p vs term.now))
         (λ _. Overflows (cells p (term.now ∷ [])) (meaning_of arena.old)) }
     ensures spare { OnOk result (spare.new.items ≡ spare.old.items) }
@@ -48,19 +49,19 @@ fn write_value(
 fn write_next(
     arena: &mut Arena,
     tables: &Tables,
-    row: Row,
+    row: &Row,
     term: &Term,
     to: &mut Vec<Ref>,
     path: &mut Vec<Side>,
     spare: &mut Vec<Ref>,
 ) -> Result<(), Full>
     requires fits { (meaning_of arena.old).heap_limit < 3 * vec_capacity path.old + 3 }
-    requires row { (vs : List Value) × RowAt (meaning_of arena.old) row vs }
+    requires row { (vs : List Value) × RowAt (meaning_of arena.old) row.now vs }
     requires spare { SpareFits (meaning_of arena.old) (vec_capacity spare.old) spare.old.items }
     requires room { length to.old.items < vec_capacity to.old }
     ensures keeps { Keeps arena.old arena.new }
     ensures put { (p : CoreProgram) → (us vs : List Value) → IsOf p tables.now → RefsAt (meaning_of arena.old) to.old.items us →
-        RowAt (meaning_of arena.old) row vs → MatchResult result
+        RowAt (meaning_of arena.old) row.now vs → MatchResult result
         (λ _. Puts (cells p (term.now ∷ [])) (us ++ value_of p vs term.now ∷ []) (meaning_of arena.old) (meaning_of arena.new) to.new.items)
         (λ _. Overflows (cells p (term.now ∷ [])) (meaning_of arena.old)) }
     ensures count { OnOk result (length to.new.items ≡ length to.old.items + 1) }
@@ -70,9 +71,18 @@ fn write_next(
     ensures spare { OnOk result (spare.new.items ≡ spare.old.items) }
     ensures spare_room { vec_capacity spare.new ≡ vec_capacity spare.old }
 {
-    match write_value(arena, tables, row, term, path, spare) {
-        Err(full) => Err(full),
-        Ok(value) => {
+    match term {
+        Term::Pair(_, _) | Term::Closure(_) => {
+            match write_value(arena, tables, row, term, path, spare) {
+                Err(full) => Err(full),
+                Ok(value) => {
+                    to.push_reserved(value);
+                    Ok(())
+                }
+            }
+        }
+        _ => {
+            let value = plain_value(arena, row, term);
             to.push_reserved(value);
             Ok(())
         }
@@ -83,18 +93,18 @@ fn write_next(
 pub fn write_terms(
     arena: &mut Arena,
     tables: &Tables,
-    row: Row,
+    row: &Row,
     terms: &[Term],
     to: &mut Vec<Ref>,
     path: &mut Vec<Side>,
     spare: &mut Vec<Ref>,
 ) -> Result<(), Full>
     requires fits { (meaning_of arena.old).heap_limit < 3 * vec_capacity path.old + 3 }
-    requires row { (vs : List Value) × RowAt (meaning_of arena.old) row vs }
+    requires row { (vs : List Value) × RowAt (meaning_of arena.old) row.now vs }
     requires spare { SpareFits (meaning_of arena.old) (vec_capacity spare.old) spare.old.items }
     requires room { length terms.now ≤ vec_capacity to.old }
     ensures keeps { Keeps arena.old arena.new }
-    ensures put { (p : CoreProgram) → (vs : List Value) → IsOf p tables.now → RowAt (meaning_of arena.old) row vs →
+    ensures put { (p : CoreProgram) → (vs : List Value) → IsOf p tables.now → RowAt (meaning_of arena.old) row.now vs →
         MatchResult result (λ _. Puts (cells p terms.now) (map (value_of p vs) terms.now) (meaning_of arena.old) (meaning_of arena.new) to.new.items)
         (λ _. Overflows (cells p terms.now) (meaning_of arena.old)) }
     ensures few { length to.new.items ≤ length terms.now }
@@ -117,18 +127,18 @@ pub fn write_terms(
 pub fn write_one(
     arena: &mut Arena,
     tables: &Tables,
-    row: Row,
+    row: &Row,
     a: &Term,
     to: &mut Vec<Ref>,
     path: &mut Vec<Side>,
     spare: &mut Vec<Ref>,
 ) -> Result<(), Full>
     requires fits { (meaning_of arena.old).heap_limit < 3 * vec_capacity path.old + 3 }
-    requires row { (vs : List Value) × RowAt (meaning_of arena.old) row vs }
+    requires row { (vs : List Value) × RowAt (meaning_of arena.old) row.now vs }
     requires spare { SpareFits (meaning_of arena.old) (vec_capacity spare.old) spare.old.items }
     requires room { 1 ≤ vec_capacity to.old }
     ensures keeps { Keeps arena.old arena.new }
-    ensures put { (p : CoreProgram) → (vs : List Value) → IsOf p tables.now → RowAt (meaning_of arena.old) row vs →
+    ensures put { (p : CoreProgram) → (vs : List Value) → IsOf p tables.now → RowAt (meaning_of arena.old) row.now vs →
         MatchResult result (λ _. Puts (cells p (a.now ∷ [])) (value_of p vs a.now ∷ []) (meaning_of arena.old) (meaning_of arena.new) to.new.items)
         (λ _. Overflows (cells p (a.now ∷ [])) (meaning_of arena.old)) }
     ensures few { length to.new.items ≤ 1 }
@@ -146,7 +156,7 @@ pub fn write_one(
 pub fn write_both(
     arena: &mut Arena,
     tables: &Tables,
-    row: Row,
+    row: &Row,
     a: &Term,
     b: &Term,
     to: &mut Vec<Ref>,
@@ -154,11 +164,11 @@ pub fn write_both(
     spare: &mut Vec<Ref>,
 ) -> Result<(), Full>
     requires fits { (meaning_of arena.old).heap_limit < 3 * vec_capacity path.old + 3 }
-    requires row { (vs : List Value) × RowAt (meaning_of arena.old) row vs }
+    requires row { (vs : List Value) × RowAt (meaning_of arena.old) row.now vs }
     requires spare { SpareFits (meaning_of arena.old) (vec_capacity spare.old) spare.old.items }
     requires room { 2 ≤ vec_capacity to.old }
     ensures keeps { Keeps arena.old arena.new }
-    ensures put { (p : CoreProgram) → (vs : List Value) → IsOf p tables.now → RowAt (meaning_of arena.old) row vs →
+    ensures put { (p : CoreProgram) → (vs : List Value) → IsOf p tables.now → RowAt (meaning_of arena.old) row.now vs →
         MatchResult result (λ _. Puts (cells p (a.now ∷ b.now ∷ [])) (value_of p vs a.now ∷ value_of p vs b.now ∷ []) (meaning_of arena.old)
         (meaning_of arena.new) to.new.items)
         (λ _. Overflows (cells p (a.now ∷ b.now ∷ [])) (meaning_of arena.old)) }
@@ -179,7 +189,7 @@ pub fn write_both(
 pub fn write_three(
     arena: &mut Arena,
     tables: &Tables,
-    row: Row,
+    row: &Row,
     a: &Term,
     b: &Term,
     c: &Term,
@@ -188,11 +198,11 @@ pub fn write_three(
     spare: &mut Vec<Ref>,
 ) -> Result<(), Full>
     requires fits { (meaning_of arena.old).heap_limit < 3 * vec_capacity path.old + 3 }
-    requires row { (vs : List Value) × RowAt (meaning_of arena.old) row vs }
+    requires row { (vs : List Value) × RowAt (meaning_of arena.old) row.now vs }
     requires spare { SpareFits (meaning_of arena.old) (vec_capacity spare.old) spare.old.items }
     requires room { 3 ≤ vec_capacity to.old }
     ensures keeps { Keeps arena.old arena.new }
-    ensures put { (p : CoreProgram) → (vs : List Value) → IsOf p tables.now → RowAt (meaning_of arena.old) row vs →
+    ensures put { (p : CoreProgram) → (vs : List Value) → IsOf p tables.now → RowAt (meaning_of arena.old) row.now vs →
         MatchResult result (λ _. Puts (cells p (a.now ∷ b.now ∷ c.now ∷ [])) (value_of p vs a.now ∷ value_of p vs b.now ∷ value_of p vs c.now ∷ [])
         (meaning_of arena.old) (meaning_of arena.new) to.new.items)
         (λ _. Overflows (cells p (a.now ∷ b.now ∷ c.now ∷ [])) (meaning_of arena.old)) }

@@ -29,10 +29,10 @@ pub fn simple_value(arena: &mut Arena, simple: Simple) -> Ref
 
 /// The value of a variable in a row; one without a value is the empty list.
 #[inline(always)]
-pub fn var_value(arena: &mut Arena, row: Row, var: u16) -> Ref
-    requires { (vs : List Value) × RowAt (meaning_of arena.old) row vs }
+pub fn var_value(arena: &mut Arena, row: &Row, var: u16) -> Ref
+    requires { (vs : List Value) × RowAt (meaning_of arena.old) row.now vs }
     ensures stays { Stays arena.old arena.new }
-    ensures value { (vs : List Value) → RowAt (meaning_of arena.old) row vs → (meaning_of arena.new).value result ≡ Some (value_of_var vs var) }
+    ensures value { (vs : List Value) → RowAt (meaning_of arena.old) row.now vs → (meaning_of arena.new).value result ≡ Some (value_of_var vs var) }
 {
     match row.at(arena, var) {
         Some(value) => value,
@@ -42,11 +42,11 @@ pub fn var_value(arena: &mut Arena, row: Row, var: u16) -> Ref
 
 /// The value of a term without parts, among variables in a row.
 #[inline(always)]
-pub fn plain_value(arena: &mut Arena, row: Row, term: &Term) -> Ref
+pub fn plain_value(arena: &mut Arena, row: &Row, term: &Term) -> Ref
     requires plain { IsPlain (out-Term term.now) }
-    requires row { (vs : List Value) × RowAt (meaning_of arena.old) row vs }
+    requires row { (vs : List Value) × RowAt (meaning_of arena.old) row.now vs }
     ensures stays { Stays arena.old arena.new }
-    ensures value { (p : CoreProgram) → (vs : List Value) → RowAt (meaning_of arena.old) row vs →
+    ensures value { (p : CoreProgram) → (vs : List Value) → RowAt (meaning_of arena.old) row.now vs →
         (meaning_of arena.new).value result ≡ Some (value_of p vs term.now) }
 {
     match term {

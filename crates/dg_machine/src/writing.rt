@@ -46,19 +46,19 @@ fn reach<'t>(whole: &'t Term, path: &[Side]) -> &'t Term
 fn descend<'t>(
     arena: &mut Arena,
     tables: &Tables,
-    row: Row,
+    row: &Row,
     whole: &'t Term,
     path: &mut Vec<Side>,
     spare: &mut Vec<Ref>,
 ) -> Result<&'t Term, Full>
     requires fits { (meaning_of arena.old).heap_limit < 3 * vec_capacity path.old + 3 }
-    requires row { (vs : List Value) × RowAt (meaning_of arena.old) row vs }
+    requires row { (vs : List Value) × RowAt (meaning_of arena.old) row.now vs }
     requires spare { SpareFits (meaning_of arena.old) (vec_capacity spare.old) spare.old.items }
     ensures keeps { Keeps arena.old arena.new }
     ensures capacity { vec_capacity path.new ≡ vec_capacity path.old }
     ensures leaf { IfOk result (λ end. IsNoPair (out-Term end.now)) }
     ensures end { IfOk result (λ end. end.now ≡ reached path.new.items whole.now) }
-    ensures gone { (p : CoreProgram) → (vs : List Value) → IsOf p tables.now → RowAt (meaning_of arena.old) row vs →
+    ensures gone { (p : CoreProgram) → (vs : List Value) → IsOf p tables.now → RowAt (meaning_of arena.old) row.now vs →
         AreGone (meaning_of arena.old) p vs path.old.items whole.now → MatchResult result
         (λ _. Descends p vs whole.now (meaning_of arena.old) (meaning_of arena.new) path.old.items path.new.items)
         (λ _. Overflows (cells_left p path.old.items whole.now) (meaning_of arena.old)) }
@@ -115,17 +115,17 @@ fn close(arena: &mut Arena, value: Ref, path: &mut Vec<Side>) -> Result<Option<R
 pub fn write_term(
     arena: &mut Arena,
     tables: &Tables,
-    row: Row,
+    row: &Row,
     whole: &Term,
     path: &mut Vec<Side>,
     spare: &mut Vec<Ref>,
 ) -> Result<Ref, Full>
     requires fits { (meaning_of arena.old).heap_limit < 3 * vec_capacity path.old + 3 }
-    requires row { (vs : List Value) × RowAt (meaning_of arena.old) row vs }
+    requires row { (vs : List Value) × RowAt (meaning_of arena.old) row.now vs }
     requires spare { SpareFits (meaning_of arena.old) (vec_capacity spare.old) spare.old.items }
     ensures keeps { Keeps arena.old arena.new }
     ensures capacity { vec_capacity path.new ≡ vec_capacity path.old }
-    ensures written { (p : CoreProgram) → (vs : List Value) → IsOf p tables.now → RowAt (meaning_of arena.old) row vs →
+    ensures written { (p : CoreProgram) → (vs : List Value) → IsOf p tables.now → RowAt (meaning_of arena.old) row.now vs →
         MatchResult result (λ r. Made (cells p (whole.now ∷ [])) (meaning_of arena.old) (meaning_of arena.new) r (value_of p vs whole.now))
         (λ _. Overflows (cells p (whole.now ∷ [])) (meaning_of arena.old)) }
     ensures spare { OnOk result (spare.new.items ≡ spare.old.items) }

@@ -1,12 +1,14 @@
 use Rattle.std.proofs.Common.{◌≡◌, ◌+◌, ◌*◌, ◌≤◌, length}
-use Rattle.dg_machine.specs.Heads.{AreFlat, flat_cells}
+use Rattle.dg_base.specs.declared.program.CoreProgram.{CoreProgram}
+use Rattle.dg_meaning.specs.Cells.{cells}
+use Rattle.dg_machine.specs.Heads.{AreFlat}
 use Rattle.dg_machine.proofs.heads.flat_cells.Given as goal
 
 abbrev pub invariant-terms : goal.invariant-terms
 invariant-terms l = record {
   flat : AreFlat l.rest → AreFlat l.fn.head;
-  takes : l.cells + flat_cells l.rest ≡ flat_cells l.fn.head;
-  few : l.cells + 3 * length l.rest ≤ 36;
+  takes : (p : CoreProgram) → l.cells + cells p l.rest ≡ cells p l.fn.head;
+  few : l.cells + 36 * length l.rest ≤ 432;
 }
 
 abbrev pub decreases-terms : goal.decreases-terms

@@ -1,35 +1,36 @@
 use Rattle.std.proofs.Common.{◌≡◌, ◌+◌, ◌<◌, List, refl, sym, ap, ◌∙◌, subst, arith, inl, inr, length, map, get_or, drop}
 use Rattle.std.specs.Prelude.{Ok}
 use Rattle.std.proofs.lemmas.List.{get_or-map, length-map}
-use Rattle.dg_base.specs.declared.program.Term.{Term, out-Term}
+use Rattle.dg_base.specs.declared.program.Term.{Term}
 use Rattle.dg_meaning.specs.Values.{Value, Nil, leaf, value_of}
 use Rattle.dg_unify.specs.declared.bindings.Ref.{Ref}
 use Rattle.dg_arena.specs.Held.{meaning_of}
-use Rattle.dg_machine.specs.Heads.{IsFlat, flat_in, flat_cells, at_heap}
+use Rattle.dg_machine.specs.Heads.{Flat, at_heap}
+use Rattle.dg_machine.specs.inside.Writing.{cells_of}
 use Rattle.dg_machine.proofs.Kept.{row_kept}
 use Rattle.dg_machine.proofs.TermLemmas.{refs_length}
 use Rattle.dg_machine.proofs.HeadLemmas.{keeps_same, keeps_on}
 use Rattle.dg_machine.proofs.Matching.{matching_starts, matched}
-use Rattle.dg_machine.proofs.HeadMatching.{no_program, kept_from, flat_at, cells_at, arg_told, arg_there, each_full, each_clash, each_on}
+use Rattle.dg_machine.proofs.HeadMatching.{kept_from, flat_at, cells_at, arg_told, arg_there, each_full, each_clash, each_on}
 use Rattle.dg_machine.proofs.heads.match_each.Goals as goal
 
 pub pairs-init : goal.pairs-init
-pairs-init c = record { keeps = keeps_same c.args.arena.now; matching = λ p us vs ha hr. matching_starts (meaning_of c.args.arena.now).state us (map (value_of p vs) c.args.head.now); more = omega arith; taken = refl }
+pairs-init c = record { keeps = keeps_same c.args.arena.now; matching = λ p us vs ha hr. matching_starts (meaning_of c.args.arena.now).state us (map (value_of p vs) c.args.head.now); more = omega arith; taken = λ p. omega arith }
 
 pub match_flat-requires-clause-flat : goal.match_flat-requires-clause-flat
 match_flat-requires-clause-flat c =
     let x = flat_at c.args.head.now c.pairs.at c.index-head-at.result c.requires.flat c.if-at-head.true in
-    subst (λ t. IsFlat (out-Term t)) (sym c.index-head-at.is) x
+    subst Flat (sym c.index-head-at.is) x
 
 pub match_flat-requires-clause-room : goal.match_flat-requires-clause-room
-match_flat-requires-clause-room c =
-    let first = cells_at c.args.head.now c.pairs.at c.index-head-at.result c.if-at-head.true in
-    let same = ap (λ t. flat_in (out-Term t)) c.index-head-at.is in
+match_flat-requires-clause-room c p =
+    let first = cells_at p c.args.head.now c.pairs.at c.index-head-at.result c.if-at-head.true in
+    let same = ap (cells_of p) c.index-head-at.is in
     let limit = c.pairs.invariant.keeps.kept.heap_limit in
-    omega (arith, first, same, limit, c.pairs.invariant.taken, c.requires.room)
+    omega (arith, first, same, limit, c.pairs.invariant.taken p, c.requires.room p)
 
 pub match_flat-requires-clause-row : goal.match_flat-requires-clause-row
-match_flat-requires-clause-row c = (c.requires.row.0, row_kept (meaning_of c.args.arena.now) (meaning_of c.pairs.arena) c.args.row c.requires.row.0 c.pairs.invariant.keeps.kept c.requires.row.1)
+match_flat-requires-clause-row c = (c.requires.row.0, row_kept (meaning_of c.args.arena.now) (meaning_of c.pairs.arena) c.args.row.now c.requires.row.0 c.pairs.invariant.keeps.kept c.requires.row.1)
 
 pub match_flat-requires-clause-arg : goal.match_flat-requires-clause-arg
 match_flat-requires-clause-arg c = arg_there c.args.arena.now c.pairs.arena c.pairs.invariant.keeps c.args.args.now c.pairs.at c.pairs-test.true c.requires.args
@@ -45,8 +46,8 @@ returns-in-Err-clause-matched c p us vs ha hr =
     let la : n < length us = omega (arith, c.pairs-test.true, refs_length (meaning_of old) c.args.args.now us ha) in
     let lb : n < length (map (value_of p vs) head) = omega (arith, c.if-at-head.true, length-map head (value_of p vs)) in
     let ew : value_of p vs term ≡ get_or (map (value_of p vs) head) n d = ap (value_of p vs) c.index-head-at.is ∙ sym (get_or-map (value_of p vs) head n term d c.if-at-head.true) in
-    let row = row_kept (meaning_of old) (meaning_of now) c.args.row vs c.pairs.invariant.keeps.kept hr in
-    each_full old now c.pairs.invariant.keeps us (map (value_of p vs) head) n (flat_in (out-Term term)) d la lb (get_or c.args.args.now n (record { 0 = 0 })) (value_of p vs term) (arg_told old now c.pairs.invariant.keeps c.args.args.now us n c.pairs-test.true ha) ew
+    let row = row_kept (meaning_of old) (meaning_of now) c.args.row.now vs c.pairs.invariant.keeps.kept hr in
+    each_full old now c.pairs.invariant.keeps us (map (value_of p vs) head) n (meaning_of c.match_flat.new.arena).state.heap d la lb (get_or c.args.args.now n (record { 0 = 0 })) (value_of p vs term) (arg_told old now c.pairs.invariant.keeps c.args.args.now us n c.pairs-test.true ha) ew
     (c.pairs.invariant.matching p us vs ha hr) (meaning_of c.match_flat.new.arena) c.in-Err.full (c.in-Err.ensures.matched p vs row)
 
 pub returns-in-Ok-false-clause-matched : goal.returns-in-Ok-false-clause-matched
@@ -60,25 +61,15 @@ returns-in-Ok-false-clause-matched c p us vs ha hr =
     let la : n < length us = omega (arith, c.pairs-test.true, refs_length (meaning_of old) c.args.args.now us ha) in
     let lb : n < length (map (value_of p vs) head) = omega (arith, c.if-at-head.true, length-map head (value_of p vs)) in
     let ew : value_of p vs term ≡ get_or (map (value_of p vs) head) n d = ap (value_of p vs) c.index-head-at.is ∙ sym (get_or-map (value_of p vs) head n term d c.if-at-head.true) in
-    let row = row_kept (meaning_of old) (meaning_of now) c.args.row vs c.pairs.invariant.keeps.kept hr in
-    each_clash old now c.pairs.invariant.keeps us (map (value_of p vs) head) n (flat_in (out-Term term)) d la lb (get_or c.args.args.now n (record { 0 = 0 })) (value_of p vs term) (arg_told old now c.pairs.invariant.keeps c.args.args.now us n c.pairs-test.true ha) ew
+    let row = row_kept (meaning_of old) (meaning_of now) c.args.row.now vs c.pairs.invariant.keeps.kept hr in
+    each_clash old now c.pairs.invariant.keeps us (map (value_of p vs) head) n (meaning_of c.match_flat.new.arena).state.heap d la lb (get_or c.args.args.now n (record { 0 = 0 })) (value_of p vs term) (arg_told old now c.pairs.invariant.keeps c.args.args.now us n c.pairs-test.true ha) ew
     (c.pairs.invariant.matching p us vs ha hr) (meaning_of c.match_flat.new.arena) c.in-Ok-false.field-0 c.in-Ok-false.field-0-test (c.in-Ok-false.ensures.matched p vs row)
 
-pub returns-in-Ok-false-clause-more : goal.returns-in-Ok-false-clause-more
-returns-in-Ok-false-clause-more c =
-    let vs = c.requires.row.0 in
-    let row = row_kept (meaning_of c.args.arena.now) (meaning_of c.pairs.arena) c.args.row vs c.pairs.invariant.keeps.kept c.requires.row.1 in
-    let x = c.in-Ok-false.ensures.matched no_program vs row in
-    omega (arith, x.binds.heap, c.pairs.invariant.more)
-
 pub returns-in-Ok-false-clause-few : goal.returns-in-Ok-false-clause-few
-returns-in-Ok-false-clause-few c =
-    let vs = c.requires.row.0 in
-    let row = row_kept (meaning_of c.args.arena.now) (meaning_of c.pairs.arena) c.args.row vs c.pairs.invariant.keeps.kept c.requires.row.1 in
-    let x = c.in-Ok-false.ensures.matched no_program vs row in
-    let first = cells_at c.args.head.now c.pairs.at c.index-head-at.result c.if-at-head.true in
-    let same = ap (λ t. flat_in (out-Term t)) c.index-head-at.is in
-    omega (arith, x.binds.heap, c.pairs.invariant.taken, first, same)
+returns-in-Ok-false-clause-few c p =
+    let first = cells_at p c.args.head.now c.pairs.at c.index-head-at.result c.if-at-head.true in
+    let same = ap (cells_of p) c.index-head-at.is in
+    omega (arith, c.in-Ok-false.ensures.few p, c.pairs.invariant.taken p, first, same)
 
 pub pairs-preserved : goal.pairs-preserved
 pairs-preserved c =
@@ -88,21 +79,20 @@ pairs-preserved c =
     let n = c.pairs.at in
     let term = c.index-head-at.result in
     let d : Value = leaf Nil in
-    let some = c.requires.row in
-    let x = c.in-Ok-true.ensures.matched no_program some.0 (row_kept (meaning_of old) (meaning_of now) c.args.row some.0 c.pairs.invariant.keeps.kept some.1) in
-    let first = cells_at head n term c.if-at-head.true in
-    let same = ap (λ t. flat_in (out-Term t)) c.index-head-at.is in
     record {
       keeps = keeps_on old now c.match_flat.new.arena c.pairs.invariant.keeps c.in-Ok-true.ensures.keeps;
       matching = λ p us vs ha hr.
           let la : n < length us = omega (arith, c.pairs-test.true, refs_length (meaning_of old) c.args.args.now us ha) in
           let lb : n < length (map (value_of p vs) head) = omega (arith, c.if-at-head.true, length-map head (value_of p vs)) in
           let ew : value_of p vs term ≡ get_or (map (value_of p vs) head) n d = ap (value_of p vs) c.index-head-at.is ∙ sym (get_or-map (value_of p vs) head n term d c.if-at-head.true) in
-          let row = row_kept (meaning_of old) (meaning_of now) c.args.row vs c.pairs.invariant.keeps.kept hr in
-          each_on old now c.pairs.invariant.keeps us (map (value_of p vs) head) n (flat_in (out-Term term)) d la lb (get_or c.args.args.now n (record { 0 = 0 })) (value_of p vs term) (arg_told old now c.pairs.invariant.keeps c.args.args.now us n c.pairs-test.true ha) ew
+          let row = row_kept (meaning_of old) (meaning_of now) c.args.row.now vs c.pairs.invariant.keeps.kept hr in
+          each_on old now c.pairs.invariant.keeps us (map (value_of p vs) head) n (meaning_of c.match_flat.new.arena).state.heap d la lb (get_or c.args.args.now n (record { 0 = 0 })) (value_of p vs term) (arg_told old now c.pairs.invariant.keeps c.args.args.now us n c.pairs-test.true ha) ew
           (c.pairs.invariant.matching p us vs ha hr) (meaning_of c.match_flat.new.arena) c.in-Ok-true.field-0 c.in-Ok-true.field-0-test (c.in-Ok-true.ensures.matched p vs row);
-      more = omega (arith, x.binds.heap, c.pairs.invariant.more);
-      taken = omega (arith, x.binds.heap, c.pairs.invariant.taken, first, same);
+      more = omega (arith, c.in-Ok-true.ensures.more, c.pairs.invariant.more);
+      taken = λ p.
+          let first = cells_at p head n term c.if-at-head.true in
+          let same = ap (cells_of p) c.index-head-at.is in
+          omega (arith, c.in-Ok-true.ensures.few p, c.pairs.invariant.taken p, first, same);
     }
 
 pub returns-else-at-head-clause-matched : goal.returns-else-at-head-clause-matched

@@ -1,7 +1,11 @@
 use Rattle.std.proofs.Common.{◌≡◌, ◌+◌, ◌≤◌, ap, ◌∙◌, arith}
 use Rattle.dg_unify.specs.Store.{State}
 use Rattle.dg_arena.specs.Held.{meaning_of}
+use Rattle.dg_machine.proofs.HeadMatching.{no_program}
 use Rattle.dg_machine.proofs.heads.match_flats.Goals as goal
+
+pub overflow_sub-whole : goal.overflow_sub-whole
+overflow_sub-whole c = omega (arith, c.in-Ok.ensures.few no_program, c.requires.flat.takes no_program, c.heap.ensures)
 
 pub returns-in-Ok-charge-clause-matched : goal.returns-in-Ok-charge-clause-matched
 returns-in-Ok-charge-clause-matched c p us vs ha hr =
@@ -15,7 +19,7 @@ returns-in-Ok-charge-clause-matched c p us vs ha hr =
       binds = record {
         vars = ap (λ (s : State). s.vars) e ∙ x.binds.vars;
         since = ap (λ (s : State). s.since) e ∙ x.binds.since;
-        heap = omega (arith, heap, c.in-Ok.ensures.few, c.requires.flat.takes, c.heap.ensures);
+        heap = omega (arith, heap, c.in-Ok.ensures.few no_program, c.requires.flat.takes no_program, c.heap.ensures);
         trail = rw (ap (λ (s : State). s.subst) e, trail) x.binds.trail;
       };
     }

@@ -20,7 +20,7 @@ terms-init c = record {
 }
 
 pub write_next-requires-clause-row : goal.write_next-requires-clause-row
-write_next-requires-clause-row c = let row = c.requires.row in (row.0, row_kept (meaning_of c.args.arena.now) (meaning_of c.terms.arena) c.args.row row.0 c.terms.invariant.keeps.kept row.1)
+write_next-requires-clause-row c = let row = c.requires.row in (row.0, row_kept (meaning_of c.args.arena.now) (meaning_of c.terms.arena) c.args.row.now row.0 c.terms.invariant.keeps.kept row.1)
 
 pub write_next-requires-clause-spare : goal.write_next-requires-clause-spare
 write_next-requires-clause-spare c =
@@ -39,7 +39,7 @@ terms-preserved c =
       put = λ p vs is at.
           let before = c.terms.invariant.put p vs is at in
           terms_on p vs c.args.terms.now c.terms.term-index c.term-item.result c.term-item.is c.terms-test.true (meaning_of old) (meaning_of now) (meaning_of new) kept c.terms.to.items c.write_next.new.to.items before
-          (c.in-Ok.ensures.put p (map (value_of p vs) (take c.terms.term-index c.args.terms.now)) vs is before.refs_are (row_kept (meaning_of old) (meaning_of now) c.args.row vs kept at));
+          (c.in-Ok.ensures.put p (map (value_of p vs) (take c.terms.term-index c.args.terms.now)) vs is before.refs_are (row_kept (meaning_of old) (meaning_of now) c.args.row.now vs kept at));
       count = c.in-Ok.ensures.count ∙ ap (λ n. n + 1) c.terms.invariant.count;
       capacity = c.in-Ok.ensures.capacity ∙ c.terms.invariant.capacity;
       path = c.in-Ok.ensures.path ∙ c.terms.invariant.path;
@@ -57,7 +57,7 @@ returns-in-Err-clause-put c p vs is at =
     let kept = c.terms.invariant.keeps.kept in
     let before = c.terms.invariant.put p vs is at in
     terms_full p vs c.args.terms.now c.terms.term-index c.term-item.result c.term-item.is c.terms-test.true (meaning_of old) (meaning_of now) (meaning_of c.write_next.new.arena) kept c.terms.to.items c.write_next.new.to.items before
-    (c.in-Err.ensures.put p (map (value_of p vs) (take c.terms.term-index c.args.terms.now)) vs is before.refs_are (row_kept (meaning_of old) (meaning_of now) c.args.row vs kept at))
+    (c.in-Err.ensures.put p (map (value_of p vs) (take c.terms.term-index c.args.terms.now)) vs is before.refs_are (row_kept (meaning_of old) (meaning_of now) c.args.row.now vs kept at))
 
 pub returns-clause-keeps : goal.returns-clause-keeps
 returns-clause-keeps c = c.terms.invariant.keeps

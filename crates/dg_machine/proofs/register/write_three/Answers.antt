@@ -10,7 +10,7 @@ use Rattle.dg_machine.proofs.RegisterLemmas.{spare_on, put_behind, cells_three}
 use Rattle.dg_machine.proofs.register.write_three.Goals as goal
 
 pub write_next-requires-clause-row : goal.write_next-requires-clause-row
-write_next-requires-clause-row c = let row = c.requires.row in (row.0, row_kept (meaning_of c.args.arena.now) (meaning_of c.write_both.new.arena) c.args.row row.0 c.in-Ok.ensures.keeps.kept row.1)
+write_next-requires-clause-row c = let row = c.requires.row in (row.0, row_kept (meaning_of c.args.arena.now) (meaning_of c.write_both.new.arena) c.args.row.now row.0 c.in-Ok.ensures.keeps.kept row.1)
 
 pub write_next-requires-clause-spare : goal.write_next-requires-clause-spare
 write_next-requires-clause-spare c =
@@ -28,4 +28,4 @@ returns-in-Ok-clause-put c p vs is at =
     let first = c.in-Ok.ensures.put p vs is at in
     let us = value_of p vs c.args.a.now ∷ value_of p vs c.args.b.now ∷ [] in
     put_behind (cells p (c.args.a.now ∷ c.args.b.now ∷ [])) (cells p (c.args.c.now ∷ [])) (cells p (c.args.a.now ∷ c.args.b.now ∷ c.args.c.now ∷ [])) us (value_of p vs c.args.a.now ∷ value_of p vs c.args.b.now ∷ value_of p vs c.args.c.now ∷ []) old mid (meaning_of c.write_next.new.arena) c.write_both.new.to.items c.write_next.new.to.items c.write_next.result
-    (cells_three p c.args.a.now c.args.b.now c.args.c.now) c.in-Ok.ensures.keeps.kept first (c.write_next.ensures.put p us vs is first.refs_are (row_kept old mid c.args.row vs c.in-Ok.ensures.keeps.kept at))
+    (cells_three p c.args.a.now c.args.b.now c.args.c.now) c.in-Ok.ensures.keeps.kept first (c.write_next.ensures.put p us vs is first.refs_are (row_kept old mid c.args.row.now vs c.in-Ok.ensures.keeps.kept at))

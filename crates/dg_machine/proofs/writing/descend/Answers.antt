@@ -52,7 +52,7 @@ pub leaf_value-requires-clause-leaf : goal.leaf_value-requires-clause-leaf
 leaf_value-requires-clause-leaf c = no_pair c.get-head.result.now c.in_default-head.not-Pair
 
 pub leaf_value-requires-clause-row : goal.leaf_value-requires-clause-row
-leaf_value-requires-clause-row c = let row = c.requires.row in (row.0, row_kept (meaning_of c.args.arena.now) (meaning_of c.pairs.arena) c.args.row row.0 c.pairs.invariant.keeps.kept row.1)
+leaf_value-requires-clause-row c = let row = c.requires.row in (row.0, row_kept (meaning_of c.args.arena.now) (meaning_of c.pairs.arena) c.args.row.now row.0 c.pairs.invariant.keeps.kept row.1)
 
 pub leaf_value-requires-clause-spare : goal.leaf_value-requires-clause-spare
 leaf_value-requires-clause-spare c = record {
@@ -65,7 +65,7 @@ returns-in-Err-clause-keeps c = keeps_on c.args.arena.now c.pairs.arena c.leaf_v
 
 pub returns-in-Err-clause-gone : goal.returns-in-Err-clause-gone
 returns-in-Err-clause-gone c p vs is at gone =
-    let here = row_kept (meaning_of c.args.arena.now) (meaning_of c.pairs.arena) c.args.row vs c.pairs.invariant.keeps.kept at in
+    let here = row_kept (meaning_of c.args.arena.now) (meaning_of c.pairs.arena) c.args.row.now vs c.pairs.invariant.keeps.kept at in
     let over : Overflows (cells_of p c.in-Pair.head) (meaning_of c.pairs.arena) = subst (λ x. Overflows (cells_of p x) (meaning_of c.pairs.arena)) c.get-head.ensures (c.in-Err.ensures.made p vs is here) in
     descends_over p vs c.args.whole.now (meaning_of c.args.arena.now) (meaning_of c.pairs.arena) c.args.path.now.items c.pairs.path.items c.pairs.term.now c.in-Pair.head c.in-Pair.tail c.pairs.invariant.keeps.kept c.pairs.invariant.at c.in-Pair.is over (c.pairs.invariant.gone p vs is at gone)
 
@@ -82,13 +82,13 @@ pairs-preserved c =
     let r = c.in-Ok.value in
     let pushed : c.push_reserved-in-Ok.new.self.items ≡ path ++ Tail r ∷ [] = c.push_reserved-in-Ok.ensures.items in
     let row = c.requires.row in
-    let some = c.in-Ok.ensures.made (a_program c.args.tables.now) row.0 (a_program_is c.args.tables.now) (row_kept (meaning_of old) (meaning_of now) c.args.row row.0 c.pairs.invariant.keeps.kept row.1) in
+    let some = c.in-Ok.ensures.made (a_program c.args.tables.now) row.0 (a_program_is c.args.tables.now) (row_kept (meaning_of old) (meaning_of now) c.args.row.now row.0 c.pairs.invariant.keeps.kept row.1) in
     record {
       keeps = keeps_on old now new c.pairs.invariant.keeps c.in-Ok.ensures.keeps;
       capacity = c.push_reserved-in-Ok.ensures.capacity ∙ c.pairs.invariant.capacity;
       at = c.get-term.ensures ∙ sym (ap (λ l. reached l t) pushed ∙ reached_tail no_program [] t path r c.pairs.term.now c.in-Pair.head c.in-Pair.tail c.pairs.invariant.at c.in-Pair.is);
       gone = λ p vs is at gone.
-          let here = row_kept (meaning_of old) (meaning_of now) c.args.row vs c.pairs.invariant.keeps.kept at in
+          let here = row_kept (meaning_of old) (meaning_of now) c.args.row.now vs c.pairs.invariant.keeps.kept at in
           let made : Made (cells_of p c.in-Pair.head) (meaning_of now) (meaning_of new) r (value_of p vs c.in-Pair.head) = subst (λ x. Made (cells_of p x) (meaning_of now) (meaning_of new) r (value_of p vs x)) c.get-head.ensures (c.in-Ok.ensures.made p vs is here) in
           subst (Descends p vs t (meaning_of old) (meaning_of new) c.args.path.now.items) (sym pushed)
           (descends_tail p vs t (meaning_of old) (meaning_of now) (meaning_of new) c.args.path.now.items path c.pairs.term.now c.in-Pair.head c.in-Pair.tail r c.pairs.invariant.keeps.kept c.in-Ok.ensures.keeps.kept c.pairs.invariant.at c.in-Pair.is made (c.pairs.invariant.gone p vs is at gone));

@@ -18,7 +18,7 @@ lists-init c = record {
 }
 
 pub descend-requires-clause-row : goal.descend-requires-clause-row
-descend-requires-clause-row c = let row = c.requires.row in (row.0, row_kept (meaning_of c.args.arena.now) (meaning_of c.lists.arena) c.args.row row.0 c.lists.invariant.keeps.kept row.1)
+descend-requires-clause-row c = let row = c.requires.row in (row.0, row_kept (meaning_of c.args.arena.now) (meaning_of c.lists.arena) c.args.row.now row.0 c.lists.invariant.keeps.kept row.1)
 
 pub descend-requires-clause-spare : goal.descend-requires-clause-spare
 descend-requires-clause-spare c =
@@ -41,7 +41,7 @@ returns-in-Err-clause-written c p vs is at =
     let now = meaning_of c.lists.arena in
     let kept = c.lists.invariant.keeps.kept in
     let w = c.lists.invariant.writing p vs is at in
-    writing_cut p vs c.args.whole.now old now c.lists.path.items kept w (c.in-Err.ensures.gone p vs is (row_kept old now c.args.row vs kept at) w.gone)
+    writing_cut p vs c.args.whole.now old now c.lists.path.items kept w (c.in-Err.ensures.gone p vs is (row_kept old now c.args.row.now vs kept at) w.gone)
 
 pub leaf_value-requires-clause-row : goal.leaf_value-requires-clause-row
 leaf_value-requires-clause-row c =
@@ -58,9 +58,9 @@ leaf_value-requires-clause-row c =
     let kept = c.lists.invariant.keeps.kept in
     let kept_mid = c.in-Ok.ensures.keeps.kept in
     let w = c.lists.invariant.writing p vs is at in
-    let here = row_kept old now c.args.row vs kept at in
+    let here = row_kept old now c.args.row.now vs kept at in
     let d = c.in-Ok.ensures.gone p vs is here w.gone in
-    let here_mid = row_kept now mid c.args.row vs kept_mid here in
+    let here_mid = row_kept now mid c.args.row.now vs kept_mid here in
     (vs, here_mid)
 
 pub leaf_value-requires-clause-spare : goal.leaf_value-requires-clause-spare
@@ -78,9 +78,9 @@ leaf_value-requires-clause-spare c =
     let kept = c.lists.invariant.keeps.kept in
     let kept_mid = c.in-Ok.ensures.keeps.kept in
     let w = c.lists.invariant.writing p vs is at in
-    let here = row_kept old now c.args.row vs kept at in
+    let here = row_kept old now c.args.row.now vs kept at in
     let d = c.in-Ok.ensures.gone p vs is here w.gone in
-    let here_mid = row_kept now mid c.args.row vs kept_mid here in
+    let here_mid = row_kept now mid c.args.row.now vs kept_mid here in
     record {
       fits = omega (arith, c.requires.spare.fits, c.lists.invariant.spare_room, c.in-Ok.ensures.spare_room, kept.heap_limit, kept_mid.heap_limit);
       few = omega (arith, c.requires.spare.few, ap length c.lists.invariant.spare, ap length c.in-Ok.ensures.spare, ap (λ (s : State). s.heap) w.charged.state, c.in-Ok.ensures.heap);
@@ -100,9 +100,9 @@ returns-in-Err-leaf_value-clause-written c p vs is at =
     let kept = c.lists.invariant.keeps.kept in
     let kept_mid = c.in-Ok.ensures.keeps.kept in
     let w = c.lists.invariant.writing p vs is at in
-    let here = row_kept old now c.args.row vs kept at in
+    let here = row_kept old now c.args.row.now vs kept at in
     let d = c.in-Ok.ensures.gone p vs is here w.gone in
-    let here_mid = row_kept now mid c.args.row vs kept_mid here in
+    let here_mid = row_kept now mid c.args.row.now vs kept_mid here in
     end_over p vs t old now mid (meaning_of c.leaf_value.new.arena) before path c.in-Ok.end.now (record { 0 = 0 }) c.in-Ok.ensures.end w kept d kept_mid (c.in-Err-leaf_value.ensures.made p vs is here_mid)
 
 pub close-requires : goal.close-requires
@@ -120,9 +120,9 @@ close-requires c =
     let kept = c.lists.invariant.keeps.kept in
     let kept_mid = c.in-Ok.ensures.keeps.kept in
     let w = c.lists.invariant.writing p vs is at in
-    let here = row_kept old now c.args.row vs kept at in
+    let here = row_kept old now c.args.row.now vs kept at in
     let d = c.in-Ok.ensures.gone p vs is here w.gone in
-    let here_mid = row_kept now mid c.args.row vs kept_mid here in
+    let here_mid = row_kept now mid c.args.row.now vs kept_mid here in
     let last = meaning_of c.leaf_value.new.arena in
     let made = c.in-Ok-leaf_value.ensures.made p vs is here_mid in
     let kept_last = c.in-Ok-leaf_value.ensures.keeps.kept in
@@ -143,9 +143,9 @@ returns-in-Err-close-clause-written c p vs is at =
     let kept = c.lists.invariant.keeps.kept in
     let kept_mid = c.in-Ok.ensures.keeps.kept in
     let w = c.lists.invariant.writing p vs is at in
-    let here = row_kept old now c.args.row vs kept at in
+    let here = row_kept old now c.args.row.now vs kept at in
     let d = c.in-Ok.ensures.gone p vs is here w.gone in
-    let here_mid = row_kept now mid c.args.row vs kept_mid here in
+    let here_mid = row_kept now mid c.args.row.now vs kept_mid here in
     let last = meaning_of c.leaf_value.new.arena in
     let made = c.in-Ok-leaf_value.ensures.made p vs is here_mid in
     let kept_last = c.in-Ok-leaf_value.ensures.keeps.kept in
@@ -166,9 +166,9 @@ returns-in-Ok-Some-clause-written c p vs is at =
     let kept = c.lists.invariant.keeps.kept in
     let kept_mid = c.in-Ok.ensures.keeps.kept in
     let w = c.lists.invariant.writing p vs is at in
-    let here = row_kept old now c.args.row vs kept at in
+    let here = row_kept old now c.args.row.now vs kept at in
     let d = c.in-Ok.ensures.gone p vs is here w.gone in
-    let here_mid = row_kept now mid c.args.row vs kept_mid here in
+    let here_mid = row_kept now mid c.args.row.now vs kept_mid here in
     let last = meaning_of c.leaf_value.new.arena in
     let made = c.in-Ok-leaf_value.ensures.made p vs is here_mid in
     let kept_last = c.in-Ok-leaf_value.ensures.keeps.kept in
@@ -189,9 +189,9 @@ lists-smaller c =
     let kept = c.lists.invariant.keeps.kept in
     let kept_mid = c.in-Ok.ensures.keeps.kept in
     let w = c.lists.invariant.writing p vs is at in
-    let here = row_kept old now c.args.row vs kept at in
+    let here = row_kept old now c.args.row.now vs kept at in
     let d = c.in-Ok.ensures.gone p vs is here w.gone in
-    let here_mid = row_kept now mid c.args.row vs kept_mid here in
+    let here_mid = row_kept now mid c.args.row.now vs kept_mid here in
     let last = meaning_of c.leaf_value.new.arena in
     let made = c.in-Ok-leaf_value.ensures.made p vs is here_mid in
     let kept_last = c.in-Ok-leaf_value.ensures.keeps.kept in
@@ -212,9 +212,9 @@ lists-preserved c =
           let kept = c.lists.invariant.keeps.kept in
           let kept_mid = c.in-Ok.ensures.keeps.kept in
           let w = c.lists.invariant.writing p vs is at in
-          let here = row_kept old now c.args.row vs kept at in
+          let here = row_kept old now c.args.row.now vs kept at in
           let d = c.in-Ok.ensures.gone p vs is here w.gone in
-          let here_mid = row_kept now mid c.args.row vs kept_mid here in
+          let here_mid = row_kept now mid c.args.row.now vs kept_mid here in
           let last = meaning_of c.leaf_value.new.arena in
           let made = c.in-Ok-leaf_value.ensures.made p vs is here_mid in
           let kept_last = c.in-Ok-leaf_value.ensures.keeps.kept in

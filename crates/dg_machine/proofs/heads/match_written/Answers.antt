@@ -1,0 +1,32 @@
+use Rattle.std.proofs.Common.{◌≡◌, [], ◌∷◌, arith}
+use Rattle.dg_meaning.specs.Values.{value_of}
+use Rattle.dg_meaning.specs.Cells.{cells}
+use Rattle.dg_unify.specs.Store.{told}
+use Rattle.dg_unify.proofs.StoreLemmas.{holds_some, kept_holds}
+use Rattle.dg_arena.specs.Held.{meaning_of}
+use Rattle.dg_machine.specs.Refs.{Keeps}
+use Rattle.dg_machine.proofs.HeadLemmas.{keeps_on}
+use Rattle.dg_machine.proofs.HeadMatching.{no_program, written_follows}
+use Rattle.dg_machine.proofs.heads.match_written.Goals as goal
+
+pub unify-requires : goal.unify-requires
+unify-requires c =
+    let vs = c.requires.row.0 in
+    record {
+      a_in = kept_holds (meaning_of c.args.arena.now) (meaning_of c.flat_value.new.arena) c.args.arg c.in-Ok.ensures.keeps.kept c.requires.arg;
+      b_in = holds_some (meaning_of c.flat_value.new.arena) c.in-Ok.whole (value_of no_program vs c.args.term.now) (c.in-Ok.ensures.made no_program vs c.requires.row.1).value;
+    }
+
+pub returns-in-Err-clause-matched : goal.returns-in-Err-clause-matched
+returns-in-Err-clause-matched c p vs at = let over = c.in-Err.ensures.made p vs at in absurd (omega (arith, over, c.requires.room p))
+
+pub returns-in-Ok : goal.returns-in-Ok
+returns-in-Ok c =
+    let old = c.args.arena.now in
+    let mid = c.flat_value.new.arena in
+    let unified : Keeps mid c.unify.new.store = record { kept = c.unify.ensures.kept; saved = c.unify.ensures.saved } in
+    record {
+      keeps = keeps_on old mid c.unify.new.store c.in-Ok.ensures.keeps unified;
+      matched = λ p vs at.
+          written_follows (meaning_of old) (meaning_of mid) (meaning_of c.unify.new.store) (cells p (c.args.term.now ∷ [])) c.args.arg c.in-Ok.whole (value_of p vs c.args.term.now) c.unify.result c.in-Ok.ensures.keeps.kept (c.in-Ok.ensures.made p vs at) c.requires.arg c.unify.ensures.unified;
+    }
