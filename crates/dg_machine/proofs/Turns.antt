@@ -1,5 +1,5 @@
 -- Goals one after another.
-use Rattle.std.proofs.Common.{◌≡◌, ℕ, suc, ◌+◌, ◌-◌, ◌≤◌, List, ◌++◌, append_assoc, true, false, inl, inr, refl, sym, ap, ◌∙◌, subst, arith}
+use Rattle.std.proofs.Common.{◌≡◌, ℕ, suc, ◌+◌, ◌-◌, ◌≤◌, List, ◌∷◌, ◌++◌, append_assoc, true, false, inl, inr, refl, sym, ap, ◌∙◌, subst, arith}
 use Rattle.std.specs.Borrow.{Bor}
 use Rattle.dg_base.specs.declared.run.Limits.{Limits}
 use Rattle.dg_base.specs.declared.run.Ending.{Ending}
@@ -12,6 +12,8 @@ use Rattle.dg_base.proofs.CausesLemmas.{rose_earlier}
 use Rattle.dg_meaning.proofs.Engines.{some_left}
 use Rattle.dg_meaning.specs.World.{Game}
 use Rattle.dg_mid.specs.declared.code.Op.{Op}
+use Rattle.dg_mid.specs.declared.code.Op.TheVariants as op
+use Rattle.dg_mid.specs.declared.code.Action.TheVariants as action
 use Rattle.dg_mid.specs.declared.code.Code.{Code}
 use Rattle.dg_mid.specs.Heights.{StatusOrdered}
 use Rattle.dg_mid.specs.State.{Mid, Status, Runs as RunsOf, Ended as EndedOf}
@@ -23,16 +25,17 @@ use Rattle.dg_spacing.specs.declared.spacer.Spacer.{Spacer}
 use Rattle.dg_machine.specs.declared.now.Now.{Now}
 use Rattle.dg_machine.specs.declared.now.Now.TheVariants.{Runs, Enters, Resumes, Leaves, Misses, Fails, Ended}
 use Rattle.dg_machine.specs.declared.memory.Memory.{Memory}
-use Rattle.dg_machine.specs.Built.{OpsBuilt, IsBuilt}
+use Rattle.dg_machine.specs.Built.{OpsBuilt, IsBuilt, IsQuietOp}
 use Rattle.dg_machine.specs.Layout.{HasRoom, Holds, Roomy}
-use Rattle.dg_machine.specs.Standing.{Stands, HasOutside}
+use Rattle.dg_machine.specs.Standing.{Stands, HasOutside, DoesOp}
 use Rattle.dg_outside.specs.declared.outside.Outside.{Outside}
 use Rattle.dg_machine.specs.declared.tables.Tables.{Tables}
 use Rattle.dg_machine.specs.Tables.{IsOf}
 use Rattle.dg_machine.specs.inside.Running.{rests, HasText, DoesMarks, ReadsGoal, Settles, Takes, IsAt, IsLost, IsUnread, IsSomewhere, IsSomewhereWith, IsSomewhereLeft, IsSomewhereAt, IsSomewhereStill, HasEnded, Finishes, IsLostWithin, IsUnreadWithin, BreaksGoal, BreaksTurn, BreaksRun}
-use Rattle.dg_machine.specs.inside.Reading.{IsEnd, LeftBehind}
+use Rattle.dg_machine.specs.inside.Reading.{IsEnd, LeftBehind, ReadsNone}
 use Rattle.dg_machine.proofs.Opens.{roomy}
-use Rattle.dg_machine.proofs.Readings.{gave_nothing, gave_on, some_behind, left_still}
+use Rattle.dg_machine.proofs.Goals.{quiet_done}
+use Rattle.dg_machine.proofs.Readings.{gave_nothing, gave_on, goes_unread, none_first, some_behind, left_still}
 use Rattle.dg_machine.proofs.Runs.{goal_at, one_mark, typed_at, took_goal, lost_goal, unread_goal}
 
 -- memory has room where the machine is at a goal of some run
@@ -46,6 +49,16 @@ built_at tb code r ops s = (goal_at code s.game s.limits s.typed r ops (after (s
 -- and it stands for some machine
 pub held_at : (tb : Tables) (code : Code) (r : Memory) (ops : Bor (List Op)) → IsSomewhere tb code r (Runs ops) → (l : Limits) × (m : Mid) × Holds code l r m
 held_at tb code r ops s = let at = goal_at code s.game s.limits s.typed r ops (after (setting s.game code s.limits) s.typed s.steps).now s.stands in (s.limits, at.mid, at.held)
+
+quiet_unread : (x : Op) → IsQuietOp x → ReadsNone x
+quiet_unread (op.Do (action.Input t)) quiet = quiet
+quiet_unread x quiet = tt
+
+-- an instruction that prints nothing, and leaves what is outside, reads nothing
+pub quiet_reads : (tb : Tables) (code : Code) (old new : Memory) (out : Outside) (all : List Op) (x : Op) (rest : List Op) (next : Now) (s : Spacer) (k : SinkView) (i : SourceView) → all ≡ x ∷ rest → IsQuietOp x → DoesOp tb code old x rest new next → ReadsGoal tb code old out all new out next s s k k i i
+quiet_reads tb code old new out all x rest next s k i split quiet does =
+    goes_unread tb code old out all new out next s s k k i (none_first all x rest split (quiet_unread x quiet))
+    (λ g is_of l m o e at h w. quiet_done tb code g is_of l m old new next all x rest split at h s k out o w quiet does)
 
 -- behind a goal it is somewhere still
 pub somewhere_behind : (tb : Tables) (code : Code) (old new : Memory) (out out' : Outside) (ops : Bor (List Op)) (next : Now) (s s' : Spacer) (k k' : SinkView) (i i' : SourceView) (rest : List ℕ) → at_goal ops.now ≡ true → (does : ReadsGoal tb code old out ops.now new out' next s s' k k' i i') → LeftBehind does.gave.ended i' rest →

@@ -34,6 +34,7 @@ use dg_outside::Outside;
 use dg_unify::{Ref, View};
 
 /// The instructions of a block.
+#[inline(always)]
 pub fn code_at(code: &Code, block: u32) -> &[Op]
     ensures { result.now ≡ block_at code.now block }
 {
@@ -44,6 +45,7 @@ pub fn code_at(code: &Code, block: u32) -> &[Op]
 }
 
 /// The rules of a predicate.
+#[inline(always)]
 pub fn rules_of(code: &Code, pred: u16) -> &[RuleCode]
     ensures { result.now ≡ rules_at code.now pred }
 {
@@ -321,6 +323,7 @@ impl Memory {
     }
 
     /// The rule at hand is answered.
+    #[inline(always)]
     pub fn answer<'p>(&mut self, code: &'p Code, ops: &'p [Op], rest: &'p [Op]) -> Now<'p>
         requires built { IsBuilt code.now }
         requires tidy { Tidy code.now }
@@ -422,6 +425,7 @@ impl Memory {
 
     /// A predicate is asked with the arguments at hand in the last query of a rule, which goes on where the rule does, unless the
     /// rule still has to cut.
+    #[inline(always)]
     fn ask_last_rules<'p>(&mut self, code: &'p Code, pred: u16, many: bool) -> Now<'p>
         requires room { HasRoom self.old }
         requires built { IsBuilt code.now }
@@ -442,6 +446,7 @@ impl Memory {
     }
 
     /// A predicate is asked.
+    #[inline(always)]
     pub fn ask<'p>(
         &mut self,
         tables: &Tables,
@@ -463,6 +468,7 @@ impl Memory {
     }
 
     /// A predicate is asked in the last query of a rule.
+    #[inline(always)]
     pub fn ask_last<'p>(
         &mut self,
         tables: &Tables,
@@ -715,6 +721,7 @@ impl Memory {
     }
 
     /// A call enters a rule.
+    #[inline(always)]
     pub fn enter_rule<'p>(&mut self, tables: &Tables, call: Call, ops: &'p [Op]) -> Now<'p>
         requires room { HasRoom self.old }
         requires args { AreRefs (meaning_of self.old.arena) self.old.args.items }

@@ -64,6 +64,7 @@ pub struct Memory {
 }
 
 /// Drops the choices that aren't older than a height of the heap.
+#[inline(always)]
 fn drop_to(choices: &mut Vec<Choice>, to: u32)
     ensures below { reverse choices.new.items ≡ below to (reverse choices.old.items) }
     ensures capacity { vec_capacity choices.new ≡ vec_capacity choices.old }
@@ -133,6 +134,7 @@ impl Memory {
     }
 
     /// The frame at hand.
+    #[inline(always)]
     pub fn frame_at_hand(&self) -> Option<Frame>
         ensures { result ≡ named self.now.frames.items self.now.frame }
     {
@@ -153,6 +155,7 @@ impl Memory {
     }
 
     /// Drops the choices that aren't older than a height of the heap.
+    #[inline(always)]
     pub fn cut(&mut self, to: u32)
         ensures below { reverse self.new.choices.items ≡ below to (reverse self.old.choices.items) }
         ensures capacity { vec_capacity self.new.choices ≡ vec_capacity self.old.choices }
@@ -527,6 +530,7 @@ impl Memory {
     }
 
     /// What the first argument shows, if there is one.
+    #[inline(always)]
     pub fn first_argument(&self) -> Option<View>
         requires args { AreRefs (meaning_of self.now.arena) self.now.args.items }
         ensures { IsFirst (meaning_of self.now.arena) self.now.args.items result }
@@ -659,6 +663,7 @@ impl Memory {
     }
 
     /// Makes the frame of a rule that a call has entered, whose variables stand in a row; its cells were taken.
+    #[inline(always)]
     pub fn push_frame(&mut self, call: Call, vars: Row)
         requires room { HasRoom self.old }
         requires few { HasFrameRoom self.old }

@@ -32,6 +32,7 @@ use dg_outside::Outside;
 use dg_spacing::{Event, Spacer};
 
 /// Whether an instruction takes a goal.
+#[inline(always)]
 fn is_goal(op: &Op) -> bool
     ensures { result ≡ takes_goal op.now }
 {
@@ -54,6 +55,7 @@ fn is_goal(op: &Op) -> bool
 }
 
 /// Whether the first of some instructions takes a goal.
+#[inline(always)]
 fn at_goal(ops: &[Op]) -> bool
     ensures { result ≡ at_goal ops.now }
 {
@@ -64,6 +66,7 @@ fn at_goal(ops: &[Op]) -> bool
 }
 
 /// Whether a goal is next, or the run has ended.
+#[inline(always)]
 fn rests(now: Now<'_>) -> bool
     ensures { result ≡ rests now.entry }
 {
@@ -101,6 +104,7 @@ fn do_mark<'p>(
 }
 
 /// Does a step that takes no goal.
+#[inline(never)]
 fn mark_step<'p>(
     memory: &mut Memory,
     code: &'p Code,
@@ -129,6 +133,35 @@ fn mark_step<'p>(
         Now::Misses => memory.fail(outside),
         Now::Fails => memory.fail(outside),
         Now::Ended(ending) => Now::Ended(ending),
+    }
+}
+
+/// The same; a rule that is entered or answered is looked at first.
+#[inline(always)]
+fn next_mark<'p>(
+    memory: &mut Memory,
+    code: &'p Code,
+    tables: &Tables,
+    outside: &mut Outside<'_>,
+    now: Now<'p>,
+) -> Now<'p>
+    requires built { IsBuilt code.now }
+    requires tidy { Tidy code.now }
+    requires some { HasStatus code.now memory.old now }
+    requires mark { rests now ≡ false }
+    ensures done { DoesMarks tables.now code.now memory.old outside.old now.entry memory.new outside.new result }
+    ensures sites { outside.new.sites ≡ outside.old.sites }
+{
+    match now {
+        Now::Enters(call, ops) => memory.enter_rule(tables, call, ops),
+        Now::Runs(ops) => match ops {
+            [] => mark_step(memory, code, tables, outside, now),
+            [op, rest @ ..] => match op {
+                Op::Return => memory.answer(code, ops, rest),
+                _ => mark_step(memory, code, tables, outside, now),
+            },
+        },
+        now => mark_step(memory, code, tables, outside, now),
     }
 }
 
@@ -166,6 +199,7 @@ fn act<'p>(memory: &mut Memory, tables: &Tables, action: &'p Action, rest: &'p [
 }
 
 /// Does an instruction that takes a goal, prints nothing, and leaves what is outside.
+#[inline(always)]
 fn do_quiet<'p>(
     memory: &mut Memory,
     code: &'p Code,
@@ -395,6 +429,7 @@ fn next_goal<'p, S: Source, K: Sink>(
 }
 
 /// Does steps up to the next goal, or the end.
+#[inline(always)]
 fn settle<'p>(
     memory: &mut Memory,
     code: &'p Code,
@@ -412,13 +447,70 @@ fn settle<'p>(
 {
     let mut now = now;
     'marks: while !rests(now) {
-        now = mark_step(memory, code, tables, outside, now);
+        now = next_mark(memory, code, tables, outside, now);
     }
     now
 }
 
-/// Does the instruction at hand, which takes a goal, and steps up to the next goal, or the end.
-fn turn<'p, S: Source, K: Sink>(
+/// Does steps up to the next goal, or the end, apart from where that is done often.
+#[inline(never)]
+fn settle_apart<'p>(
+    memory: &mut Memory,
+    code: &'p Code,
+    tables: &Tables,
+    outside: &mut Outside<'_>,
+    now: Now<'p>,
+) -> Now<'p>
+    requires built { IsBuilt code.now }
+    requires tidy { Tidy code.now }
+    requires some { IsSomewhereWith tables.now code.now memory.old outside.old now }
+    ensures comes { Settles tables.now code.now memory.old outside.old now.entry memory.new outside.new result }
+    ensures sites { outside.new.sites ≡ outside.old.sites }
+    ensures rests { rests result ≡ true }
+    ensures stays { IsEnd now.entry → IsEnd result }
+{
+    settle(memory, code, tables, outside, now)
+}
+
+/// Whether an action prints and reads nothing, stops no part, and leaves what is outside.
+#[inline(always)]
+fn is_quiet_action(action: &Action) -> bool
+    ensures { result ≡ true → IsQuiet action.now }
+{
+    matches!(
+        action,
+        Action::Equal(_, _)
+            | Action::Test(_, _)
+            | Action::Arith(_, _, _, _)
+            | Action::Compare(_, _, _)
+            | Action::Just
+    )
+}
+
+/// Whether an instruction takes a goal, prints and reads nothing, and leaves what is outside.
+#[inline(always)]
+fn is_quiet(op: &Op) -> bool
+    ensures goal { result ≡ true → takes_goal op.now ≡ true }
+    ensures quiet { result ≡ true → IsQuietOp op.now }
+{
+    match op {
+        Op::Do(action) => is_quiet_action(action),
+        Op::Ask(_, _, _, _)
+        | Op::LastAsk(_, _, _)
+        | Op::Query(_, _, _, _)
+        | Op::LastQuery(_, _, _)
+        | Op::Take
+        | Op::Branch(_)
+        | Op::Once
+        | Op::Try(_)
+        | Op::Shield(_) => true,
+        _ => false,
+    }
+}
+
+/// Does any instruction that takes a goal, and steps up to the next goal, or the end.
+#[inline(never)]
+fn loud_turn<'p, S: Source, K: Sink>(
     memory: &mut Memory,
     code: &'p Code,
     tables: &Tables,
@@ -444,7 +536,45 @@ fn turn<'p, S: Source, K: Sink>(
 {
     match next_goal(memory, code, tables, outside, ops, source, spacer, sink) {
         Err(fault) => Err(fault),
-        Ok(now) => Ok(settle(memory, code, tables, outside, now)),
+        Ok(now) => Ok(settle_apart(memory, code, tables, outside, now)),
+    }
+}
+
+/// The same; an instruction that prints and reads nothing, and leaves what is outside, is looked at first.
+#[inline(always)]
+fn turn<'p, S: Source, K: Sink>(
+    memory: &mut Memory,
+    code: &'p Code,
+    tables: &Tables,
+    outside: &mut Outside<'_>,
+    ops: &'p [Op],
+    source: &mut S,
+    spacer: &mut Spacer,
+    sink: &mut K,
+) -> Result<Now<'p>, Fault>
+    requires built { IsBuilt code.now }
+    requires tidy { Tidy code.now }
+    requires goal { at_goal ops.now ≡ true }
+    requires may { MayPick 1 (picks_in outside.old) }
+    requires some { IsSomewhereAt tables.now code.now memory.old outside.old (Runs ops) (S.view source.old) }
+    ensures ok { IfOk result (λ now. Takes tables.now code.now 1 memory.old outside.old (Runs ops.entry) spacer.old (K.view sink.old) (S.view source.old)
+        memory.new outside.new now spacer.new (K.view sink.new) (S.view source.new)) }
+    ensures err { IfErr result (λ fault. BreaksTurn fault tables.now code.now memory.old outside.old (Runs ops.entry)
+        spacer.old (K.view sink.old) (S.view source.old) spacer.new (K.view sink.new) (S.view source.new)) }
+    ensures roomy { OnErr result ((l : Limits) → (m : Mid) → Holds code.now l memory.old m → Roomy l memory.new) }
+    ensures once { PicksOnce outside.old outside.new }
+    ensures some { IfOk result (λ now. IsSomewhereStill tables.now code.now memory.new outside.new now (S.view source.new)) }
+    ensures rests { IfOk result (λ now. rests now ≡ true) }
+{
+    match ops {
+        [] => loud_turn(memory, code, tables, outside, ops, source, spacer, sink),
+        [op, rest @ ..] => {
+            if !is_quiet(op) {
+                return loud_turn(memory, code, tables, outside, ops, source, spacer, sink);
+            }
+            let now = do_quiet(memory, code, tables, op, rest);
+            Ok(settle(memory, code, tables, outside, now))
+        }
     }
 }
 
@@ -469,7 +599,7 @@ pub fn go<'p, S: Source, K: Sink>(
     ensures err { IfErr result (λ fault. BreaksRun fault tables.now code.now memory.old outside.old start.entry steps spacer.old (K.view sink.old)
         (S.view source.old) memory.new spacer.new (K.view sink.new) (S.view source.new)) }
 {
-    let mut now = settle(memory, code, tables, outside, start);
+    let mut now = settle_apart(memory, code, tables, outside, start);
     let mut left = steps;
     'goals: while left > 0 {
         match now {

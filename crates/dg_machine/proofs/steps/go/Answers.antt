@@ -7,18 +7,18 @@ use Rattle.dg_machine.proofs.Selects.{may_on}
 use Rattle.dg_machine.proofs.Turns.{somewhere_first, left_settled, takes_none, takes_on, finishes, limits, breaks}
 use Rattle.dg_machine.proofs.steps.go.Goals as goal
 
-pub settle-now-requires-clause-some : goal.settle-now-requires-clause-some
-settle-now-requires-clause-some g c = somewhere_first c.args.tables.now c.args.code.now c.args.memory.now c.args.outside.now c.args.start (g.S.Source.view c.args.source.now) c.requires.some
+pub settle_apart-now-requires-clause-some : goal.settle_apart-now-requires-clause-some
+settle_apart-now-requires-clause-some g c = somewhere_first c.args.tables.now c.args.code.now c.args.memory.now c.args.outside.now c.args.start (g.S.Source.view c.args.source.now) c.requires.some
 
 pub goals-init : goal.goals-init
 goals-init g c =
     let i = g.S.Source.view c.args.source.now in
     let k = g.K.Sink.view c.args.sink.now in
     record {
-      takes = takes_none c.args.tables.now c.args.code.now c.args.memory.now c.args.outside.now c.args.start c.args.spacer.now k i (c.args.steps - c.args.steps) c.settle-now.new.memory c.settle-now.new.outside c.settle-now.result (λ n. omega arith) c.settle-now.ensures.comes;
-      somewhere = λ goes rest h. left_settled c.args.tables.now c.args.code.now c.args.memory.now c.settle-now.new.memory c.args.outside.now c.settle-now.new.outside c.args.start c.settle-now.result rest c.settle-now.ensures.comes (c.requires.some rest h);
-      may = may_on c.args.steps c.args.outside.now c.settle-now.new.outside c.settle-now.ensures.sites c.requires.may;
-      rests = c.settle-now.ensures.rests;
+      takes = takes_none c.args.tables.now c.args.code.now c.args.memory.now c.args.outside.now c.args.start c.args.spacer.now k i (c.args.steps - c.args.steps) c.settle_apart-now.new.memory c.settle_apart-now.new.outside c.settle_apart-now.result (λ n. omega arith) c.settle_apart-now.ensures.comes;
+      somewhere = λ goes rest h. left_settled c.args.tables.now c.args.code.now c.args.memory.now c.settle_apart-now.new.memory c.args.outside.now c.settle_apart-now.new.outside c.args.start c.settle_apart-now.result rest c.settle_apart-now.ensures.comes (c.requires.some rest h);
+      may = may_on c.args.steps c.args.outside.now c.settle_apart-now.new.outside c.settle_apart-now.ensures.sites c.requires.may;
+      rests = c.settle_apart-now.ensures.rests;
       within = omega arith;
     }
 
