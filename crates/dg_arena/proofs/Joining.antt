@@ -1,7 +1,7 @@
 -- A variable that is joined to the end of a value, and values in which it doesn't stand.
 use Rattle.std.proofs.lemmas.Bool.{ne_eqb}
 use Rattle.std.proofs.Common.{◌-◌, ◌≤◌, ◌≡◌, ℕ, ◌<◌, refl, sym, ap, ◌∙◌, subst, arith, Some, false, length, get_or}
-use Rattle.std.specs.Prelude.{Bool, Result, Ok, Err, max}
+use Rattle.std.specs.Prelude.{Bool, Result, Ok, Err, Option, None, max}
 use Rattle.dg_meaning.specs.Values.{Value, Values, Var, Node, Pair, More, NoMore, pair}
 use Rattle.dg_meaning.specs.Substitutions.{walk, resolved, contains, is_bound, IsSubstitution}
 use Rattle.dg_meaning.specs.Unify.{unify, Binds, binds, top}
@@ -21,7 +21,8 @@ use Rattle.dg_unify.proofs.StoreLemmas.{Younger, walked_to, holds_some, holds_to
 use Rattle.dg_unify.proofs.Reading.{simple_told}
 use Rattle.dg_unify.proofs.Meets.{met_vars, met_left, met_right, tie_younger, tie_older, point_follows, unbound_at}
 use Rattle.dg_unify.proofs.Goings.{stays_broke}
-use Rattle.dg_arena.specs.Joins.{IsFree, IsAbsent, IsBefore}
+use Rattle.dg_arena.specs.Joins.{IsFree, IsAbsent, IsBefore, Joins}
+use Rattle.dg_arena.specs.inside.Spines.{IsNode, IsClearTo, PointsTo, Points}
 
 -- ## Values in which a variable doesn't stand
 
@@ -149,3 +150,36 @@ module _ (f : Fields) (sound : AreSound f) (var whole head tail : Ref) (n : ℕ)
       let same : n ≡ sx.number = sym same_number ∙ number_is free.number sx.number (sym free.value ∙ sx.value) in
       let bound : FollowsTurn st new (binds (subst_in f) n (walked_to st whole)) r = point_follows st new sound.fits.sound n (told_in f whole) (sym pair_clear) r h in
       turn_ends st new sound.fits.sound to whole r (met_left st new sound.fits.sound to whole var Pair parts r sx whole_walks (subst (λ k. FollowsTurn st new (binds (subst_in f) k (walked_to st whole)) r) same bound))
+
+-- ## A variable and a value that is looked along
+
+-- what doesn't stand in the head of a pair, nor in its tail, doesn't stand in a value that ends in it
+pub clear_to : (f : Fields) → AreSound f → (at end h t : Ref) → EndsAt f at end → ShowsPair (store_of false f) (told_in f end) h t → TellsOf f t → (n : ℕ) → IsAbsent f h n → IsClearTo f at t n
+clear_to f sound at end h t ends sh told n ha = record { told = told; absent = λ hb. end_absent f sound at end ends n (pair_absent f end h t n sh ha hb) }
+
+pub free_link : (f : Fields) → AreSound f → (var to : Ref) (n : ℕ) → IsFree f var n → TellsOf f to → IsEnd f to → IsAbsent f to n → MayLink f n to
+free_link f sound var to n free told end absent =
+    let S = subst_in f in
+    let unbound : is_bound n S ≡ false = (walked S sound.fits.sound (told_in f var)).free n (free.end_is ∙ ap or_nil free.value) in
+    record { within = free.within; told = told; end_is = end; fits = record { unbound = unbound; absent = absent } }
+
+module _ (f : Fields) (sound : AreSound f) (a b var to : Ref) (n : ℕ) (free : IsFree f var n) (new : Store) where
+  abbrev held : Store
+  held = store_of false f
+
+  abbrev ends_free : (r : Ref) → EndsAt f r var → ShowsVar held (walked_to held r) var
+  ends_free r ends = record { number = n; is = sym ends.is ∙ ap or_nil free.value; value = free.value }
+
+  bound_at : (r : Ref) → EndsAt f r to → (result : Result Bool Full) → PointsTo f new n to result → FollowsTurn held new (binds (subst_in f) n (walked_to held r)) result
+  bound_at r ends result h =
+      subst (λ w. FollowsTurn held new (binds (subst_in f) n w) result) (ends.end_is ∙ ends.is) (point_follows held new sound.fits.sound n (told_in f to) (sym h.absent) result h.turn)
+
+  pub points_left : EndsAt f a var → EndsAt f b to → (result : Option (Result Bool Full)) → Points f new n to result → Joins held new a b result
+  points_left ea eb None h = h
+  points_left ea eb (Some r) h =
+      turn_ends held new sound.fits.sound a b r (met_left held new sound.fits.sound a b var h.node.label h.node.parts r (ends_free a ea) (sym eb.is ∙ h.node.is) (bound_at b eb r h))
+
+  pub points_right : EndsAt f a to → EndsAt f b var → (result : Option (Result Bool Full)) → Points f new n to result → Joins held new a b result
+  points_right ea eb None h = h
+  points_right ea eb (Some r) h =
+      turn_ends held new sound.fits.sound a b r (met_right held new sound.fits.sound a b var h.node.label h.node.parts r (sym ea.is ∙ h.node.is) (ends_free b eb) (bound_at a ea r h))

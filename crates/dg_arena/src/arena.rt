@@ -15,6 +15,7 @@ ghost use Rattle.dg_arena.specs.Room.{HasRoom};
 ghost use Rattle.dg_arena.specs.Joins.{IsFree, IsAbsent, IsBefore, Joins};
 ghost use Rattle.dg_arena.specs.Rows.{MadeVars};
 ghost use Rattle.dg_arena.specs.inside.Settled.{Settles};
+ghost use Rattle.dg_arena.specs.inside.Spines.{IsNode, IsClearTo, Points};
 
 use crate::rows::push_vars;
 use crate::words::push_words;
@@ -163,8 +164,8 @@ impl Arena {
     }
 
     /// Unifies two values, where it is clear at once what comes of that: one is a variable that is younger than the other and doesn't
-    /// stand in it, or both are the same, or the second has no parts. Else nothing is done. It is the faster where the second is a new
-    /// variable.
+    /// stand in it, or both are the same, or the second has no parts, or one is a variable and a look along the list that the other is
+    /// shows that it doesn't stand in it. Else nothing is done. It is the faster where the second is a new variable.
     #[inline(always)]
     pub fn join(&mut self, to: Ref, var: Ref) -> Option<Result<bool, Full>>
         requires to_in { Holds (meaning_of self.old) to }
@@ -325,14 +326,14 @@ impl Arena {
         let number = match self.free_at(end) {
             None => {
                 return match self.same_ends(end, value) {
-                    None => None,
+                    None => self.join_along(end, value),
                     Some(same) => Some(Ok(same)),
                 };
             }
             Some(number) => number,
         };
         if !self.is_before(value, end, number) {
-            return None;
+            return self.join_along(end, value);
         }
         match self.link_fenced(number, value) {
             Ok(()) => Some(Ok(true)),
@@ -419,6 +420,7 @@ impl Arena {
                 }
                 true
             }
+            Slot::Pair(_, _, constant) => constant,
             _ => false,
         }
     }
@@ -552,6 +554,106 @@ impl Arena {
         self.links.bind_reserved(var, to);
         self.trail += more;
         Ok(())
+    }
+
+    // Whether a value is one without parts, or a pair.
+    #[inline(always)]
+    fn is_node(&self, at: Ref) -> bool
+        requires { TellsOf (fields_of self.now) at }
+        ensures { result ≡ true → IsNode (told_in (fields_of self.now) at) }
+    {
+        if at.0 >= FIRST_SIMPLE {
+            return true;
+        }
+        match self.cells[at.0 as usize] {
+            Slot::Pair(_, _, _) => true,
+            _ => false,
+        }
+    }
+
+    // The tail of a pair, where it is clear at once that a variable of this number doesn't stand in the head.
+    #[inline(always)]
+    fn clear_behind(&self, at: Ref, number: u32) -> Option<Ref>
+        requires { TellsOf (fields_of self.now) at }
+        ensures { IfSome result (λ tail. IsClearTo (fields_of self.now) at tail number) }
+    {
+        let end = self.end_of(at);
+        if end.0 >= FIRST_SIMPLE {
+            return None;
+        }
+        match self.cells[end.0 as usize] {
+            Slot::Pair(head, tail, _) => {
+                if !self.part_clear(head, number) {
+                    return None;
+                }
+                Some(tail)
+            }
+            _ => None,
+        }
+    }
+
+    // Whether it is clear from a look along a list that a variable of this number doesn't stand in it.
+    fn list_clear(&self, at: Ref, number: u32) -> bool
+        requires { TellsOf (fields_of self.now) at }
+        ensures { result ≡ true → IsAbsent (fields_of self.now) at number }
+    {
+        let mut at = at;
+        let mut left = self.cells.len();
+        'pairs: while left > 0 {
+            if self.part_clear(at, number) {
+                return true;
+            }
+            match self.clear_behind(at, number) {
+                None => return false,
+                Some(tail) => at = tail,
+            }
+            left -= 1;
+        }
+        false
+    }
+
+    // Binds an unbound variable of this number to an end, where it is clear from a look along that that it doesn't stand in it. Else
+    // nothing is done.
+    #[inline(always)]
+    fn point(&mut self, number: u32, to: Ref) -> Option<Result<bool, Full>>
+        requires free { (var : Ref) × IsFree (fields_of self.old) var number }
+        requires told { TellsOf (fields_of self.old) to }
+        requires end { IsEnd (fields_of self.old) to }
+        ensures kept { Kept (meaning_of self.old) (meaning_of self.new) }
+        ensures saved { (ms : List Saved) → saves_of self.old ms → saves_of self.new ms }
+        ensures points { Points (fields_of self.old) (meaning_of self.new) number to result }
+    {
+        if !self.is_node(to) {
+            return None;
+        }
+        if !self.list_clear(to, number) {
+            return None;
+        }
+        match self.link(number, to) {
+            Ok(()) => Some(Ok(true)),
+            Err(full) => Some(Err(full)),
+        }
+    }
+
+    // Unifies two ends of which one is an unbound variable, where it is clear from a look along the other that the variable doesn't
+    // stand in it. Else nothing is done.
+    fn join_along(&mut self, a: Ref, b: Ref) -> Option<Result<bool, Full>>
+        requires a_in { TellsOf (fields_of self.old) a }
+        requires b_in { TellsOf (fields_of self.old) b }
+        requires a_end { IsEnd (fields_of self.old) a }
+        requires b_end { IsEnd (fields_of self.old) b }
+        ensures kept { Kept (meaning_of self.old) (meaning_of self.new) }
+        ensures saved { (ms : List Saved) → saves_of self.old ms → saves_of self.new ms }
+        ensures joined { (to from : Ref) → EndsAt (fields_of self.old) to a → EndsAt (fields_of self.old) from b →
+            Joins (meaning_of self.old) (meaning_of self.new) to from result }
+    {
+        match self.free_at(a) {
+            Some(number) => self.point(number, b),
+            None => match self.free_at(b) {
+                Some(number) => self.point(number, a),
+                None => None,
+            },
+        }
     }
 }
 

@@ -1,7 +1,7 @@
-use Rattle.std.proofs.Common.{arith, sym, reverse}
+use Rattle.std.proofs.Common.{arith, sym, ◌∙◌, reverse}
 use Rattle.dg_unify.specs.Linked.{log_of, vars_of}
 use Rattle.dg_unify.proofs.Reading.{within_slots, var_read}
-use Rattle.dg_unify.proofs.FenceLemmas.{between_absent}
+use Rattle.dg_unify.proofs.FenceLemmas.{between_absent, constant_absent, constant_read}
 use Rattle.dg_arena.specs.Held.{fields_of}
 use Rattle.dg_arena.proofs.Joining.{simple_absent, end_absent, other_absent}
 use Rattle.dg_arena.proofs.arena.Arena.part_clear.Goals as goal
@@ -30,3 +30,13 @@ returns-else-other-number c = λ yes.
     let ends = c.end_of-end.ensures in
     let read = var_read f s.sound end ends.told (omega arith) c.index.result.now c.index.ensures c.in-Var.other c.in-Var.is in
     end_absent f s.sound c.args.at end ends c.args.number (other_absent f s.sound end c.in-Var.other c.args.number read.0 ends.end_is c.if-other-number.false)
+
+pub returns-in-Pair : goal.returns-in-Pair
+returns-in-Pair c = λ yes.
+    let s = c.args.self.now in
+    let f = fields_of s in
+    let end = c.end_of-end.result in
+    let ends = c.end_of-end.ensures in
+    let marked = constant_read f s.sound end ends.told (omega arith) c.index.result.now c.index.ensures c.in-Pair.field-0 c.in-Pair.field-1 c.in-Pair.constant c.in-Pair.is in
+    end_absent f s.sound c.args.at end ends c.args.number
+    (constant_absent s.cells.items (reverse (log_of s.links)) (vars_of s.links) s.sound.fits c.args.number end ends.told (sym marked ∙ yes))
