@@ -14,6 +14,7 @@ ghost use Rattle.dg_expand.specs.inside.Weights.{IsOver};
 use crate::closed::are_bad;
 use crate::loops::first_looping;
 use crate::place::Access;
+use crate::release::let_go_items;
 use crate::rules::{access_rules, put_item};
 use bumpalo::Bump;
 use dg_access::{Counts, add_items, plain_tree, uncounted};
@@ -62,6 +63,7 @@ fn new_items<'a>(
     if put_item(alloc, bump, rules, &mut new, item)? {
         Ok(Some(new))
     } else {
+        let_go_items(new);
         Ok(None)
     }
 }
@@ -106,6 +108,7 @@ fn put_all<'a>(
     let mut counts = uncounted();
     for item in items {
         if let Some(kind) = add_item(alloc, bump, rules, &mut counts, &mut out, item)? {
+            let_go_items(out);
             return Err(refused(kind, item.line));
         }
     }

@@ -8,6 +8,7 @@ mod laws;
 mod loops;
 mod names;
 mod place;
+mod release;
 mod rules;
 mod steps;
 mod weighed;

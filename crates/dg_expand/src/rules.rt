@@ -12,6 +12,7 @@ ghost use Rattle.dg_expand.specs.inside.Weights.{body_load, IsOver};
 
 use crate::expanding::{BuiltBody, Heads, MOST, RULES, body_of, head_of, heads_of};
 use crate::place::{Access, Outer, Place, Uses, placed};
+use crate::release::{let_go_body, let_go_head, let_go_heads};
 use bumpalo::Bump;
 use dg_access::{copied, free_number};
 use dg_base::{Body, Head, Item, ItemBody, NowChange, name_of};
@@ -121,6 +122,7 @@ fn next_body<'a>(
     match body_of(alloc, uses, at, number, body)? {
         Some(BuiltBody { body, tally }) => {
             if count.saturating_mul(tally) > MOST {
+                let_go_body(body);
                 return Ok(None);
             }
             Ok(Some(body))
@@ -148,6 +150,7 @@ fn add_rules<'a>(
     let Heads { mut heads, number } = heads;
     let count = heads.len();
     if count > RULES {
+        let_go_heads(heads);
         return Ok(false);
     }
     for turn in 0..u64::MAX {
@@ -157,7 +160,10 @@ fn add_rules<'a>(
                     line,
                     body: signed(head, body),
                 })?,
-                None => return Ok(false),
+                None => {
+                    let_go_head(head, heads);
+                    return Ok(false);
+                }
             },
             None => return Ok(true),
         }
