@@ -13,6 +13,7 @@ pub mod RegisterLemmas
 pub mod Matching
 pub mod HeadLemmas
 pub mod HeadMatching
+pub mod Along
 pub mod FlatHeads
 pub mod PassedRules
 pub mod Hands

@@ -10,6 +10,7 @@ mod heads;
 mod machine;
 mod memory;
 mod now;
+mod pairs;
 mod passing;
 mod program;
 mod reading;

@@ -12,6 +12,7 @@ ghost use Rattle.dg_machine.specs.Built.{IsPlain};
 ghost use Rattle.dg_machine.specs.Refs.{RowAt, RefsAt, AreRefs, Keeps, Stays};
 
 use crate::now::Row;
+use crate::pairs::unify_pairs;
 use dg_arena::Arena;
 use dg_base::{Simple, Term};
 use dg_unify::{Bindings, Full, Ref, unify};
@@ -71,7 +72,7 @@ pub fn join(arena: &mut Arena, a: Ref, b: Ref) -> Result<bool, Full>
 {
     match arena.join(a, b) {
         Some(joined) => joined,
-        None => unify(arena, a, b),
+        None => unify_pairs(arena, a, b),
     }
 }
 
