@@ -35,7 +35,7 @@ use crate::refs::{MOST_ARGS, move_refs, push_refs};
 use crate::register::{write_both, write_one, write_terms, write_three};
 use crate::rows::make_row;
 use crate::tables::Tables;
-use crate::terms::{match_heads, simple_value, var_value};
+use crate::terms::{join, match_heads, simple_value, var_value};
 use dg_arena::Arena;
 use dg_base::{ArithOp, CompareOp, Simple, Term, TestKind};
 use dg_outside::Outside;
@@ -385,7 +385,7 @@ impl Memory {
     {
         let a = self.arg(0);
         let b = self.arg(1);
-        match unify(&mut self.arena, a, b) {
+        match join(&mut self.arena, a, b) {
             Err(full) => Err(full),
             Ok(agreed) => Ok(agreed),
         }
@@ -523,7 +523,7 @@ impl Memory {
     {
         let into = self.arg(2);
         let number = simple_value(&mut self.arena, Simple::Num(n));
-        match unify(&mut self.arena, into, number) {
+        match join(&mut self.arena, into, number) {
             Err(full) => Err(full),
             Ok(agreed) => Ok(agreed),
         }
