@@ -19,7 +19,7 @@ use crate::now::Row;
 use crate::terms::{join, join_pair, plain_value};
 use dg_arena::Arena;
 use dg_base::Term;
-use dg_unify::{Bindings, Full, Ref, View, unify};
+use dg_unify::{Bindings, Full, Ref, View};
 
 /// Whether a term has no parts and reads nothing of the program.
 #[inline(always)]
@@ -123,7 +123,7 @@ fn match_written(arena: &mut Arena, row: &Row, term: &Term, arg: Ref) -> Result<
 {
     match flat_value(arena, row, term) {
         Err(full) => Err(full),
-        Ok(whole) => unify(arena, arg, whole),
+        Ok(whole) => join(arena, arg, whole),
     }
 }
 

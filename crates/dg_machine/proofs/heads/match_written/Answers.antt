@@ -9,8 +9,8 @@ use Rattle.dg_machine.proofs.HeadLemmas.{keeps_on}
 use Rattle.dg_machine.proofs.HeadMatching.{no_program, written_follows}
 use Rattle.dg_machine.proofs.heads.match_written.Goals as goal
 
-pub unify-requires : goal.unify-requires
-unify-requires c =
+pub join-requires : goal.join-requires
+join-requires c =
     let vs = c.requires.row.0 in
     record {
       a_in = kept_holds (meaning_of c.args.arena.now) (meaning_of c.flat_value.new.arena) c.args.arg c.in-Ok.ensures.keeps.kept c.requires.arg;
@@ -24,9 +24,9 @@ pub returns-in-Ok : goal.returns-in-Ok
 returns-in-Ok c =
     let old = c.args.arena.now in
     let mid = c.flat_value.new.arena in
-    let unified : Keeps mid c.unify.new.store = record { kept = c.unify.ensures.kept; saved = c.unify.ensures.saved } in
+    let unified : Keeps mid c.join.new.arena = c.join.ensures.keeps in
     record {
-      keeps = keeps_on old mid c.unify.new.store c.in-Ok.ensures.keeps unified;
+      keeps = keeps_on old mid c.join.new.arena c.in-Ok.ensures.keeps unified;
       matched = λ p vs at.
-          written_follows (meaning_of old) (meaning_of mid) (meaning_of c.unify.new.store) (cells p (c.args.term.now ∷ [])) c.args.arg c.in-Ok.whole (value_of p vs c.args.term.now) c.unify.result c.in-Ok.ensures.keeps.kept (c.in-Ok.ensures.made p vs at) c.requires.arg c.unify.ensures.unified;
+          written_follows (meaning_of old) (meaning_of mid) (meaning_of c.join.new.arena) (cells p (c.args.term.now ∷ [])) c.args.arg c.in-Ok.whole (value_of p vs c.args.term.now) c.join.result c.in-Ok.ensures.keeps.kept (c.in-Ok.ensures.made p vs at) c.requires.arg c.join.ensures.unified;
     }
