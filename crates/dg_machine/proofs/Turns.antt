@@ -17,11 +17,12 @@ use Rattle.dg_mid.specs.declared.code.Action.TheVariants as action
 use Rattle.dg_mid.specs.declared.code.Code.{Code}
 use Rattle.dg_mid.specs.Heights.{StatusOrdered}
 use Rattle.dg_mid.specs.State.{Mid, Status, Runs as RunsOf, Ended as EndedOf}
-use Rattle.dg_mid.specs.Step.{Setting, setting, step, takes_goal, at_goal}
+use Rattle.dg_mid.specs.Step.{Setting, setting, step, runs, takes_goal, at_goal}
 use Rattle.dg_mid.specs.Left.{left_behind}
 use Rattle.dg_mid.specs.Runs.{after, left_after}
 use Rattle.dg_mid.proofs.Heights.{all_ordered}
 use Rattle.dg_spacing.specs.declared.spacer.Spacer.{Spacer}
+use Rattle.dg_machine.specs.declared.now.Call.{Call}
 use Rattle.dg_machine.specs.declared.now.Now.{Now}
 use Rattle.dg_machine.specs.declared.now.Now.TheVariants.{Runs, Enters, Resumes, Leaves, Misses, Fails, Ended}
 use Rattle.dg_machine.specs.declared.memory.Memory.{Memory}
@@ -31,10 +32,11 @@ use Rattle.dg_machine.specs.Standing.{Stands, HasOutside, DoesOp}
 use Rattle.dg_outside.specs.declared.outside.Outside.{Outside}
 use Rattle.dg_machine.specs.declared.tables.Tables.{Tables}
 use Rattle.dg_machine.specs.Tables.{IsOf}
-use Rattle.dg_machine.specs.inside.Running.{rests, HasText, DoesMarks, ReadsGoal, Settles, Takes, IsAt, IsLost, IsUnread, IsSomewhere, IsSomewhereWith, IsSomewhereLeft, IsSomewhereAt, IsSomewhereStill, HasEnded, Finishes, IsLostWithin, IsUnreadWithin, BreaksGoal, BreaksTurn, BreaksRun}
+use Rattle.dg_machine.specs.inside.Running.{rests, IsQuick, HasText, DoesMarks, ReadsGoal, Settles, Takes, IsAt, IsLost, IsUnread, IsSomewhere, IsSomewhereWith, IsSomewhereLeft, IsSomewhereAt, IsSomewhereStill, HasEnded, Finishes, IsLostWithin, IsUnreadWithin, BreaksGoal, BreaksTurn, BreaksRun}
 use Rattle.dg_machine.specs.inside.Reading.{IsEnd, LeftBehind, ReadsNone}
 use Rattle.dg_machine.proofs.Opens.{roomy}
 use Rattle.dg_machine.proofs.Goals.{quiet_done}
+use Rattle.dg_machine.proofs.Outsides.{quiet_draws, run_outside}
 use Rattle.dg_machine.proofs.Readings.{gave_nothing, gave_on, goes_unread, none_first, some_behind, left_still}
 use Rattle.dg_machine.proofs.Runs.{goal_at, one_mark, typed_at, took_goal, lost_goal, unread_goal}
 
@@ -50,6 +52,12 @@ built_at tb code r ops s = (goal_at code s.game s.limits s.typed r ops (after (s
 pub held_at : (tb : Tables) (code : Code) (r : Memory) (ops : Bor (List Op)) → IsSomewhere tb code r (Runs ops) → (l : Limits) × (m : Mid) × Holds code l r m
 held_at tb code r ops s = let at = goal_at code s.game s.limits s.typed r ops (after (setting s.game code s.limits) s.typed s.steps).now s.stands in (s.limits, at.mid, at.held)
 
+-- a quick step enters a rule, or code is at hand
+pub not_quick : (now : Now) → IsQuick now → ((k : Call) (ops : Bor (List Op)) → now ≡ Enters k ops → ⊥) → ((ops : Bor (List Op)) → now ≡ Runs ops → ⊥) → ⊥
+not_quick (Runs ops) quick e r = r ops refl
+not_quick (Enters k ops) quick e r = e k ops refl
+not_quick now quick e r = quick
+
 quiet_unread : (x : Op) → IsQuietOp x → ReadsNone x
 quiet_unread (op.Do (action.Input t)) quiet = quiet
 quiet_unread x quiet = tt
@@ -59,6 +67,24 @@ pub quiet_reads : (tb : Tables) (code : Code) (old new : Memory) (out : Outside)
 quiet_reads tb code old new out all x rest next s k i split quiet does =
     goes_unread tb code old out all new out next s s k k i (none_first all x rest split (quiet_unread x quiet))
     (λ g is_of l m o e at h w. quiet_done tb code g is_of l m old new next all x rest split at h s k out o w quiet does)
+
+-- and the machine is somewhere behind it
+pub quiet_somewhere : (tb : Tables) (code : Code) (old new : Memory) (out : Outside) (ops : Bor (List Op)) (x : Op) (rest : List Op) (next : Now) → ops.now ≡ x ∷ rest → IsQuietOp x → DoesOp tb code old x rest new next → IsSomewhereWith tb code old out (Runs ops) → IsSomewhereWith tb code new out next
+quiet_somewhere tb code old new out ops x rest next split quiet does found =
+    let h = found.somewhere in
+    let set = setting h.game code h.limits in
+    let at = goal_at code h.game h.limits h.typed old ops (after set h.typed h.steps).now h.stands in
+    let m = at.mid in
+    let ordered : StatusOrdered (RunsOf m) = subst StatusOrdered at.is (all_ordered set h.typed h.steps) in
+    let w : HasOutside out h.game h.limits (RunsOf m) = subst (HasOutside out h.game h.limits) at.is found.outside in
+    let first : m.ops ≡ x ∷ rest = at.code_is.0 ∙ split in
+    let built : OpsBuilt (x ∷ rest) = subst OpsBuilt split at.code_is.1 in
+    let stands = does h.game h.tabled h.limits (record m { ops = rest }) ordered built.0 (refl, built.1) at.held in
+    let outside = run_outside out h.game h.limits code x (record m { ops = rest }) built.0 (quiet_draws x quiet) w in
+    record {
+      somewhere = record { game = h.game; tabled = h.tabled; limits = h.limits; typed = h.typed; steps = suc h.steps; stands = subst (λ y. Stands code h.limits new next (step set y)) (sym at.is) (subst (λ xs. Stands code h.limits new next (runs set xs m)) (sym first) stands) };
+      outside = subst (λ y. HasOutside out h.game h.limits (step set y)) (sym at.is) (subst (λ xs. HasOutside out h.game h.limits (runs set xs m)) (sym first) outside);
+    }
 
 -- behind a goal it is somewhere still
 pub somewhere_behind : (tb : Tables) (code : Code) (old new : Memory) (out out' : Outside) (ops : Bor (List Op)) (next : Now) (s s' : Spacer) (k k' : SinkView) (i i' : SourceView) (rest : List ℕ) → at_goal ops.now ≡ true → (does : ReadsGoal tb code old out ops.now new out' next s s' k k' i i') → LeftBehind does.gave.ended i' rest →

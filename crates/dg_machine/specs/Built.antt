@@ -129,3 +129,8 @@ IsQuietOp (op.Collect term into alt) = ⊥
 IsQuietOp (op.Keep term) = ⊥
 IsQuietOp (op.Find place terms many next) = ⊥
 IsQuietOp x = Unit {0}
+
+-- So does the first of some instructions.
+abbrev pub BeginsQuietly : List Op → Type 0
+BeginsQuietly [] = ⊥
+BeginsQuietly (x ∷ ops) = IsQuietOp x

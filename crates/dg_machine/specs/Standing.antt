@@ -36,6 +36,8 @@ use Rattle.dg_mid.specs.Step.{queries_last, enter, entered, goes_on, goes_back, 
 use Rattle.dg_machine.specs.declared.now.Call.{Call}
 use Rattle.dg_machine.specs.declared.now.Way.{Way}
 use Rattle.dg_machine.specs.declared.now.Way.TheVariants.{Goes, Takes, Calls, Tries}
+use Rattle.dg_machine.specs.declared.now.Did.{Did}
+use Rattle.dg_machine.specs.declared.now.Did.TheVariants as did
 use Rattle.dg_machine.specs.declared.now.Now.{Now}
 use Rattle.dg_machine.specs.declared.now.Now.TheVariants.{Runs, Enters, Resumes, Leaves, Misses, Fails, Ended}
 use Rattle.dg_machine.specs.declared.memory.Memory.{Memory}
@@ -46,6 +48,12 @@ use Rattle.dg_machine.specs.declared.tables.Tables.{Tables}
 use Rattle.dg_machine.specs.Tables.{IsOf}
 use Rattle.dg_machine.specs.Built.{OpBuilt, OpsBuilt, IsBuilt}
 use Rattle.dg_machine.specs.Seeking.{WaySeeks}
+
+-- What is done next, where an instruction with this code behind it comes to that.
+abbrev pub comes_to : Did → Bor (List Op) → Now
+comes_to did.GoesOn rest = Runs rest
+comes_to did.Fails rest = Fails
+comes_to (did.Ends e) rest = Ended e
 
 -- The code at hand is that of a machine, and all of it is built.
 abbrev pub CodeIs : List Op → Mid → Type 0

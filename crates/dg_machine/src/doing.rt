@@ -1,5 +1,6 @@
 // What an instruction does in memory.
 ghost use Rattle.std.specs.Prelude.{◌≡◌, ◌<◌, ◌≤◌, ℕ, List, [], ◌∷◌, length, slice_get};
+ghost use Rattle.std.specs.Borrow.{Bor};
 ghost use Rattle.dg_base.specs.declared.run.Limits.{Limits};
 ghost use Rattle.dg_meaning.specs.Values.{Value, Values};
 ghost use Rattle.dg_meaning.specs.Substitutions.{walk};
@@ -19,13 +20,13 @@ ghost use Rattle.dg_machine.specs.Refs.{RefsAt, AreRefs};
 ghost use Rattle.dg_machine.specs.Layout.{HasRoom, Holds, last_rules};
 ghost use Rattle.dg_machine.specs.Passing.{IsFirst};
 ghost use Rattle.dg_machine.specs.Standing.{DoesOp, DoesMark, CallsRules, EntersWith, Asks, AsksLast, Calculates, EntersBody, IsAsked, QueriesFirst};
-ghost use Rattle.dg_machine.specs.Standing.{DoesWith, ThrowsDie, ChangesPlace, LeavesAround};
+ghost use Rattle.dg_machine.specs.Standing.{comes_to, DoesWith, ThrowsDie, ChangesPlace, LeavesAround};
 ghost use Rattle.dg_machine.specs.Standing.{EntersLastBody, QueriesLast, EntersRule, EntersIn, IsThere, GoesOnAt, GoesOn, FailsTo};
 
 use crate::closures::body_row;
 use crate::heads::flat_cells;
 use crate::memory::Memory;
-use crate::now::{Call, Now, Way};
+use crate::now::{Call, Did, Now, Way};
 use crate::passing::pass;
 use crate::tables::Tables;
 use dg_base::{ArithOp, CompareOp, Ending, Term, TestKind};
@@ -60,6 +61,18 @@ fn body_of(code: &Code, place: u16) -> Option<BodyCode>
     ensures { result ≡ slice_get code.now.closures place }
 {
     code.closures.get(place as usize).copied()
+}
+
+/// What is done next, with this code behind.
+#[inline(always)]
+fn behind<'p>(did: Did, rest: &'p [Op]) -> Now<'p>
+    ensures { result ≡ comes_to did rest.entry }
+{
+    match did {
+        Did::GoesOn => Now::Runs(rest),
+        Did::Fails => Now::Fails,
+        Did::Ends(ending) => Now::Ended(ending),
+    }
 }
 
 impl Memory {
@@ -295,6 +308,7 @@ impl Memory {
     }
 
     /// The inner construct at hand is left.
+    #[inline(always)]
     pub fn commit<'p>(&mut self, ops: &'p [Op], rest: &'p [Op]) -> Now<'p>
         ensures { (code : TheCode) → DoesMark code self.old ops.entry op.Commit rest.now self.new result }
     {
@@ -309,6 +323,7 @@ impl Memory {
     }
 
     /// The inner construct at hand is left, and it fails.
+    #[inline(always)]
     pub fn refuse<'p>(&mut self, ops: &'p [Op], rest: &'p [Op]) -> Now<'p>
         ensures { (code : TheCode) → DoesMark code self.old ops.entry op.Refuse rest.now self.new result }
     {
@@ -490,31 +505,25 @@ impl Memory {
 
     /// A rule of so many variables and a head of flat terms that take so many cells is entered.
     #[inline(always)]
-    fn enter_flat<'p>(
-        &mut self,
-        call: Call,
-        vars: u16,
-        head: &[Term],
-        cells: u32,
-        rest: &'p [Op],
-    ) -> Now<'p>
+    fn enter_flat(&mut self, call: Call, vars: u16, head: &[Term], cells: u32) -> Did
         requires room { HasRoom self.old }
         requires args { AreRefs (meaning_of self.old.arena) self.old.args.items }
         requires flat { FlatTerms head.now cells }
-        ensures { (t : TheTables) → (code : TheCode) → EntersIn t code self.old call vars head.now rest.now self.new result }
+        ensures { (t : TheTables) → (code : TheCode) → (rest : Bor (List TheOp)) →
+            EntersIn t code self.old call vars head.now rest.now self.new (comes_to result rest) }
     {
         match self.make_rule(vars) {
-            Err(_) => Now::Ended(Ending::HeapLimit),
+            Err(_) => Did::Ends(Ending::HeapLimit),
             Ok(row) => {
                 if self.arena.room() < cells {
-                    return Now::Ended(Ending::HeapLimit);
+                    return Did::Ends(Ending::HeapLimit);
                 }
                 match self.match_head(row, head, cells) {
-                    Err(_) => Now::Ended(Ending::TrailLimit),
-                    Ok(false) => Now::Fails,
+                    Err(_) => Did::Ends(Ending::TrailLimit),
+                    Ok(false) => Did::Fails,
                     Ok(true) => {
                         self.push_frame(call, row);
-                        Now::Runs(rest)
+                        Did::GoesOn
                     }
                 }
             }
@@ -522,27 +531,20 @@ impl Memory {
     }
 
     /// A rule of so many variables and this head is entered; the values of its head are written first.
-    fn enter_written<'p>(
-        &mut self,
-        tables: &Tables,
-        call: Call,
-        vars: u16,
-        head: &[Term],
-        rest: &'p [Op],
-    ) -> Now<'p>
+    fn enter_written(&mut self, tables: &Tables, call: Call, vars: u16, head: &[Term]) -> Did
         requires room { HasRoom self.old }
         requires args { AreRefs (meaning_of self.old.arena) self.old.args.items }
         requires head { AreArguments head.now }
-        ensures { (code : TheCode) → EntersIn tables.now code self.old call vars head.now rest.now self.new result }
+        ensures { (code : TheCode) → (rest : Bor (List TheOp)) → EntersIn tables.now code self.old call vars head.now rest.now self.new (comes_to result rest) }
     {
         match self.make_head(tables, vars, head) {
-            Err(_) => Now::Ended(Ending::HeapLimit),
+            Err(_) => Did::Ends(Ending::HeapLimit),
             Ok(row) => match self.match_args() {
-                Err(_) => Now::Ended(Ending::TrailLimit),
-                Ok(false) => Now::Fails,
+                Err(_) => Did::Ends(Ending::TrailLimit),
+                Ok(false) => Did::Fails,
                 Ok(true) => {
                     self.push_frame(call, row);
-                    Now::Runs(rest)
+                    Did::GoesOn
                 }
             },
         }
@@ -550,22 +552,15 @@ impl Memory {
 
     /// A rule of so many variables and this head is entered.
     #[inline(always)]
-    fn enter<'p>(
-        &mut self,
-        tables: &Tables,
-        call: Call,
-        vars: u16,
-        head: &[Term],
-        rest: &'p [Op],
-    ) -> Now<'p>
+    fn enter(&mut self, tables: &Tables, call: Call, vars: u16, head: &[Term]) -> Did
         requires room { HasRoom self.old }
         requires args { AreRefs (meaning_of self.old.arena) self.old.args.items }
         requires head { AreArguments head.now }
-        ensures { (code : TheCode) → EntersIn tables.now code self.old call vars head.now rest.now self.new result }
+        ensures { (code : TheCode) → (rest : Bor (List TheOp)) → EntersIn tables.now code self.old call vars head.now rest.now self.new (comes_to result rest) }
     {
         match flat_cells(head) {
-            Some(cells) => self.enter_flat(call, vars, head, cells, rest),
-            None => self.enter_written(tables, call, vars, head, rest),
+            Some(cells) => self.enter_flat(call, vars, head, cells),
+            None => self.enter_written(tables, call, vars, head),
         }
     }
 
@@ -731,7 +726,10 @@ impl Memory {
         match ops {
             [] => Now::Fails,
             [op, rest @ ..] => match op {
-                Op::Enter(vars, head) => self.enter(tables, call, *vars, head.as_slice(), rest),
+                Op::Enter(vars, head) => {
+                    let did = self.enter(tables, call, *vars, head.as_slice());
+                    behind(did, rest)
+                }
                 _ => Now::Fails,
             },
         }

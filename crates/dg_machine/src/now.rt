@@ -113,3 +113,11 @@ pub enum Now<'p> {
     Fails,
     Ended(Ending),
 }
+
+/// What an instruction that knows no code comes to: the code behind it goes on, it fails, or the run has ended.
+#[derive(Clone, Copy, Drop)]
+pub enum Did {
+    GoesOn,
+    Fails,
+    Ends(Ending),
+}

@@ -1,7 +1,10 @@
 // One step after another.
 ghost use Rattle.std.specs.Prelude.{◌≡◌, ◌∷◌, IfErr, IfOk, OnErr, true, false};
 ghost use Rattle.dg_meaning.specs.World.{GapOf};
+ghost use Rattle.dg_base.specs.Streams.{SourceView};
+ghost use Rattle.dg_base.specs.Written.{SinkView};
 ghost use Rattle.dg_spacing.specs.Gaps.{print_of};
+ghost use Rattle.dg_spacing.specs.declared.spacer.Spacer.{Spacer as TheSpacer};
 ghost use Rattle.dg_mid.specs.declared.code.Code.{Code as TheCode};
 ghost use Rattle.dg_mid.specs.declared.code.Op.TheVariants as op;
 ghost use Rattle.dg_mid.specs.declared.code.Action.TheVariants as action;
@@ -9,7 +12,7 @@ ghost use Rattle.dg_mid.specs.declared.code.Action.TheVariants.{Stop};
 ghost use Rattle.dg_mid.specs.Step.{at_goal, is_goal as takes_goal};
 ghost use Rattle.dg_mid.specs.Potential.{Tidy};
 ghost use Rattle.dg_machine.specs.declared.now.Now.TheVariants.{Runs};
-ghost use Rattle.dg_machine.specs.Built.{ActionBuilt, OpBuilt, OpsBuilt, IsBuilt, IsQuiet, IsQuietOp};
+ghost use Rattle.dg_machine.specs.Built.{ActionBuilt, OpBuilt, OpsBuilt, IsBuilt, IsQuiet, IsQuietOp, BeginsQuietly};
 ghost use Rattle.dg_base.specs.declared.run.Limits.{Limits};
 ghost use Rattle.dg_mid.specs.State.{Mid};
 ghost use Rattle.dg_outside.specs.declared.outside.Outside.{Outside as TheOutside};
@@ -18,7 +21,7 @@ ghost use Rattle.dg_machine.specs.Layout.{HasRoom, Holds, Roomy};
 ghost use Rattle.dg_machine.specs.Standing.{DoesOp, DoesMark, HasStatus, PicksOnce};
 ghost use Rattle.dg_machine.specs.inside.Reading.{IsEnd, ReadsNone, NoLine};
 ghost use Rattle.dg_machine.specs.inside.Running.{rests, DoesMarks, DoesGoal, LosesGoal, ReadsGoal, BreaksGoal, Settles, Takes, BreaksTurn, Finishes, BreaksRun};
-ghost use Rattle.dg_machine.specs.inside.Running.{IsSomewhereWith, IsSomewhereAt, IsSomewhereStill};
+ghost use Rattle.dg_machine.specs.inside.Running.{IsQuick, IsSomewhereWith, IsSomewhereAt, IsSomewhereStill};
 
 use crate::doing::code_at;
 use crate::memory::Memory;
@@ -78,6 +81,7 @@ fn rests(now: Now<'_>) -> bool
 }
 
 /// Does an instruction that takes no goal.
+#[inline(always)]
 fn do_mark<'p>(
     memory: &mut Memory,
     code: &'p Code,
@@ -136,32 +140,41 @@ fn mark_step<'p>(
     }
 }
 
-/// The same; a rule that is entered or answered is looked at first.
+/// Whether a rule is entered, or an inner construct or a rule is left, or code goes on at a block.
 #[inline(always)]
-fn next_mark<'p>(
-    memory: &mut Memory,
-    code: &'p Code,
-    tables: &Tables,
-    outside: &mut Outside<'_>,
-    now: Now<'p>,
-) -> Now<'p>
+fn is_quick(now: Now<'_>) -> bool
+    ensures { result ≡ true → IsQuick now.entry }
+{
+    match now {
+        Now::Enters(_, _) => true,
+        Now::Runs(ops) => match ops {
+            [] => false,
+            [op, ..] => matches!(
+                op,
+                Op::Return | Op::Commit | Op::Goto(_) | Op::Leave | Op::Refuse
+            ),
+        },
+        _ => false,
+    }
+}
+
+/// Does such a step, which leaves what is outside.
+#[inline(always)]
+fn quick_mark<'p>(memory: &mut Memory, code: &'p Code, tables: &Tables, now: Now<'p>) -> Now<'p>
     requires built { IsBuilt code.now }
     requires tidy { Tidy code.now }
     requires some { HasStatus code.now memory.old now }
     requires mark { rests now ≡ false }
-    ensures done { DoesMarks tables.now code.now memory.old outside.old now.entry memory.new outside.new result }
-    ensures sites { outside.new.sites ≡ outside.old.sites }
+    requires quick { IsQuick now }
+    ensures { (out : TheOutside) → DoesMarks tables.now code.now memory.old out now.entry memory.new out result }
 {
     match now {
         Now::Enters(call, ops) => memory.enter_rule(tables, call, ops),
         Now::Runs(ops) => match ops {
-            [] => mark_step(memory, code, tables, outside, now),
-            [op, rest @ ..] => match op {
-                Op::Return => memory.answer(code, ops, rest),
-                _ => mark_step(memory, code, tables, outside, now),
-            },
+            [] => Now::Fails,
+            [op, rest @ ..] => do_mark(memory, code, ops, op, rest),
         },
-        now => mark_step(memory, code, tables, outside, now),
+        _ => Now::Fails,
     }
 }
 
@@ -447,7 +460,11 @@ fn settle<'p>(
 {
     let mut now = now;
     'marks: while !rests(now) {
-        now = next_mark(memory, code, tables, outside, now);
+        if is_quick(now) {
+            now = quick_mark(memory, code, tables, now);
+        } else {
+            now = mark_step(memory, code, tables, outside, now);
+        }
     }
     now
 }
@@ -508,9 +525,9 @@ fn is_quiet(op: &Op) -> bool
     }
 }
 
-/// Does any instruction that takes a goal, and steps up to the next goal, or the end.
+/// Does the instruction at hand, which takes a goal, and steps up to the next goal, or the end.
 #[inline(never)]
-fn loud_turn<'p, S: Source, K: Sink>(
+fn turn<'p, S: Source, K: Sink>(
     memory: &mut Memory,
     code: &'p Code,
     tables: &Tables,
@@ -540,40 +557,43 @@ fn loud_turn<'p, S: Source, K: Sink>(
     }
 }
 
-/// The same; an instruction that prints and reads nothing, and leaves what is outside, is looked at first.
+/// Whether the first of some instructions is such.
 #[inline(always)]
-fn turn<'p, S: Source, K: Sink>(
+fn begins_quietly(ops: &[Op]) -> bool
+    ensures { result ≡ true → BeginsQuietly ops.now }
+{
+    match ops {
+        [] => false,
+        [op, ..] => is_quiet(op),
+    }
+}
+
+/// The same where it prints and reads nothing, and leaves what is outside.
+#[inline(always)]
+fn quiet_turn<'p>(
     memory: &mut Memory,
     code: &'p Code,
     tables: &Tables,
     outside: &mut Outside<'_>,
     ops: &'p [Op],
-    source: &mut S,
-    spacer: &mut Spacer,
-    sink: &mut K,
-) -> Result<Now<'p>, Fault>
+) -> Now<'p>
     requires built { IsBuilt code.now }
     requires tidy { Tidy code.now }
     requires goal { at_goal ops.now ≡ true }
-    requires may { MayPick 1 (picks_in outside.old) }
-    requires some { IsSomewhereAt tables.now code.now memory.old outside.old (Runs ops) (S.view source.old) }
-    ensures ok { IfOk result (λ now. Takes tables.now code.now 1 memory.old outside.old (Runs ops.entry) spacer.old (K.view sink.old) (S.view source.old)
-        memory.new outside.new now spacer.new (K.view sink.new) (S.view source.new)) }
-    ensures err { IfErr result (λ fault. BreaksTurn fault tables.now code.now memory.old outside.old (Runs ops.entry)
-        spacer.old (K.view sink.old) (S.view source.old) spacer.new (K.view sink.new) (S.view source.new)) }
-    ensures roomy { OnErr result ((l : Limits) → (m : Mid) → Holds code.now l memory.old m → Roomy l memory.new) }
-    ensures once { PicksOnce outside.old outside.new }
-    ensures some { IfOk result (λ now. IsSomewhereStill tables.now code.now memory.new outside.new now (S.view source.new)) }
-    ensures rests { IfOk result (λ now. rests now ≡ true) }
+    requires quiet { BeginsQuietly ops.now }
+    requires some { IsSomewhereWith tables.now code.now memory.old outside.old (Runs ops) }
+    ensures takes { (s : TheSpacer) → (k : SinkView) → (i : SourceView) →
+        Takes tables.now code.now 1 memory.old outside.old (Runs ops.entry) s k i memory.new outside.new result s k i ×
+        (IsSomewhereAt tables.now code.now memory.old outside.old (Runs ops.entry) i →
+        IsSomewhereStill tables.now code.now memory.new outside.new result i) }
+    ensures sites { outside.new.sites ≡ outside.old.sites }
+    ensures rests { rests result ≡ true }
 {
     match ops {
-        [] => loud_turn(memory, code, tables, outside, ops, source, spacer, sink),
+        [] => Now::Fails,
         [op, rest @ ..] => {
-            if !is_quiet(op) {
-                return loud_turn(memory, code, tables, outside, ops, source, spacer, sink);
-            }
             let now = do_quiet(memory, code, tables, op, rest);
-            Ok(settle(memory, code, tables, outside, now))
+            settle(memory, code, tables, outside, now)
         }
     }
 }
@@ -599,18 +619,26 @@ pub fn go<'p, S: Source, K: Sink>(
     ensures err { IfErr result (λ fault. BreaksRun fault tables.now code.now memory.old outside.old start.entry steps spacer.old (K.view sink.old)
         (S.view source.old) memory.new spacer.new (K.view sink.new) (S.view source.new)) }
 {
-    let mut now = settle_apart(memory, code, tables, outside, start);
+    let first = settle_apart(memory, code, tables, outside, start);
+    let mut now = first;
     let mut left = steps;
     'goals: while left > 0 {
         match now {
             Now::Ended(ending) => return Ok((ending, left)),
-            Now::Runs(ops) => match turn(memory, code, tables, outside, ops, source, spacer, sink) {
-                Err(fault) => return Err(fault),
-                Ok(next) => {
-                    now = next;
+            Now::Runs(ops) => {
+                if begins_quietly(ops) {
+                    now = quiet_turn(memory, code, tables, outside, ops);
                     left -= 1;
+                } else {
+                    match turn(memory, code, tables, outside, ops, source, spacer, sink) {
+                        Err(fault) => return Err(fault),
+                        Ok(next) => {
+                            now = next;
+                            left -= 1;
+                        }
+                    }
                 }
-            },
+            }
             _ => return Ok((Ending::Failed, left)),
         }
     }

@@ -25,10 +25,11 @@ use Rattle.dg_mid.specs.Potential.{IsOver}
 use Rattle.dg_mid.specs.Left.{reads, left_behind}
 use Rattle.dg_mid.specs.Runs.{after, left_after}
 use Rattle.dg_machine.specs.declared.now.Now.{Now}
-use Rattle.dg_machine.specs.declared.now.Now.TheVariants.{Runs, Ended}
+use Rattle.dg_machine.specs.declared.now.Now.TheVariants.{Runs, Enters, Ended}
 use Rattle.dg_machine.specs.declared.memory.Memory.{Memory}
 use Rattle.dg_machine.specs.declared.tables.Tables.{Tables}
 use Rattle.dg_machine.specs.Tables.{IsOf}
+use Rattle.dg_machine.specs.Built.{BeginsQuietly}
 use Rattle.dg_machine.specs.Layout.{Roomy, Holds}
 use Rattle.dg_machine.specs.Seeking.{StatusSeeks}
 use Rattle.dg_machine.specs.Standing.{CodeIs, Stands, Around, HasOutside}
@@ -55,6 +56,12 @@ abbrev pub rests : Now → Bool
 rests (Runs ops) = at_goal ops.now
 rests (Ended e) = true
 rests now = false
+
+-- A rule is entered, or code is at hand whose first instruction leaves what is outside.
+abbrev pub IsQuick : Now → Type 0
+IsQuick (Runs ops) = BeginsQuietly ops.now
+IsQuick (Enters k ops) = Unit {0}
+IsQuick now = ⊥
 
 -- ## Text
 

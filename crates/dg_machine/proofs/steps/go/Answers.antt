@@ -1,24 +1,25 @@
 use Rattle.std.proofs.Common.{◌≡◌, ◌+◌, ◌-◌, refl, subst, arith}
 use Rattle.dg_outside.specs.Outside.{MayPick, picks_in}
 use Rattle.dg_outside.proofs.Picks.{may_fewer}
+use Rattle.dg_machine.specs.declared.now.Now.TheVariants.{Runs}
 use Rattle.dg_machine.specs.inside.Reading.{IsEnd}
 use Rattle.dg_machine.specs.inside.Running.{IsSomewhereAt}
-use Rattle.dg_machine.proofs.Selects.{may_on}
+use Rattle.dg_machine.proofs.Selects.{may_on, keeps_sites}
 use Rattle.dg_machine.proofs.Turns.{somewhere_first, left_settled, takes_none, takes_on, finishes, limits, breaks}
 use Rattle.dg_machine.proofs.steps.go.Goals as goal
 
-pub settle_apart-now-requires-clause-some : goal.settle_apart-now-requires-clause-some
-settle_apart-now-requires-clause-some g c = somewhere_first c.args.tables.now c.args.code.now c.args.memory.now c.args.outside.now c.args.start (g.S.Source.view c.args.source.now) c.requires.some
+pub settle_apart-first-requires-clause-some : goal.settle_apart-first-requires-clause-some
+settle_apart-first-requires-clause-some g c = somewhere_first c.args.tables.now c.args.code.now c.args.memory.now c.args.outside.now c.args.start (g.S.Source.view c.args.source.now) c.requires.some
 
 pub goals-init : goal.goals-init
 goals-init g c =
     let i = g.S.Source.view c.args.source.now in
     let k = g.K.Sink.view c.args.sink.now in
     record {
-      takes = takes_none c.args.tables.now c.args.code.now c.args.memory.now c.args.outside.now c.args.start c.args.spacer.now k i (c.args.steps - c.args.steps) c.settle_apart-now.new.memory c.settle_apart-now.new.outside c.settle_apart-now.result (λ n. omega arith) c.settle_apart-now.ensures.comes;
-      somewhere = λ goes rest h. left_settled c.args.tables.now c.args.code.now c.args.memory.now c.settle_apart-now.new.memory c.args.outside.now c.settle_apart-now.new.outside c.args.start c.settle_apart-now.result rest c.settle_apart-now.ensures.comes (c.requires.some rest h);
-      may = may_on c.args.steps c.args.outside.now c.settle_apart-now.new.outside c.settle_apart-now.ensures.sites c.requires.may;
-      rests = c.settle_apart-now.ensures.rests;
+      takes = takes_none c.args.tables.now c.args.code.now c.args.memory.now c.args.outside.now c.args.start c.args.spacer.now k i (c.args.steps - c.args.steps) c.settle_apart-first.new.memory c.settle_apart-first.new.outside c.settle_apart-first.result (λ n. omega arith) c.settle_apart-first.ensures.comes;
+      somewhere = λ goes rest h. left_settled c.args.tables.now c.args.code.now c.args.memory.now c.settle_apart-first.new.memory c.args.outside.now c.settle_apart-first.new.outside c.args.start c.settle_apart-first.result rest c.settle_apart-first.ensures.comes (c.requires.some rest h);
+      may = may_on c.args.steps c.args.outside.now c.settle_apart-first.new.outside c.settle_apart-first.ensures.sites c.requires.may;
+      rests = c.settle_apart-first.ensures.rests;
       within = omega arith;
     }
 
@@ -27,6 +28,30 @@ turn-requires-clause-may g c = let some = c.goals-test.true in may_fewer 1 c.goa
 
 pub turn-requires-clause-some : goal.turn-requires-clause-some
 turn-requires-clause-some g c = subst (λ x. IsSomewhereAt c.args.tables.now c.args.code.now c.goals.memory c.goals.outside x (g.S.Source.view c.goals.source)) c.in-Runs.is (c.goals.invariant.somewhere (λ end. subst IsEnd c.in-Runs.is end))
+
+pub quiet_turn-now-requires-clause-some : goal.quiet_turn-now-requires-clause-some
+quiet_turn-now-requires-clause-some g c =
+    let i = g.S.Source.view c.goals.source in
+    let before = subst (λ x. IsSomewhereAt c.args.tables.now c.args.code.now c.goals.memory c.goals.outside x i) c.in-Runs.is (c.goals.invariant.somewhere (λ end. subst IsEnd c.in-Runs.is end)) in
+    somewhere_first c.args.tables.now c.args.code.now c.goals.memory c.goals.outside (Runs c.in-Runs.ops) i before
+
+pub goals-preserved-then-begins_quietly : goal.goals-preserved-then-begins_quietly
+goals-preserved-then-begins_quietly g c =
+    let some = c.goals-test.true in
+    let within = c.goals.invariant.within in
+    let n = c.args.steps - c.goals.left in
+    let k = g.K.Sink.view c.goals.sink in
+    let i = g.S.Source.view c.goals.source in
+    let before = subst (λ x. IsSomewhereAt c.args.tables.now c.args.code.now c.goals.memory c.goals.outside x i) c.in-Runs.is (c.goals.invariant.somewhere (λ end. subst IsEnd c.in-Runs.is end)) in
+    let done = c.quiet_turn-now.ensures.takes c.goals.spacer k i in
+    record {
+      takes = takes_on c.args.tables.now c.args.code.now c.args.memory.now c.args.outside.now c.args.start c.args.spacer.now (g.K.Sink.view c.args.sink.now) (g.S.Source.view c.args.source.now) n (c.args.steps - (c.goals.left - 1)) c.goals.memory c.quiet_turn-now.new.memory c.goals.outside c.quiet_turn-now.new.outside c.goals.now c.quiet_turn-now.result c.in-Runs.ops c.goals.spacer c.goals.spacer
+          k k i i c.in-Runs.is (λ x. omega (arith, some, within)) c.goals.invariant.takes done.0;
+      somewhere = done.1 before;
+      may = keeps_sites c.goals.outside c.quiet_turn-now.new.outside c.quiet_turn-now.ensures.sites (c.goals.left - 1) (subst (λ n. MayPick n (picks_in c.goals.outside)) (let same : c.goals.left ≡ c.goals.left - 1 + 1 = omega (arith, some) in same) c.goals.invariant.may);
+      rests = c.quiet_turn-now.ensures.rests;
+      within = omega (arith, within);
+    }
 
 pub goals-preserved : goal.goals-preserved
 goals-preserved g c =
