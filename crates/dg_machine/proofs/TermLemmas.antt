@@ -1,9 +1,9 @@
 -- The values of plain terms, and what they take.
 use Rattle.std.proofs.Common.{◌≡◌, ℕ, zero, suc, ◌+◌, ◌-◌, ◌<◌, ◌≤◌, List, [], ◌∷◌, ◌++◌, Option, Some, None, refl, sym, ap, ◌∙◌, subst, arith, length, get_or}
 use Rattle.std.specs.List.{sum_by}
-use Rattle.dg_base.specs.declared.program.Term.{Term, Pair', out-Term}
+use Rattle.dg_base.specs.declared.program.Term.{Term, Pair', out-Term, roll-Term, roll-out-Term}
 use Rattle.dg_base.specs.declared.program.Term.TheOpen as term
-use Rattle.dg_base.specs.declared.program.Term.TheVariants.{Num as Num-Term, Word as Word-Term, Object as Object-Term, Nil as Nil-Term, Var as Var-Term}
+use Rattle.dg_base.specs.declared.program.Term.TheVariants.{Num as Num-Term, Word as Word-Term, Object as Object-Term, Nil as Nil-Term, Var as Var-Term, rolls-Num, rolls-Word, rolls-Object, rolls-Nil, rolls-Var, outs-Var}
 use Rattle.dg_base.specs.declared.program.CoreProgram.{CoreProgram}
 use Rattle.dg_base.specs.Terms.{nodes}
 use Rattle.dg_meaning.specs.Values.{Value, Values, NoMore, More, Num, Word, Object, Nil, Closure, Node, leaf, value_of, value_of_var}
@@ -39,6 +39,22 @@ nil_value p vs t e = ap (value_of p vs) e
 pub var_value : (p : CoreProgram) (vs : List Value) (t : Term) (n : ℕ) → t ≡ Var-Term n → value_of p vs t ≡ value_of_var vs n
 unfolding out-Term denote.Hole.Carrier.out
 var_value p vs t n e = ap (value_of p vs) e
+
+pub var_plain : (x : Term) (n : ℕ) → x ≡ Var-Term n → IsPlain (out-Term x)
+var_plain x n e = subst IsPlain (sym (ap out-Term e ∙ outs-Var n)) tt
+
+nil_top : (x : Term) (o : term.Term-F Term) → out-Term x ≡ o → IsPlain o → ((n : ℕ) → x ≡ Num-Term n → ⊥) → ((n : ℕ) → x ≡ Word-Term n → ⊥) → ((n : ℕ) → x ≡ Object-Term n → ⊥) → ((n : ℕ) → x ≡ Var-Term n → ⊥) → x ≡ Nil-Term
+nil_top x (term.Num n) e plain a b d v = absurd (a n (sym (roll-out-Term x) ∙ ap roll-Term e ∙ rolls-Num n))
+nil_top x (term.Word n) e plain a b d v = absurd (b n (sym (roll-out-Term x) ∙ ap roll-Term e ∙ rolls-Word n))
+nil_top x (term.Object n) e plain a b d v = absurd (d n (sym (roll-out-Term x) ∙ ap roll-Term e ∙ rolls-Object n))
+nil_top x (term.Var n) e plain a b d v = absurd (v n (sym (roll-out-Term x) ∙ ap roll-Term e ∙ rolls-Var n))
+nil_top x term.Nil e plain a b d v = sym (roll-out-Term x) ∙ ap roll-Term e ∙ rolls-Nil
+nil_top x (term.Pair h tl) e plain a b d v = absurd plain
+nil_top x (term.Closure c) e plain a b d v = absurd plain
+
+-- a plain term that is nothing else is the empty list
+pub nil_left : (x : Term) → IsPlain (out-Term x) → ((n : ℕ) → x ≡ Num-Term n → ⊥) → ((n : ℕ) → x ≡ Word-Term n → ⊥) → ((n : ℕ) → x ≡ Object-Term n → ⊥) → ((n : ℕ) → x ≡ Var-Term n → ⊥) → x ≡ Nil-Term
+nil_left x plain a b d v = nil_top x (out-Term x) refl plain a b d v
 
 -- ## Variables in a row
 

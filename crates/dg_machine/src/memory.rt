@@ -276,6 +276,7 @@ impl Memory {
     }
 
     /// Puts the values of terms, among the variables at hand, into the register of arguments.
+    #[inline(always)]
     pub fn put_args(&mut self, tables: &Tables, terms: &[Term]) -> Result<(), Full>
         requires some { (code : Code) × (l : Limits) × (m : Mid) × Holds code l self.old m }
         requires terms { AreArguments terms.now }

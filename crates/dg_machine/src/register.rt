@@ -12,7 +12,7 @@ ghost use Rattle.dg_machine.specs.inside.Writing.{Overflows, SpareFits};
 use crate::closures::leaf_value;
 use crate::now::{Row, Side};
 use crate::tables::Tables;
-use crate::terms::plain_value;
+use crate::terms::var_value;
 use crate::writing::write_term;
 use dg_arena::Arena;
 use dg_base::Term;
@@ -72,7 +72,12 @@ fn write_next(
     ensures spare_room { vec_capacity spare.new ≡ vec_capacity spare.old }
 {
     match term {
-        Term::Pair(_, _) | Term::Closure(_) => {
+        Term::Var(var) => {
+            let value = var_value(arena, row, *var);
+            to.push_reserved(value);
+            Ok(())
+        }
+        _ => {
             match write_value(arena, tables, row, term, path, spare) {
                 Err(full) => Err(full),
                 Ok(value) => {
@@ -81,15 +86,11 @@ fn write_next(
                 }
             }
         }
-        _ => {
-            let value = plain_value(arena, row, term);
-            to.push_reserved(value);
-            Ok(())
-        }
     }
 }
 
 /// Puts the values of terms, among variables in a row, into a register that is emptied.
+#[inline(always)]
 pub fn write_terms(
     arena: &mut Arena,
     tables: &Tables,

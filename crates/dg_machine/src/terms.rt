@@ -1,7 +1,8 @@
 // Values without parts, and arguments against a head.
-ghost use Rattle.std.specs.Prelude.{◌≡◌, List, Some};
+ghost use Rattle.std.specs.Prelude.{◌≡◌, ℕ, List, Some};
 ghost use Rattle.std.specs.List.{zip};
 ghost use Rattle.dg_base.specs.declared.program.Term.{out-Term};
+ghost use Rattle.dg_base.specs.declared.program.Term.TheVariants.{Var as VarTerm};
 ghost use Rattle.dg_base.specs.declared.program.CoreProgram.{CoreProgram};
 ghost use Rattle.dg_meaning.specs.Values.{Value, leaf, pair, value_of, value_of_var};
 ghost use Rattle.dg_meaning.specs.Substitutions.{walk};
@@ -41,6 +42,21 @@ pub fn var_value(arena: &mut Arena, row: &Row, var: u16) -> Ref
     }
 }
 
+/// The value of a term without parts that is no variable.
+fn constant_value(arena: &mut Arena, term: &Term) -> Ref
+    requires plain { IsPlain (out-Term term.now) }
+    requires other { (n : ℕ) → term.now ≡ VarTerm n → ⊥ }
+    ensures stays { Stays arena.old arena.new }
+    ensures value { (p : CoreProgram) → (vs : List Value) → (meaning_of arena.new).value result ≡ Some (value_of p vs term.now) }
+{
+    match term {
+        Term::Num(n) => simple_value(arena, Simple::Num(*n)),
+        Term::Word(n) => simple_value(arena, Simple::Word(*n)),
+        Term::Object(n) => simple_value(arena, Simple::Object(*n)),
+        _ => simple_value(arena, Simple::Nil),
+    }
+}
+
 /// The value of a term without parts, among variables in a row.
 #[inline(always)]
 pub fn plain_value(arena: &mut Arena, row: &Row, term: &Term) -> Ref
@@ -51,13 +67,8 @@ pub fn plain_value(arena: &mut Arena, row: &Row, term: &Term) -> Ref
         (meaning_of arena.new).value result ≡ Some (value_of p vs term.now) }
 {
     match term {
-        Term::Num(n) => simple_value(arena, Simple::Num(*n)),
-        Term::Word(n) => simple_value(arena, Simple::Word(*n)),
-        Term::Object(n) => simple_value(arena, Simple::Object(*n)),
-        Term::Nil => simple_value(arena, Simple::Nil),
         Term::Var(var) => var_value(arena, row, *var),
-        Term::Closure(_) => unreachable!(),
-        Term::Pair(_, _) => unreachable!(),
+        _ => constant_value(arena, term),
     }
 }
 
