@@ -2,20 +2,17 @@
 
 ghost use Rattle.std.specs.Prelude.{vec_capacity, ◌≡◌, ◌&&◌, ◌+◌, ◌≤◌, ℕ, List, [], ◌∷◌, Some, None, true, false};
 ghost use Rattle.std.specs.Prelude.{IfOk, IfSome, MatchResult, length, reverse};
-ghost use Rattle.dg_unify.specs.Store.{Holds, Saved, Kept, told, Shows, ShowsVar, HeapFull, TrailFull, Blocked, Bound};
+ghost use Rattle.dg_unify.specs.Store.{Saved, Kept, told, Shows, HeapFull, TrailFull, Blocked, Bound};
 ghost use Rattle.dg_unify.specs.Linked.{log_of, vars_of, var_room, link_room};
 ghost use Rattle.dg_unify.specs.Slots.{AreSound, is_constant, store_of};
-ghost use Rattle.dg_meaning.specs.Values.{pair};
-ghost use Rattle.dg_meaning.specs.Substitutions.{walk};
-ghost use Rattle.dg_unify.specs.inside.Turns.{IsUnbound};
 ghost use Rattle.dg_unify.specs.inside.Ends.{TellsOf, told_in, IsEnd, Leads, EndsAt, MayLink};
 ghost use Rattle.dg_unify.specs.Fences.{IsFenced};
 ghost use Rattle.dg_unify.specs.Props.{are_sound_prop, is_fenced_prop};
 ghost use Rattle.dg_arena.specs.Room.{HasRoom};
-ghost use Rattle.dg_arena.specs.Joins.{IsFree, IsAbsent, IsBefore, Joins};
+ghost use Rattle.dg_arena.specs.Joins.{IsFree, IsAbsent};
 ghost use Rattle.dg_arena.specs.Rows.{MadeVars};
-ghost use Rattle.dg_arena.specs.inside.Settled.{Settles};
-ghost use Rattle.dg_arena.specs.inside.Spines.{IsNode, IsClearTo, Points};
+
+mod joining;
 
 use crate::rows::push_vars;
 use crate::words::push_words;
@@ -25,9 +22,6 @@ use dg_unify::{
     letter_at, number_of, push_captured, push_letters, simple_at, trail_for,
 };
 use std::alloc::{AllocError, Global};
-
-// The first number that names the empty list. Of two smaller ones each names another value without parts.
-const FIRST_NIL: u32 = 2147680256;
 
 /// Values, bindings and blocks of words, in room that is taken once.
 #[derive(Drop)]
@@ -163,67 +157,6 @@ impl Arena {
         });
     }
 
-    /// Unifies two values, where it is clear at once what comes of that: one is a variable that is younger than the other and doesn't
-    /// stand in it, or both are the same, or the second has no parts, or one is a variable and a look along the list that the other is
-    /// shows that it doesn't stand in it. Else nothing is done. It is the faster where the second is a new variable.
-    #[inline(always)]
-    pub fn join(&mut self, to: Ref, var: Ref) -> Option<Result<bool, Full>>
-        requires to_in { Holds (meaning_of self.old) to }
-        requires var_in { Holds (meaning_of self.old) var }
-        ensures kept { Kept (meaning_of self.old) (meaning_of self.new) }
-        ensures saved { (ms : List Saved) → saves_of self.old ms → saves_of self.new ms }
-        ensures joined { Joins (meaning_of self.old) (meaning_of self.new) to var result }
-    {
-        let number = match self.free_at(var) {
-            None => return self.join_known(to, var),
-            Some(number) => number,
-        };
-        let end = self.end_of(to);
-        if !self.is_before(end, var, number) {
-            return None;
-        }
-        match self.link_fenced(number, end) {
-            Ok(()) => Some(Ok(true)),
-            Err(full) => Some(Err(full)),
-        }
-    }
-
-    /// Binds an unbound variable to a pair, where it is clear at once that it doesn't stand in the parts of that. Else nothing is
-    /// done.
-    #[inline(always)]
-    pub fn join_pair(
-        &mut self,
-        var: Ref,
-        whole: Ref,
-        head: Ref,
-        tail: Ref,
-    ) -> Option<Result<bool, Full>>
-        requires var_in { IsUnbound (meaning_of self.old) var }
-        requires head_in { Holds (meaning_of self.old) head }
-        requires tail_in { Holds (meaning_of self.old) tail }
-        requires whole_in { (meaning_of self.old).value whole ≡ Some (pair (told (meaning_of self.old) head) (told (meaning_of self.old) tail)) }
-        ensures kept { Kept (meaning_of self.old) (meaning_of self.new) }
-        ensures saved { (ms : List Saved) → saves_of self.old ms → saves_of self.new ms }
-        ensures joined { (to : Ref) → ShowsVar (meaning_of self.old) (walk (meaning_of self.old).state.subst (told (meaning_of self.old) to)) var →
-            Joins (meaning_of self.old) (meaning_of self.new) to whole result }
-    {
-        let number = match self.cells[var.0 as usize] {
-            Slot::Var(number) => number,
-            _ => return None,
-        };
-        if !self.part_clear(head, number) {
-            return None;
-        }
-        if !self.part_clear(tail, number) {
-            return None;
-        }
-        let top = self.part_top(head).max(self.part_top(tail));
-        match self.link_below(number, whole, top) {
-            Ok(()) => Some(Ok(true)),
-            Err(full) => Some(Err(full)),
-        }
-    }
-
     /// What was taken of the heap.
     pub fn heap(&self) -> u32
         ensures { result ≡ (meaning_of self.now).state.heap }
@@ -313,61 +246,6 @@ impl Arena {
         self.is_constant(a) && self.is_constant(b)
     }
 
-    // The same, where the second value may be anything.
-    fn join_known(&mut self, to: Ref, from: Ref) -> Option<Result<bool, Full>>
-        requires to_in { Holds (meaning_of self.old) to }
-        requires from_in { Holds (meaning_of self.old) from }
-        ensures kept { Kept (meaning_of self.old) (meaning_of self.new) }
-        ensures saved { (ms : List Saved) → saves_of self.old ms → saves_of self.new ms }
-        ensures joined { Joins (meaning_of self.old) (meaning_of self.new) to from result }
-    {
-        let end = self.end_of(to);
-        let value = self.end_of(from);
-        let number = match self.free_at(end) {
-            None => {
-                return match self.same_ends(end, value) {
-                    None => self.join_along(end, value),
-                    Some(same) => Some(Ok(same)),
-                };
-            }
-            Some(number) => number,
-        };
-        if !self.is_before(value, end, number) {
-            return self.join_along(end, value);
-        }
-        match self.link_fenced(number, value) {
-            Ok(()) => Some(Ok(true)),
-            Err(full) => Some(Err(full)),
-        }
-    }
-
-    // Whether two values that are no bound variables are the same, or clash, where that is clear at once.
-    fn same_ends(&self, end: Ref, value: Ref) -> Option<bool>
-        requires end_in { TellsOf (fields_of self.now) end }
-        requires value_in { TellsOf (fields_of self.now) value }
-        ensures { IfSome result (λ same. Settles (fields_of self.now) end value same) }
-    {
-        if end.0 == value.0 {
-            return Some(true);
-        }
-        if value.0 < FIRST_SIMPLE {
-            return None;
-        }
-        if end.0 >= FIRST_SIMPLE {
-            if end.0 < FIRST_NIL {
-                return Some(false);
-            }
-            if value.0 < FIRST_NIL {
-                return Some(false);
-            }
-            return None;
-        }
-        match self.cells[end.0 as usize] {
-            Slot::Var(_) => None,
-            _ => Some(false),
-        }
-    }
-
     // The number of an unbound variable, if a value is one.
     #[inline(always)]
     fn free_at(&self, at: Ref) -> Option<u32>
@@ -384,20 +262,6 @@ impl Arena {
             },
             _ => None,
         }
-    }
-
-    // Whether it is clear at once that a variable of this number doesn't stand in an end, and is younger than it.
-    #[inline(always)]
-    fn is_before(&self, end: Ref, var: Ref, number: u32) -> bool
-        requires { TellsOf (fields_of self.now) end }
-        ensures before { result ≡ true → IsBefore (fields_of self.now) end var number }
-        ensures fenced { result ≡ true →
-            IsFenced self.now.cells.items (record { var = number; to = end } ∷ reverse (log_of self.now.links)) (vars_of self.now.links) self.now.fence }
-    {
-        if end.0 >= FIRST_SIMPLE {
-            return true;
-        }
-        end.0 < var.0 && self.fence.stands_between(end, number)
     }
 
     // Whether it is clear at once that a variable of this number doesn't stand in a value, up to its parts.
@@ -554,106 +418,6 @@ impl Arena {
         self.links.bind_reserved(var, to);
         self.trail += more;
         Ok(())
-    }
-
-    // Whether a value is one without parts, or a pair.
-    #[inline(always)]
-    fn is_node(&self, at: Ref) -> bool
-        requires { TellsOf (fields_of self.now) at }
-        ensures { result ≡ true → IsNode (told_in (fields_of self.now) at) }
-    {
-        if at.0 >= FIRST_SIMPLE {
-            return true;
-        }
-        match self.cells[at.0 as usize] {
-            Slot::Pair(_, _, _) => true,
-            _ => false,
-        }
-    }
-
-    // The tail of a pair, where it is clear at once that a variable of this number doesn't stand in the head.
-    #[inline(always)]
-    fn clear_behind(&self, at: Ref, number: u32) -> Option<Ref>
-        requires { TellsOf (fields_of self.now) at }
-        ensures { IfSome result (λ tail. IsClearTo (fields_of self.now) at tail number) }
-    {
-        let end = self.end_of(at);
-        if end.0 >= FIRST_SIMPLE {
-            return None;
-        }
-        match self.cells[end.0 as usize] {
-            Slot::Pair(head, tail, _) => {
-                if !self.part_clear(head, number) {
-                    return None;
-                }
-                Some(tail)
-            }
-            _ => None,
-        }
-    }
-
-    // Whether it is clear from a look along a list that a variable of this number doesn't stand in it.
-    fn list_clear(&self, at: Ref, number: u32) -> bool
-        requires { TellsOf (fields_of self.now) at }
-        ensures { result ≡ true → IsAbsent (fields_of self.now) at number }
-    {
-        let mut at = at;
-        let mut left = self.cells.len();
-        'pairs: while left > 0 {
-            if self.part_clear(at, number) {
-                return true;
-            }
-            match self.clear_behind(at, number) {
-                None => return false,
-                Some(tail) => at = tail,
-            }
-            left -= 1;
-        }
-        false
-    }
-
-    // Binds an unbound variable of this number to an end, where it is clear from a look along that that it doesn't stand in it. Else
-    // nothing is done.
-    #[inline(always)]
-    fn point(&mut self, number: u32, to: Ref) -> Option<Result<bool, Full>>
-        requires free { (var : Ref) × IsFree (fields_of self.old) var number }
-        requires told { TellsOf (fields_of self.old) to }
-        requires end { IsEnd (fields_of self.old) to }
-        ensures kept { Kept (meaning_of self.old) (meaning_of self.new) }
-        ensures saved { (ms : List Saved) → saves_of self.old ms → saves_of self.new ms }
-        ensures points { Points (fields_of self.old) (meaning_of self.new) number to result }
-    {
-        if !self.is_node(to) {
-            return None;
-        }
-        if !self.list_clear(to, number) {
-            return None;
-        }
-        match self.link(number, to) {
-            Ok(()) => Some(Ok(true)),
-            Err(full) => Some(Err(full)),
-        }
-    }
-
-    // Unifies two ends of which one is an unbound variable, where it is clear from a look along the other that the variable doesn't
-    // stand in it. Else nothing is done.
-    fn join_along(&mut self, a: Ref, b: Ref) -> Option<Result<bool, Full>>
-        requires a_in { TellsOf (fields_of self.old) a }
-        requires b_in { TellsOf (fields_of self.old) b }
-        requires a_end { IsEnd (fields_of self.old) a }
-        requires b_end { IsEnd (fields_of self.old) b }
-        ensures kept { Kept (meaning_of self.old) (meaning_of self.new) }
-        ensures saved { (ms : List Saved) → saves_of self.old ms → saves_of self.new ms }
-        ensures joined { (to from : Ref) → EndsAt (fields_of self.old) to a → EndsAt (fields_of self.old) from b →
-            Joins (meaning_of self.old) (meaning_of self.new) to from result }
-    {
-        match self.free_at(a) {
-            Some(number) => self.point(number, b),
-            None => match self.free_at(b) {
-                Some(number) => self.point(number, a),
-                None => None,
-            },
-        }
     }
 }
 
