@@ -82,7 +82,8 @@ impl Arena {
         }
     }
 
-    // The same, where the second value may be anything.
+    // What `join` does, where the second value may be anything.
+    #[inline(always)]
     fn join_known(&mut self, to: Ref, from: Ref) -> Option<Result<bool, Full>>
         requires to_in { Holds (meaning_of self.old) to }
         requires from_in { Holds (meaning_of self.old) from }
@@ -111,6 +112,7 @@ impl Arena {
     }
 
     // Whether two values that are no bound variables are the same, or clash, where that is clear at once.
+    #[inline(always)]
     fn same_ends(&self, end: Ref, value: Ref) -> Option<bool>
         requires end_in { TellsOf (fields_of self.now) end }
         requires value_in { TellsOf (fields_of self.now) value }
