@@ -404,7 +404,8 @@ impl Arena {
     #[inline(always)]
     fn link_fenced(&mut self, var: u32, to: Ref) -> Result<(), Full>
         requires may { MayLink (fields_of self.old) var to }
-        requires fenced { IsFenced self.old.cells.items (record { var = var; to = to } ∷ reverse (log_of self.old.links)) (vars_of self.old.links) self.old.fence }
+        requires fenced { IsFenced self.old.cells.items (record { var = var; to = to } ∷ reverse (log_of self.old.links)) (vars_of self.old.links)
+            self.old.fence }
         ensures kept { Kept (meaning_of self.old) (meaning_of self.new) }
         ensures saved { (ms : List Saved) → saves_of self.old ms → saves_of self.new ms }
         ensures waits { self.new.waits ≡ self.old.waits }
