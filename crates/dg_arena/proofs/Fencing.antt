@@ -1,10 +1,13 @@
 -- Where a fence stands right with one more binding.
-use Rattle.std.proofs.Common.{◌≡◌, ℕ, ◌≤◌, List, [], ◌∷◌, refl, arith, reverse, ◌++◌}
+use Rattle.std.proofs.Common.{◌≡◌, ℕ, ◌<◌, ◌≤◌, List, [], ◌∷◌, refl, sym, ap, ◌∙◌, arith, reverse, ◌++◌, Some, true, false, inl, inr}
+use Rattle.std.proofs.lemmas.Bool.{and_parts, ltb-true, leb-true, cases_order}
+use Rattle.std.specs.Prelude.{nat_lt, nat_le}
+use Rattle.dg_meaning.specs.Values.{Var}
 use Rattle.dg_meaning.specs.Unify.{top}
 use Rattle.dg_unify.specs.Store.{or_nil}
-use Rattle.dg_unify.specs.Slots.{value_in, Fields, AreSound}
-use Rattle.dg_unify.specs.inside.Ends.{told_in, MayLink}
-use Rattle.dg_unify.specs.Fences.{IsFenced, fence_for_link}
+use Rattle.dg_unify.specs.Slots.{value_in, Fields, AreSound, store_of}
+use Rattle.dg_unify.specs.inside.Ends.{TellsOf, told_in, MayLink}
+use Rattle.dg_unify.specs.Fences.{IsFenced, stands_between, fence_for_link}
 use Rattle.dg_unify.specs.declared.bindings.Ref.{Ref}
 use Rattle.dg_unify.specs.declared.slots.Slot.{Slot}
 use Rattle.dg_unify.specs.declared.slots.Link.{Link}
@@ -13,6 +16,10 @@ use Rattle.dg_unify.proofs.Lists.{reverse_snoc}
 use Rattle.dg_unify.proofs.Stores.{grown_links, link_sound}
 use Rattle.dg_arena.specs.declared.arena.Arena.{Arena}
 use Rattle.dg_arena.specs.Held.{fields_of}
+use Rattle.dg_arena.specs.Joins.{IsFree}
+use Rattle.dg_arena.proofs.Joining.{number_is}
+use Rattle.dg_unify.specs.Laws.{slots_younger}
+use Rattle.dg_unify.proofs.StoreLemmas.{holds_told}
 use Rattle.dg_unify.proofs.FenceLemmas.{Stays, end_of, fence_linked}
 
 -- where the end has only variables before it
@@ -48,6 +55,20 @@ fenced_moved f sound x to may fence now next t below now_is next_is h =
     rw (reverse_snoc f.log l) at stands
 
 -- ## In an arena
+
+-- a variable before the fence has a smaller Ref than one behind it
+pub between_older : (a : Arena) (end : Ref) → TellsOf (fields_of a) end → (n : ℕ) → stands_between a.fence end n ≡ true → (var : Ref) → IsFree (fields_of a) var n → (m : ℕ) → told_in (fields_of a) end ≡ Var m → end.0 < var.0
+between_older a end told n between var free m is =
+    let f = fields_of a in
+    let k = and_parts (nat_lt end.0 a.fence.slots) (nat_le a.fence.vars n) between in
+    let value : value_in f.slots end.0 ≡ Some (Var m) = holds_told (store_of false f) end told ∙ ap Some is in
+    let before : m < a.fence.vars = omega (arith, a.fenced.values end.0 (Var m) (ltb-true end.0 a.fence.slots k.0) value) in
+    let lt : m < n = omega (arith, before, leb-true a.fence.vars n k.1) in
+    elim (cases_order end.0 var.0) [
+      | inl same ↦ let both : Some (Var m) ≡ Some (Var n) = sym value ∙ ap (value_in f.slots) same ∙ free.value in absurd (omega (arith, number_is m n both, lt))
+      | inr (inl less) ↦ less
+      | inr (inr more) ↦ absurd (omega (arith, slots_younger f.slots (reverse f.log) f.vars a.sound.fits var end n m free.value value more, lt))
+    ]
 
 module _ (a : Arena) (x : ℕ) (to : Ref) (may : MayLink (fields_of a) x to) (t : ℕ) (below : top (told_in (fields_of a) to) ≤ t) (now next : Fence) (now_is : now ≡ end_of (fields_of a)) (next_is : next ≡ fence_for_link a.fence x t now) where
   abbrev f : Fields

@@ -9,7 +9,7 @@ use Rattle.dg_meaning.proofs.LookUps.{walk_node}
 use Rattle.dg_meaning.proofs.Walks.{walked, resolved_node}
 use Rattle.dg_unify.specs.Store.{Store, told, or_nil, ShowsVar, ShowsPair, Follows}
 use Rattle.dg_unify.specs.Slots.{label_at, value_in, Fields, AreSound, store_of}
-use Rattle.dg_unify.specs.inside.Ends.{subst_in, told_in, TellsOf, IsEnd, EndsAt, MayLink}
+use Rattle.dg_unify.specs.inside.Ends.{subst_in, told_in, TellsOf, IsEnd, LeadsTo, EndsAt, MayLink}
 use Rattle.dg_unify.specs.inside.Turns.{IsUnbound, FollowsTurn, TurnsInto, met_of}
 use Rattle.dg_unify.specs.Laws.{place_of_var}
 use Rattle.dg_unify.specs.declared.slots.Slot.{Slot}
@@ -22,7 +22,7 @@ use Rattle.dg_unify.proofs.Reading.{simple_told}
 use Rattle.dg_unify.proofs.Meets.{met_vars, met_left, met_right, tie_younger, tie_older, point_follows, unbound_at}
 use Rattle.dg_unify.proofs.Goings.{stays_broke}
 use Rattle.dg_arena.specs.Joins.{IsFree, IsAbsent, IsBefore, Joins}
-use Rattle.dg_arena.specs.inside.Spines.{IsNode, IsClearTo, PointsTo, Points}
+use Rattle.dg_arena.specs.inside.Spines.{IsClearTo, PointsTo, Points}
 
 -- ## Values in which a variable doesn't stand
 
@@ -37,6 +37,12 @@ end_absent f sound at end ends n h =
     let S = subst_in f in
     let w = walked S sound.fits.sound (told_in f at) in
     ap (contains n) (sym w.same) ∙ ap (λ (v : Value). contains n (resolved S v)) (sym ends.is) ∙ h
+
+-- nor in a variable that leads to a value in which it doesn't
+pub lead_absent : (f : Fields) → AreSound f → (at next : Ref) → LeadsTo f at next → (n : ℕ) → IsAbsent f next n → IsAbsent f at n
+lead_absent f sound at next leads n h =
+    let S = subst_in f in
+    ap (contains n) (sym (walked S sound.fits.sound (told_in f at)).same) ∙ ap (λ (v : Value). contains n (resolved S v)) leads.same ∙ ap (contains n) (walked S sound.fits.sound (told_in f next)).same ∙ h
 
 -- nor does it stand in another variable
 pub other_absent : (f : Fields) → AreSound f → (end : Ref) (m n : ℕ) → value_in f.slots end.0 ≡ Some (Var m) → IsEnd f end → (m ≡ n → ⊥) → IsAbsent f end n
@@ -111,7 +117,7 @@ module _ (f : Fields) (sound : AreSound f) (to from end value : Ref) (n : ℕ) (
 
 -- ## A variable and a pair of values in which it doesn't stand
 
-number_is : (m n : ℕ) → Some (Var m) ≡ Some (Var n) → m ≡ n
+pub number_is : (m n : ℕ) → Some (Var m) ≡ Some (Var n) → m ≡ n
 number_is m n e = cc
 
 module _ (f : Fields) (sound : AreSound f) (var whole head tail : Ref) (n : ℕ) (x : Slot) (read : x ≡ get_or f.slots var.0 x) (is_var : x ≡ slot.Var n) (free : IsUnbound (store_of false f) var)
@@ -153,9 +159,9 @@ module _ (f : Fields) (sound : AreSound f) (var whole head tail : Ref) (n : ℕ)
 
 -- ## A variable and a value that is looked along
 
--- what doesn't stand in the head of a pair, nor in its tail, doesn't stand in a value that ends in it
-pub clear_to : (f : Fields) → AreSound f → (at end h t : Ref) → EndsAt f at end → ShowsPair (store_of false f) (told_in f end) h t → TellsOf f t → (n : ℕ) → IsAbsent f h n → IsClearTo f at t n
-clear_to f sound at end h t ends sh told n ha = record { told = told; absent = λ hb. end_absent f sound at end ends n (pair_absent f end h t n sh ha hb) }
+-- what doesn't stand in the head of a pair, nor in its tail, doesn't stand in the pair
+pub clear_to : (f : Fields) (end h t : Ref) → ShowsPair (store_of false f) (told_in f end) h t → TellsOf f t → (n : ℕ) → IsAbsent f h n → IsClearTo f end t n
+clear_to f end h t sh told n ha = record { told = told; absent = λ hb. pair_absent f end h t n sh ha hb }
 
 pub free_link : (f : Fields) → AreSound f → (var to : Ref) (n : ℕ) → IsFree f var n → TellsOf f to → IsEnd f to → IsAbsent f to n → MayLink f n to
 free_link f sound var to n free told end absent =

@@ -125,6 +125,10 @@ makes_var f slots log vars is room es el ev =
       made = λ r at. fresh_made false f f' r is.sound g ev refl refl refl room (ap (value_in slots) at ∙ var_at f.slots slots f.vars (length f.slots) es refl low) at;
     }
 
+-- the fence is moved for what is made behind all slots and variables
+pub moved : (a : Arena) (slots vars : ℕ) (next : Fence) → slots ≡ length a.cells.items → vars ≡ vars_of a.links → next ≡ fence_for_new a.fence (record { slots = slots; vars = vars; reach = vars }) → next ≡ fence_for_new a.fence (end_of (fields_of a))
+moved a slots vars next es ev e = rw (sym es, sym ev) e
+
 -- ---- variables in a row
 
 slots_long : (n k : ℕ) → length (var_slots n k) ≡ k
@@ -276,6 +280,10 @@ binds f log vars n x to is may el ev en fits =
       fenced = λ fence h. rw (back, ev) h;
       bound = link_bound false f f' x to n may g ev refl refl refl en fits;
     }
+
+pub binds_counted : (f : Fields) (log : List Link) (vars trail x : ℕ) (to : Ref) → IsCounted f → MayLink f x to → log ≡ f.log ++ record { var = x; to = to } ∷ [] → vars ≡ f.vars → trail ≡ f.trail + trail_for f.since x → trail ≤ f.trail_limit → Binds f (with_link f log vars trail) x to
+binds_counted f log vars trail x to is may el ev et fits =
+    subst (λ t. Binds f (with_link f log vars t) x to) (sym et) (binds f log vars (trail_for f.since x) x to is may el ev refl (omega (arith, et, fits)))
 
 -- ---- marks
 

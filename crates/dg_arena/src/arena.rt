@@ -7,19 +7,21 @@ ghost use Rattle.dg_unify.specs.Linked.{log_of, vars_of, var_room, link_room};
 ghost use Rattle.dg_unify.specs.Slots.{AreSound, is_constant, store_of};
 ghost use Rattle.dg_unify.specs.inside.Ends.{TellsOf, told_in, IsEnd, Leads, EndsAt, MayLink};
 ghost use Rattle.dg_unify.specs.Fences.{IsFenced};
-ghost use Rattle.dg_unify.specs.Props.{are_sound_prop, is_fenced_prop};
+ghost use Rattle.dg_unify.specs.Links.{AreYoung};
+ghost use Rattle.dg_unify.specs.Props.{are_sound_prop, are_young_prop, is_fenced_prop};
 ghost use Rattle.dg_arena.specs.Room.{HasRoom};
 ghost use Rattle.dg_arena.specs.Joins.{IsFree, IsAbsent};
 ghost use Rattle.dg_arena.specs.Rows.{MadeVars};
 
 mod joining;
 
+use crate::marks::{count_link, move_fence, take_back};
 use crate::rows::push_vars;
 use crate::words::push_words;
 use dg_base::Simple;
 use dg_unify::{
     Bindings, FIRST_SIMPLE, Fence, Full, Links, Mark, Ref, Slot, View, Wait, captured_at,
-    letter_at, number_of, push_captured, push_letters, simple_at, trail_for,
+    letter_at, number_of, push_captured, push_letters, simple_at,
 };
 use std::alloc::{AllocError, Global};
 
@@ -29,6 +31,7 @@ pub struct Arena {
     cells: Vec<Slot>,
     links: Links,
     since: usize,
+    settled: usize,
     heap: u32,
     trail: u32,
     heap_limit: u32,
@@ -56,6 +59,7 @@ pub struct Arena {
     }) },
     ghost fenced: { IsFenced cells.items (reverse (log_of links)) (vars_of links) fence } by { is_fenced_prop cells.items (reverse (log_of links))
         (vars_of links) fence },
+    ghost young: { AreYoung since settled (log_of links) } by { are_young_prop since settled (log_of links) },
     ghost roomy: { HasRoom heap_limit heap (length cells.items) (vec_capacity cells) (var_room links) (link_room links) (vec_capacity waits) },
 }
 
@@ -81,6 +85,7 @@ impl Arena {
             cells,
             links,
             since: 0,
+            settled: 0,
             heap: 0,
             trail: 0,
             heap_limit: heap,
@@ -124,9 +129,8 @@ impl Arena {
             return Err(Full::Heap);
         }
         let at = self.cells.len() as u32;
-        let fence = self.fence.for_new(self.fence_now());
+        move_fence(&mut self.fence, self.cells.len(), self.links.vars());
         push_vars(&mut self.cells, &mut self.links, count);
-        self.fence = fence;
         self.heap += count as u32;
         Ok(at)
     }
@@ -271,6 +275,16 @@ impl Arena {
         ensures { result ≡ true → IsAbsent (fields_of self.now) at number }
     {
         let end = self.end_of(at);
+        self.end_clear(end, number)
+    }
+
+    // The same of an end.
+    #[inline(always)]
+    fn end_clear(&self, end: Ref, number: u32) -> bool
+        requires told { TellsOf (fields_of self.now) end }
+        requires end { IsEnd (fields_of self.now) end }
+        ensures { result ≡ true → IsAbsent (fields_of self.now) end number }
+    {
         if end.0 >= FIRST_SIMPLE {
             return true;
         }
@@ -412,12 +426,18 @@ impl Arena {
         ensures made { MatchResult result (λ _. Bound (meaning_of self.old) (meaning_of self.new) var (told_in (fields_of self.old) to))
             (λ e. TrailFull (meaning_of self.old) (meaning_of self.new) var e) }
     {
-        let more = trail_for(self.since, var);
-        if self.trail_limit - self.trail < more {
+        let links = self.links.len();
+        if !count_link(
+            &mut self.trail,
+            self.trail_limit,
+            &mut self.settled,
+            self.since,
+            links,
+            var,
+        ) {
             return Err(Full::Trail);
         }
         self.links.bind_reserved(var, to);
-        self.trail += more;
         Ok(())
     }
 }
@@ -451,10 +471,9 @@ impl Bindings for Arena {
         }
         let at = self.cells.len() as u32;
         let number = self.links.vars() as u32;
-        let fence = self.fence.for_new(self.fence_now());
+        move_fence(&mut self.fence, self.cells.len(), self.links.vars());
         self.links.add_var_reserved();
         self.cells.push_reserved(Slot::Var(number));
-        self.fence = fence;
         self.heap += 1;
         Ok(Ref(at))
     }
@@ -562,9 +581,10 @@ impl Bindings for Arena {
 
     fn mark(&mut self) -> Mark {
         self.since = self.links.vars();
+        self.settled = self.links.len();
         Mark {
             slots: self.cells.len(),
-            links: self.links.len(),
+            links: self.settled,
             vars: self.since,
             heap: self.heap,
             trail: self.trail,
@@ -572,7 +592,8 @@ impl Bindings for Arena {
     }
 
     fn undo(&mut self, to: Mark) {
-        self.links.undo(to.links, to.vars);
+        take_back(&mut self.links, self.since, self.settled, to.links, to.vars);
+        self.settled = to.links;
         self.cells.truncate(to.slots);
         self.heap = to.heap;
         self.trail = to.trail;

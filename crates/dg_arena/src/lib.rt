@@ -2,6 +2,7 @@
 #![tactic(auto)]
 
 mod arena;
+mod marks;
 mod rows;
 mod words;
 

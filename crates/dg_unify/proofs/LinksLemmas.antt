@@ -1,12 +1,13 @@
 -- A list of what variables are bound to, with a binding more or less.
-use Rattle.std.proofs.Common.{◌≡◌, ℕ, ◌<◌, ◌≤◌, Bool, true, false, List, [], ◌∷◌, ◌++◌, refl, sym, ap, ◌∙◌, arith, subst, Option, Some, None, inl, inr, length, take, reverse, length-append, set, length-take}
+use Rattle.std.proofs.Common.{◌≡◌, ℕ, ◌<◌, ◌≤◌, Bool, true, false, List, [], ◌∷◌, ◌++◌, refl, sym, ap, ◌∙◌, arith, subst, Option, Some, None, inl, inr, length, take, reverse, length-append, set, length-take, append_assoc, append-nil, drop}
 use Rattle.std.proofs.Math.ListN.{length-set}
+use Rattle.std.proofs.lemmas.List.{take-append-drop}
 use Rattle.std.specs.Prelude.{eqb, if◌then◌else◌}
 use Rattle.std.specs.List.{slice_get}
 use Rattle.std.proofs.lemmas.Bool.{cond-false, cases_lt, cases_eq, eq-eqb, ne_eqb}
 use Rattle.dg_unify.specs.declared.bindings.Ref.{Ref}
 use Rattle.dg_unify.specs.declared.slots.Link.{Link}
-use Rattle.dg_unify.specs.Links.{to_of, Once, Lists, AreLinked}
+use Rattle.dg_unify.specs.Links.{to_of, Once, AreYoung, Lists, AreLinked}
 use Rattle.dg_unify.proofs.Lists.{get_append, get_set_same, get_set_other, get_take, get_behind, reverse_snoc}
 
 pub once_more : (v w : ℕ) (ls : List Link) → v ≤ w → Once v ls → Once w ls
@@ -83,6 +84,29 @@ pub linked_take : (v : ℕ) (to to' : List (Option Ref)) (log : List Link) → t
 linked_take v to to' log is le h once =
     let n : v ≡ length (take v to) = omega (arith, length-take v to) in
     rw is (record { once = subst (λ k. Once k (reverse log)) n once; lists = lists_take v to (reverse log) h.lists })
+
+-- what variables below v are bound to, where newer bindings are of others
+young_same : (v n : ℕ) (log more : List Link) → n < v → AreYoung v (length log) (log ++ more) → to_of n (reverse (log ++ more)) ≡ to_of n (reverse log)
+young_same v n log [] lt h = ap (λ ls. to_of n (reverse ls)) (append-nil log)
+young_same v n log (l ∷ ls) lt h =
+    let e : (log ++ l ∷ []) ++ ls ≡ log ++ l ∷ ls = append_assoc log (l ∷ []) ls in
+    let high : v ≤ l.var = h (length log) l (omega arith) (get_behind log ls l) in
+    let rest = young_same v n (log ++ l ∷ []) ls lt (λ i k le is. h i k (omega (arith, le, length-append log (l ∷ []))) (subst (λ xs. slice_get xs i ≡ Some k) e is)) in
+    ap (λ xs. to_of n (reverse xs)) (sym e) ∙ rest ∙ ap (to_of n) (reverse_snoc log l) ∙ cond-false (eqb n l.var) (Some l.to) (to_of n (reverse log)) (ne_eqb n l.var (λ same. omega (arith, high, lt, same)))
+
+pub linked_cut : (v k : ℕ) (to to' : List (Option Ref)) (log log' : List Link) → to' ≡ take v to → log' ≡ take k log → v ≤ length to → k ≤ length log → AreLinked to log → Once v (reverse (take k log)) → AreYoung v k log → AreLinked to' log'
+linked_cut v k to to' log log' et el le lk h once young =
+    let n : v ≡ length (take v to) = omega (arith, length-take v to) in
+    let whole : take k log ++ drop k log ≡ log = take-append-drop k log in
+    let behind : AreYoung v (length (take k log)) (take k log ++ drop k log) = λ i l from is. young i l (omega (arith, from, length-take k log)) (subst (λ xs. slice_get xs i ≡ Some l) whole is) in
+    rw (et, el) (record {
+      once = subst (λ m. Once m (reverse (take k log))) n once;
+      lists = λ m lt.
+          get_take v to m (omega (arith, lt, length-take v to))
+          ∙ h.lists m (omega (arith, lt, length-take v to))
+          ∙ ap (λ xs. Some (to_of m (reverse xs))) (sym whole)
+          ∙ ap Some (young_same v m (take k log) (drop k log) (omega (arith, lt, length-take v to)) behind);
+    })
 
 -- whether the push found memory or not
 pub linked_if : (ok : Bool) (to to' : List (Option Ref)) (log : List Link) → to' ≡ (if ok then to ++ None ∷ [] else to) → AreLinked to log → AreLinked to' log

@@ -235,7 +235,7 @@ module _ (f : Fields) (sound : AreSound f) where
         let r = was_read lt x read in
         (r.is ∙ ap (λ y. slot_value (value_at f.slots r.m) f.slots at.0 (Some y)) is, sound.fits.below at.0 n (r.get ∙ ap Some is))
 
-    leads : (n : ℕ) → value_in f.slots at.0 ≡ Some (Var n) → (to : Option Ref) → to ≡ to_of n (reverse f.log) → Leads f at to
+    pub leads : (n : ℕ) → value_in f.slots at.0 ≡ Some (Var n) → (to : Option Ref) → to ≡ to_of n (reverse f.log) → Leads f at to
     leads n value None is =
         let e = ap or_nil value in
         ap (walk (subst_in f)) e ∙ walk_free (subst_in f) n (none_is_unbound f.slots (reverse f.log) n (sym is)) ∙ sym e

@@ -1,5 +1,5 @@
 -- What the bindings of variables are, as a list. Hold it against dg_meaning/specs/Substitutions.antt.
-use Rattle.std.specs.Prelude.{◌≡◌, ℕ, ◌<◌, eqb, List, [], ◌∷◌, Option, Some, None, if◌then◌else◌, length, reverse}
+use Rattle.std.specs.Prelude.{◌≡◌, ℕ, ◌<◌, ◌≤◌, eqb, List, [], ◌∷◌, Option, Some, None, if◌then◌else◌, length, reverse}
 use Rattle.std.specs.List.{slice_get}
 use Rattle.dg_unify.specs.declared.bindings.Ref.{Ref}
 use Rattle.dg_unify.specs.declared.slots.Link.{Link}
@@ -13,6 +13,10 @@ to_of n (l ∷ ls) = if eqb n l.var then Some l.to else to_of n ls
 abbrev pub Once : ℕ → List Link → Type 0
 Once vars [] = Unit {0}
 Once vars (l ∷ ls) = (l.var < vars) × (to_of l.var ls ≡ None) × Once vars ls
+
+-- Behind so many bindings none is of a variable below v.
+abbrev pub AreYoung : ℕ → ℕ → List Link → Type 0
+AreYoung v from log = (i : ℕ) (l : Link) → from ≤ i → slice_get log i ≡ Some l → v ≤ l.var
 
 -- The list has for each variable what it is bound to.
 abbrev pub Lists : List (Option Ref) → List Link → Type 0

@@ -1,7 +1,7 @@
 // Which variables are bound, and in which order they were bound.
 
-ghost use Rattle.std.specs.Prelude.{◌≡◌, ◌+◌, ◌<◌, ◌≤◌, [], ◌∷◌, ◌++◌, None, IfOk, OnOk, OnErr, length, take, reverse};
-ghost use Rattle.dg_unify.specs.Links.{to_of, Once, AreLinked};
+ghost use Rattle.std.specs.Prelude.{◌≡◌, ◌+◌, ◌<◌, ◌≤◌, [], ◌∷◌, ◌++◌, None, IfOk, OnOk, OnErr, List, length, take, reverse};
+ghost use Rattle.dg_unify.specs.Links.{to_of, Once, AreYoung, AreLinked};
 ghost use Rattle.dg_unify.specs.Props.{are_linked_prop};
 
 use crate::bindings::Ref;
@@ -129,6 +129,20 @@ impl Links {
         self.to.truncate(vars);
     }
 
+    /// The same, where what is taken back bound none of the variables that are left.
+    pub fn cut(&mut self, links: usize, vars: usize)
+        requires links_in { links ≤ length (log_of self.old) }
+        requires vars_in { vars ≤ vars_of self.old }
+        requires once { Once vars (reverse (take links (log_of self.old))) }
+        requires young { AreYoung vars links (log_of self.old) }
+        ensures log { log_of self.new ≡ take links (log_of self.old) }
+        ensures vars { vars_of self.new ≡ vars }
+        ensures room { KeepsRoom self.old self.new }
+    {
+        self.log.truncate(links);
+        self.to.truncate(vars);
+    }
+
     // Takes back all bindings but so many.
     fn unlink(&mut self, links: usize)
         requires { links ≤ length (log_of self.old) }
@@ -136,10 +150,20 @@ impl Links {
         ensures vars { vars_of self.new ≡ vars_of self.old }
         ensures room { KeepsRoom self.old self.new }
     {
-        while self.log.len() > links {
-            if let Some(link) = self.log.pop() {
-                self.to[link.var as usize] = None;
-            }
-        }
+        unbind(self.to.as_mut_slice(), &self.log[links..]);
+        self.log.truncate(links);
+    }
+}
+
+// Takes back the newest bindings, from the last of them on.
+fn unbind(to: &mut [Option<Ref>], newest: &[Link])
+    requires { (log : List Link) × AreLinked to.old (log ++ newest.now) }
+    ensures linked { (log : List Link) → AreLinked to.old (log ++ newest.now) → AreLinked to.new log }
+    ensures vars { length to.new ≡ length to.old }
+{
+    let mut left = newest.len();
+    'links: while left > 0 {
+        left -= 1;
+        to[newest[left].var as usize] = None;
     }
 }

@@ -1,11 +1,12 @@
 // Values that are unified where it is clear at once what comes of that.
 
-ghost use Rattle.std.specs.Prelude.{◌≡◌, List, ◌∷◌, Some, true, false};
+ghost use Rattle.std.specs.Prelude.{◌≡◌, ◌<◌, ◌≤◌, List, ◌∷◌, Some, true, false};
 ghost use Rattle.std.specs.Prelude.{IfSome, reverse};
 ghost use Rattle.dg_unify.specs.Store.{Holds, Saved, Kept, told, ShowsVar};
 ghost use Rattle.dg_unify.specs.Linked.{log_of, vars_of};
-ghost use Rattle.dg_meaning.specs.Values.{pair};
+ghost use Rattle.dg_meaning.specs.Values.{Var, pair};
 ghost use Rattle.dg_meaning.specs.Substitutions.{walk};
+ghost use Rattle.dg_meaning.specs.Unify.{top};
 ghost use Rattle.dg_unify.specs.inside.Turns.{IsUnbound};
 ghost use Rattle.dg_unify.specs.inside.Ends.{TellsOf, told_in, IsEnd, EndsAt};
 ghost use Rattle.dg_unify.specs.Fences.{IsFenced};
@@ -18,6 +19,13 @@ use dg_unify::{FIRST_SIMPLE, Full, Ref, Slot};
 
 // The first number that names the empty list. Of two smaller ones each names another value without parts.
 const FIRST_NIL: u32 = 2147680256;
+
+/// What a look at a part shows: whether it is clear that a variable doesn't stand in it, and a number above the variables of it.
+#[derive(Clone, Copy)]
+pub struct Glance {
+    pub clear: bool,
+    pub top: usize,
+}
 
 impl Arena {
     ghost use Rattle.dg_arena.specs.Held.{fields_of, meaning_of, saves_of};
@@ -37,7 +45,7 @@ impl Arena {
             Some(number) => number,
         };
         let end = self.end_of(to);
-        if !self.is_before(end, var, number) {
+        if !self.is_before(end, number) {
             return None;
         }
         match self.link_fenced(number, end) {
@@ -69,16 +77,55 @@ impl Arena {
             Slot::Var(number) => number,
             _ => return None,
         };
-        if !self.part_clear(head, number) {
+        let first = self.glance(head, number);
+        if !first.clear {
             return None;
         }
-        if !self.part_clear(tail, number) {
+        let second = self.glance(tail, number);
+        if !second.clear {
             return None;
         }
-        let top = self.part_top(head).max(self.part_top(tail));
-        match self.link_below(number, whole, top) {
+        match self.link_below(number, whole, first.top.max(second.top)) {
             Ok(()) => Some(Ok(true)),
             Err(full) => Some(Err(full)),
+        }
+    }
+
+    // What a look at a part shows of a variable of this number.
+    #[inline(always)]
+    fn glance(&self, at: Ref, number: u32) -> Glance
+        requires { TellsOf (fields_of self.now) at }
+        ensures clear { result.clear ≡ true → IsAbsent (fields_of self.now) at number }
+        ensures below { top (told_in (fields_of self.now) at) ≤ result.top }
+    {
+        if at.0 >= FIRST_SIMPLE {
+            return Glance {
+                clear: true,
+                top: 0,
+            };
+        }
+        match self.cells[at.0 as usize] {
+            Slot::Var(other) => Glance {
+                clear: self.link_clear(other, number),
+                top: other as usize + 1,
+            },
+            _ => Glance {
+                clear: self.part_clear(at, number),
+                top: self.part_top(at),
+            },
+        }
+    }
+
+    // Whether it is clear at once that a variable of the second number doesn't stand in the variable of the first.
+    #[inline(always)]
+    fn link_clear(&self, other: u32, number: u32) -> bool
+        requires within { other < vars_of self.now.links }
+        requires some { (at : Ref) × ((meaning_of self.now).value at ≡ Some (Var other)) }
+        ensures { (at : Ref) → (meaning_of self.now).value at ≡ Some (Var other) → result ≡ true → IsAbsent (fields_of self.now) at number }
+    {
+        match self.links.to(other) {
+            None => other != number,
+            Some(next) => self.part_clear(next, number),
         }
     }
 
@@ -102,7 +149,7 @@ impl Arena {
             }
             Some(number) => number,
         };
-        if !self.is_before(value, end, number) {
+        if !self.is_before(value, number) {
             return self.join_along(end, value);
         }
         match self.link_fenced(number, value) {
@@ -141,16 +188,16 @@ impl Arena {
 
     // Whether it is clear at once that a variable of this number doesn't stand in an end, and is younger than it.
     #[inline(always)]
-    fn is_before(&self, end: Ref, var: Ref, number: u32) -> bool
+    fn is_before(&self, end: Ref, number: u32) -> bool
         requires { TellsOf (fields_of self.now) end }
-        ensures before { result ≡ true → IsBefore (fields_of self.now) end var number }
+        ensures before { result ≡ true → (var : Ref) → IsFree (fields_of self.now) var number → IsBefore (fields_of self.now) end var number }
         ensures fenced { result ≡ true →
             IsFenced self.now.cells.items (record { var = number; to = end } ∷ reverse (log_of self.now.links)) (vars_of self.now.links) self.now.fence }
     {
         if end.0 >= FIRST_SIMPLE {
             return true;
         }
-        end.0 < var.0 && self.fence.stands_between(end, number)
+        self.fence.stands_between(end, number)
     }
 
     // Whether a value is one without parts, or a pair.
@@ -170,11 +217,10 @@ impl Arena {
 
     // The tail of a pair, where it is clear at once that a variable of this number doesn't stand in the head.
     #[inline(always)]
-    fn clear_behind(&self, at: Ref, number: u32) -> Option<Ref>
-        requires { TellsOf (fields_of self.now) at }
-        ensures { IfSome result (λ tail. IsClearTo (fields_of self.now) at tail number) }
+    fn clear_behind(&self, end: Ref, number: u32) -> Option<Ref>
+        requires { TellsOf (fields_of self.now) end }
+        ensures { IfSome result (λ tail. IsClearTo (fields_of self.now) end tail number) }
     {
-        let end = self.end_of(at);
         if end.0 >= FIRST_SIMPLE {
             return None;
         }
@@ -194,15 +240,15 @@ impl Arena {
         requires { TellsOf (fields_of self.now) at }
         ensures { result ≡ true → IsAbsent (fields_of self.now) at number }
     {
-        let mut at = at;
+        let mut end = self.end_of(at);
         let mut left = self.cells.len();
         'pairs: while left > 0 {
-            if self.part_clear(at, number) {
+            if self.end_clear(end, number) {
                 return true;
             }
-            match self.clear_behind(at, number) {
+            match self.clear_behind(end, number) {
                 None => return false,
-                Some(tail) => at = tail,
+                Some(tail) => end = self.end_of(tail),
             }
             left -= 1;
         }

@@ -1,5 +1,5 @@
 use Rattle.std.proofs.Common.{arith, refl, false}
-use Rattle.dg_unify.proofs.Reading.{within_slots, shows_pair}
+use Rattle.dg_unify.proofs.Reading.{shows_pair}
 use Rattle.dg_unify.proofs.FenceLemmas.{pair_tells}
 use Rattle.dg_arena.specs.Held.{fields_of}
 use Rattle.dg_arena.proofs.Joining.{clear_to}
@@ -7,14 +7,13 @@ use Rattle.dg_arena.proofs.arena.Arena.clear_behind.Goals as goal
 
 pub part_clear-requires : goal.part_clear-requires
 part_clear-requires c =
-    (pair_tells (fields_of c.args.self.now) c.args.self.now.sound c.end_of-end.result c.end_of-end.ensures.told (omega arith) c.index.result.now c.index.ensures c.in-Pair.head c.in-Pair.tail c.in-Pair.field-2 c.in-Pair.is).0
+    (pair_tells (fields_of c.args.self.now) c.args.self.now.sound c.args.end c.requires (omega arith) c.index.result.now c.index.ensures c.in-Pair.head c.in-Pair.tail c.in-Pair.field-2 c.in-Pair.is).0
 
 pub returns-else-not-part_clear : goal.returns-else-not-part_clear
 returns-else-not-part_clear c =
     let s = c.args.self.now in
     let f = fields_of s in
-    let end = c.end_of-end.result in
-    let ends = c.end_of-end.ensures in
-    let shows = shows_pair f s.sound end ends.told (omega arith) c.index.result.now c.index.ensures c.in-Pair.head c.in-Pair.tail c.in-Pair.field-2 c.in-Pair.is false in
-    let tells = pair_tells f s.sound end ends.told (omega arith) c.index.result.now c.index.ensures c.in-Pair.head c.in-Pair.tail c.in-Pair.field-2 c.in-Pair.is in
-    clear_to f s.sound c.args.at end c.in-Pair.head c.in-Pair.tail ends shows tells.1 c.args.number (c.if-not-part_clear.ensures refl)
+    let end = c.args.end in
+    let shows = shows_pair f s.sound end c.requires (omega arith) c.index.result.now c.index.ensures c.in-Pair.head c.in-Pair.tail c.in-Pair.field-2 c.in-Pair.is false in
+    let tells = pair_tells f s.sound end c.requires (omega arith) c.index.result.now c.index.ensures c.in-Pair.head c.in-Pair.tail c.in-Pair.field-2 c.in-Pair.is in
+    clear_to f end c.in-Pair.head c.in-Pair.tail shows tells.1 c.args.number (c.if-not-part_clear.ensures refl)

@@ -9,7 +9,7 @@ use Rattle.dg_arena.proofs.Joining.{joins_link, joins}
 use Rattle.dg_arena.proofs.arena.Arena.join.Goals as goal
 
 pub link_fenced-requires-clause-may : goal.link_fenced-requires-clause-may
-link_fenced-requires-clause-may c = joins_link (fields_of c.args.self.now) c.args.self.now.sound c.args.to c.args.var c.end_of-end.result c.in-Some.number c.in-Some.ensures c.end_of-end.ensures (c.if-not-is_before.ensures.before refl)
+link_fenced-requires-clause-may c = joins_link (fields_of c.args.self.now) c.args.self.now.sound c.args.to c.args.var c.end_of-end.result c.in-Some.number c.in-Some.ensures c.end_of-end.ensures (c.if-not-is_before.ensures.before refl c.args.var c.in-Some.ensures)
 
 pub returns-in-Ok-clause-joined : goal.returns-in-Ok-clause-joined
 returns-in-Ok-clause-joined c =
@@ -17,7 +17,7 @@ returns-in-Ok-clause-joined c =
     let f = fields_of s in
     let new = meaning_of c.link_fenced.new.self in
     let end = c.end_of-end.result in
-    let before = c.if-not-is_before.ensures.before refl in
+    let before = c.if-not-is_before.ensures.before refl c.args.var c.in-Some.ensures in
     let may = joins_link f s.sound c.args.to c.args.var end c.in-Some.number c.in-Some.ensures c.end_of-end.ensures before in
     joins f s.sound c.args.to c.args.var end c.in-Some.number c.in-Some.ensures c.end_of-end.ensures before new (slots_younger s.cells.items (reverse (log_of s.links)) (vars_of s.links) s.sound.fits) (Ok true)
     (follows_bound (meaning_of s) new c.in-Some.number (told_in f end) s.sound.fits.sound may.fits c.in-Ok.ensures.made)
@@ -28,7 +28,7 @@ returns-in-Err-clause-joined c =
     let f = fields_of s in
     let new = meaning_of c.link_fenced.new.self in
     let end = c.end_of-end.result in
-    let before = c.if-not-is_before.ensures.before refl in
+    let before = c.if-not-is_before.ensures.before refl c.args.var c.in-Some.ensures in
     let may = joins_link f s.sound c.args.to c.args.var end c.in-Some.number c.in-Some.ensures c.end_of-end.ensures before in
     joins f s.sound c.args.to c.args.var end c.in-Some.number c.in-Some.ensures c.end_of-end.ensures before new (slots_younger s.cells.items (reverse (log_of s.links)) (vars_of s.links) s.sound.fits) (Err c.in-Err.full)
     (follows_full (meaning_of s) new c.in-Some.number (told_in f end) c.in-Err.full s.sound.fits.sound may.fits c.in-Err.ensures.made)

@@ -14,7 +14,7 @@ returns-in-Some-same_ends-clause-joined c =
     settled (fields_of c.args.self.now) c.args.self.now.sound c.args.to c.args.from c.end_of-end.result c.end_of-value.result c.requires.to_in c.requires.from_in c.end_of-end.ensures c.end_of-value.ensures c.in-Some-same_ends.same c.in-Some-same_ends.ensures
 
 pub link_fenced-requires-clause-may : goal.link_fenced-requires-clause-may
-link_fenced-requires-clause-may c = joins_link (fields_of c.args.self.now) c.args.self.now.sound c.args.from c.end_of-end.result c.end_of-value.result c.in-Some.number c.in-Some.ensures c.end_of-value.ensures (c.if-not-is_before.ensures.before refl)
+link_fenced-requires-clause-may c = joins_link (fields_of c.args.self.now) c.args.self.now.sound c.args.from c.end_of-end.result c.end_of-value.result c.in-Some.number c.in-Some.ensures c.end_of-value.ensures (c.if-not-is_before.ensures.before refl c.end_of-end.result c.in-Some.ensures)
 
 pub returns-in-Ok-clause-joined : goal.returns-in-Ok-clause-joined
 returns-in-Ok-clause-joined c =
@@ -23,7 +23,7 @@ returns-in-Ok-clause-joined c =
     let new = meaning_of c.link_fenced.new.self in
     let end = c.end_of-end.result in
     let value = c.end_of-value.result in
-    let before = c.if-not-is_before.ensures.before refl in
+    let before = c.if-not-is_before.ensures.before refl c.end_of-end.result c.in-Some.ensures in
     let may = joins_link f s.sound c.args.from end value c.in-Some.number c.in-Some.ensures c.end_of-value.ensures before in
     joins_left f s.sound c.args.to c.args.from end value c.in-Some.number c.in-Some.ensures c.end_of-end.ensures c.end_of-value.ensures before new (slots_younger s.cells.items (reverse (log_of s.links)) (vars_of s.links) s.sound.fits) (Ok true)
     (follows_bound (meaning_of s) new c.in-Some.number (told_in f value) s.sound.fits.sound may.fits c.in-Ok.ensures.made)
@@ -35,7 +35,7 @@ returns-in-Err-clause-joined c =
     let new = meaning_of c.link_fenced.new.self in
     let end = c.end_of-end.result in
     let value = c.end_of-value.result in
-    let before = c.if-not-is_before.ensures.before refl in
+    let before = c.if-not-is_before.ensures.before refl c.end_of-end.result c.in-Some.ensures in
     let may = joins_link f s.sound c.args.from end value c.in-Some.number c.in-Some.ensures c.end_of-value.ensures before in
     joins_left f s.sound c.args.to c.args.from end value c.in-Some.number c.in-Some.ensures c.end_of-end.ensures c.end_of-value.ensures before new (slots_younger s.cells.items (reverse (log_of s.links)) (vars_of s.links) s.sound.fits) (Err c.in-Err.full)
     (follows_full (meaning_of s) new c.in-Some.number (told_in f value) c.in-Err.full s.sound.fits.sound may.fits c.in-Err.ensures.made)

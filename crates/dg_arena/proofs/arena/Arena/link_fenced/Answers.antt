@@ -1,18 +1,31 @@
-use Rattle.std.proofs.Common.{arith}
+use Rattle.std.proofs.Common.{◌≡◌, ◌<◌, ◌≤◌, ◌⊎◌, subst, refl, arith}
 use Rattle.dg_unify.specs.Linked.{log_of, vars_of}
 use Rattle.dg_unify.proofs.Stores.{may_unbound}
 use Rattle.dg_arena.specs.Held.{fields_of}
 use Rattle.dg_arena.proofs.Rooms.{one_more}
-use Rattle.dg_arena.proofs.Making.{binds}
+use Rattle.dg_arena.proofs.Making.{binds_counted}
+use Rattle.dg_arena.proofs.Young.{young_counted}
 use Rattle.dg_arena.proofs.arena.Arena.link_fenced.Goals as goal
+
+pub count_link-requires-clause-small : goal.count_link-requires-clause-small
+count_link-requires-clause-small c =
+    let s = c.args.self.now.sound in
+    omega (arith, one_more (fields_of c.args.self.now) c.args.var c.args.to s c.requires.may, c.len-links.ensures, s.fits.fewer, s.fits.room)
 
 pub invariant_of-self : goal.invariant_of-self
 invariant_of-self c =
+    let a = c.args.self.now in
+    let full = c.if-not-count_link.ensures.full refl in
+    record { sound = rw full.1 a.sound; fenced = a.fenced; young = rw full.2 a.young; roomy = a.roomy }
+
+pub invariant_of-self-2 : goal.invariant_of-self-2
+invariant_of-self-2 c =
     let f = fields_of c.args.self.now in
-    let made = binds f (log_of c.bind_reserved.new.self) (vars_of c.bind_reserved.new.self) c.trail_for-more.result c.args.var c.args.to (record { sound = c.args.self.now.sound; counted = c.args.self.now.roomy.counted; small = c.args.self.now.roomy.small }) c.requires.may c.bind_reserved.ensures.log c.bind_reserved.ensures.vars c.trail_for-more.ensures (omega (arith, c.args.self.now.sound.trail_fits)) in
+    let made = binds_counted f (log_of c.bind_reserved.new.self) (vars_of c.bind_reserved.new.self) c.count_link.new.trail c.args.var c.args.to (record { sound = c.args.self.now.sound; counted = c.args.self.now.roomy.counted; small = c.args.self.now.roomy.small }) c.requires.may c.bind_reserved.ensures.log c.bind_reserved.ensures.vars (c.if-not-count_link.ensures.counted refl).0 (c.if-not-count_link.ensures.counted refl).1 in
     record {
       sound = made.leaves.sound;
       fenced = made.fenced c.args.self.now.fence c.requires.fenced;
+      young = young_counted f.since c.args.self.now.settled c.count_link.new.settled f.log (log_of c.bind_reserved.new.self) (record { var = c.args.var; to = c.args.to }) c.bind_reserved.ensures.log (subst (λ n. ((f.since ≤ c.args.var) × (c.count_link.new.settled ≡ c.args.self.now.settled)) ⊎ (n < c.count_link.new.settled)) c.len-links.ensures (c.if-not-count_link.ensures.settled refl)) c.args.self.now.young;
       roomy = record {
         cells_fit = omega (arith, c.args.self.now.roomy.cells_fit, c.args.self.now.roomy.cells_fit);
         vars_fit = omega (arith, c.args.self.now.roomy.vars_fit, c.bind_reserved.ensures.room.vars);
@@ -26,19 +39,19 @@ invariant_of-self c =
 pub returns-clause-kept : goal.returns-clause-kept
 returns-clause-kept c =
     let f = fields_of c.args.self.now in
-    let made = binds f (log_of c.bind_reserved.new.self) (vars_of c.bind_reserved.new.self) c.trail_for-more.result c.args.var c.args.to (record { sound = c.args.self.now.sound; counted = c.args.self.now.roomy.counted; small = c.args.self.now.roomy.small }) c.requires.may c.bind_reserved.ensures.log c.bind_reserved.ensures.vars c.trail_for-more.ensures (omega (arith, c.args.self.now.sound.trail_fits)) in
+    let made = binds_counted f (log_of c.bind_reserved.new.self) (vars_of c.bind_reserved.new.self) c.count_link.new.trail c.args.var c.args.to (record { sound = c.args.self.now.sound; counted = c.args.self.now.roomy.counted; small = c.args.self.now.roomy.small }) c.requires.may c.bind_reserved.ensures.log c.bind_reserved.ensures.vars (c.if-not-count_link.ensures.counted refl).0 (c.if-not-count_link.ensures.counted refl).1 in
     made.leaves.kept
 
 pub returns-clause-saved : goal.returns-clause-saved
 returns-clause-saved c =
     let f = fields_of c.args.self.now in
-    let made = binds f (log_of c.bind_reserved.new.self) (vars_of c.bind_reserved.new.self) c.trail_for-more.result c.args.var c.args.to (record { sound = c.args.self.now.sound; counted = c.args.self.now.roomy.counted; small = c.args.self.now.roomy.small }) c.requires.may c.bind_reserved.ensures.log c.bind_reserved.ensures.vars c.trail_for-more.ensures (omega (arith, c.args.self.now.sound.trail_fits)) in
+    let made = binds_counted f (log_of c.bind_reserved.new.self) (vars_of c.bind_reserved.new.self) c.count_link.new.trail c.args.var c.args.to (record { sound = c.args.self.now.sound; counted = c.args.self.now.roomy.counted; small = c.args.self.now.roomy.small }) c.requires.may c.bind_reserved.ensures.log c.bind_reserved.ensures.vars (c.if-not-count_link.ensures.counted refl).0 (c.if-not-count_link.ensures.counted refl).1 in
     made.leaves.saved
 
 pub returns-clause-made : goal.returns-clause-made
 returns-clause-made c =
     let f = fields_of c.args.self.now in
-    let made = binds f (log_of c.bind_reserved.new.self) (vars_of c.bind_reserved.new.self) c.trail_for-more.result c.args.var c.args.to (record { sound = c.args.self.now.sound; counted = c.args.self.now.roomy.counted; small = c.args.self.now.roomy.small }) c.requires.may c.bind_reserved.ensures.log c.bind_reserved.ensures.vars c.trail_for-more.ensures (omega (arith, c.args.self.now.sound.trail_fits)) in
+    let made = binds_counted f (log_of c.bind_reserved.new.self) (vars_of c.bind_reserved.new.self) c.count_link.new.trail c.args.var c.args.to (record { sound = c.args.self.now.sound; counted = c.args.self.now.roomy.counted; small = c.args.self.now.roomy.small }) c.requires.may c.bind_reserved.ensures.log c.bind_reserved.ensures.vars (c.if-not-count_link.ensures.counted refl).0 (c.if-not-count_link.ensures.counted refl).1 in
     made.bound
 
 pub bind_reserved-requires-clause-unbound : goal.bind_reserved-requires-clause-unbound

@@ -1,6 +1,9 @@
-use Rattle.std.proofs.Common.{arith}
+use Rattle.std.proofs.Common.{arith, refl}
 use Rattle.dg_unify.specs.Linked.{log_of, vars_of}
-use Rattle.dg_arena.proofs.Making.{row_here}
+use Rattle.dg_arena.proofs.Making.{row_here, moved}
+use Rattle.dg_arena.proofs.Young.{young_same}
+use Rattle.dg_arena.specs.Held.{fields_of}
+use Rattle.dg_unify.proofs.FenceLemmas.{end_of}
 use Rattle.dg_arena.proofs.arena.Arena.row.Goals as goal
 
 pub invariant_of-self : goal.invariant_of-self
@@ -10,7 +13,8 @@ invariant_of-self c =
     let made = row_here a c.args.count c.push_vars.new.cells.items (log_of c.push_vars.new.links) (vars_of c.push_vars.new.links) (omega arith) pushed.items pushed.log pushed.vars in
     record {
       sound = made.leaves.sound;
-      fenced = made.fenced a.fence c.fence_now.result c.for_new-fence.result c.fence_now.ensures c.for_new-fence.ensures a.fenced;
+      fenced = made.fenced a.fence (end_of (fields_of a)) c.move_fence.new.fence refl (moved a c.len.result c.vars.result c.move_fence.new.fence (omega (arith, c.len.ensures)) c.vars.ensures c.move_fence.ensures) a.fenced;
+      young = young_same a.since a.settled (log_of a.links) (log_of c.push_vars.new.links) pushed.log a.young;
       roomy = record {
         cells_fit = omega (arith, a.roomy.cells_fit, pushed.capacity);
         vars_fit = omega (arith, a.roomy.vars_fit, pushed.room.vars);

@@ -1,16 +1,18 @@
-use Rattle.std.proofs.Common.{arith, vec_len, None, ◌∙◌}
-use Rattle.std.proofs.Math.ListN.{length-set}
-use Rattle.dg_unify.proofs.Lists.{take_less}
-use Rattle.dg_unify.proofs.LinksLemmas.{linked_undo}
+use Rattle.std.proofs.Common.{◌≡◌, ℕ, ◌-◌, List, ◌++◌, ap, ◌∙◌, arith, take, drop, length}
+use Rattle.std.proofs.lemmas.List.{take-append-drop, take_all, take_at, length-drop}
+use Rattle.dg_unify.specs.declared.slots.Link.{Link}
 use Rattle.dg_unify.proofs.links.Links.unlink.Goals as goal
 
-pub invariant_of-self : goal.invariant_of-self
-invariant_of-self c = record { linked = (linked_undo c.loop-self.self.to.items c.loop-self.self.log.items c.pop.new.self.items c.in-Some.link c.in-Some.ensures.items c.loop-self.self.linked).1 }
+-- all bindings: those that are taken back stand behind the others
+whole : (k : ℕ) (log : List Link) → take k log ++ take (length log - k) (drop k log) ≡ log
+whole k log = ap (λ ls. take k log ++ ls) (take_all (length log - k) (drop k log) (omega (arith, length-drop k log))) ∙ take-append-drop k log
 
-pub loop-self-preserved-in-Some : goal.loop-self-preserved-in-Some
-loop-self-preserved-in-Some c = record {
-  within = omega (arith, c.in-Some.ensures.cases);
-  log = take_less c.loop-self.self.log.items c.pop.new.self.items c.args.self.now.log.items (vec_len c.loop-self.self.log) (vec_len c.pop.new.self) c.loop-self.invariant.log c.in-Some.ensures.rest (omega (arith, c.in-Some.ensures.cases));
-  vars = length-set c.loop-self.self.to.items c.in-Some.link.var None ∙ c.loop-self.invariant.vars;
-  room = record { vars = c.loop-self.invariant.room.vars; links = omega (arith, c.loop-self.invariant.room.links, c.in-Some.ensures.capacity) };
-}
+pub unbind-requires : goal.unbind-requires
+unbind-requires c = (take c.args.links c.deref.result.now, rw (c.as_mut_slice.ensures.value, whole c.args.links c.deref.result.now, c.deref.ensures.value) c.args.self.now.linked)
+
+pub invariant_of-self : goal.invariant_of-self
+invariant_of-self c =
+    let to = c.unbind.new.to in
+    let left = c.unbind.ensures.linked (take c.args.links c.deref.result.now) (rw (c.as_mut_slice.ensures.value, whole c.args.links c.deref.result.now, c.deref.ensures.value) c.args.self.now.linked) in
+    let kept : take c.args.self.now.to.len (to ++ drop (length to) c.args.self.now.to.items) ≡ to = take_at to (drop (length to) c.args.self.now.to.items) c.args.self.now.to.len (omega (arith, c.unbind.ensures.vars, c.as_mut_slice.ensures.len)) in
+    record { linked = rw (kept, c.truncate.ensures.items) (rw c.deref.ensures.value at left) }
