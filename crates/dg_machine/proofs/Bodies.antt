@@ -26,15 +26,16 @@ use Rattle.dg_mid.specs.declared.code.Code.{Code}
 use Rattle.dg_mid.specs.Code.{block_at}
 use Rattle.dg_mid.specs.State.{Mid, Call as CallOf, Status, Runs as RunsOf, ToBody}
 use Rattle.dg_mid.specs.Step.{Setting, setting, passed, bound, charged, unified, if_agreed, parameter, body_equations, enters_body, body_of, closure_at}
+use Rattle.dg_mid.proofs.FlatLemmas.{plain_cell}
 use Rattle.dg_machine.specs.declared.now.Now.{Now}
 use Rattle.dg_machine.specs.declared.now.Now.TheVariants.{Runs, Fails, Ended}
 use Rattle.dg_machine.specs.declared.memory.Memory.{Memory}
-use Rattle.dg_machine.specs.Built.{IsPlain, IsBuilt}
+use Rattle.dg_machine.specs.Built.{IsBuilt}
+use Rattle.dg_mid.specs.Heads.{IsPlain}
 use Rattle.dg_machine.specs.Refs.{RefsAt, Stays}
 use Rattle.dg_machine.specs.Layout.{Holds, Lacks, Matched, Unmatched, made_state, in_frame, parameter_equations}
 use Rattle.dg_machine.specs.Standing.{Stands}
 use Rattle.dg_machine.proofs.TermLemmas.{var_value}
-use Rattle.dg_machine.proofs.WriteSteps.{plain_cell}
 use Rattle.dg_machine.proofs.HeadLemmas.{follows_back}
 use Rattle.dg_machine.proofs.Leads.{charged_led, full_stands}
 use Rattle.dg_machine.proofs.Leaving.{unified_on, unified_off, block_is}

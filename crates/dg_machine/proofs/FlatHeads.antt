@@ -12,7 +12,7 @@ use Rattle.dg_mid.specs.State.{Mid}
 use Rattle.dg_mid.specs.Step.{more}
 use Rattle.dg_machine.specs.declared.memory.Memory.{Memory}
 use Rattle.dg_machine.specs.declared.now.Row.{Row}
-use Rattle.dg_machine.specs.Heads.{FlatTerms}
+use Rattle.dg_mid.specs.Heads.{FlatTerms}
 use Rattle.dg_machine.specs.Layout.{MadeRule, Matched, Unmatched, Lacks, made_state, headed_state, heap_in, limit_in}
 use Rattle.dg_machine.proofs.Opens.{roomy}
 

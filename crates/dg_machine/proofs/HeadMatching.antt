@@ -20,16 +20,17 @@ use Rattle.dg_unify.proofs.Meets.{more_same}
 use Rattle.dg_unify.proofs.Goings.{broke_later}
 use Rattle.dg_arena.specs.declared.arena.Arena.{Arena}
 use Rattle.dg_arena.specs.Held.{meaning_of}
+use Rattle.dg_mid.proofs.FlatLemmas.{top_is, pair_is}
 use Rattle.dg_machine.specs.Refs.{Keeps, Stays, RefsAt, AreRefs}
 use Rattle.dg_machine.specs.inside.Writing.{cells_of, Overflows}
-use Rattle.dg_machine.specs.Built.{IsPlain}
-use Rattle.dg_machine.specs.Heads.{IsFlatPair, IsList, Flat, AreFlat, at_heap, listed}
-use Rattle.dg_machine.proofs.PathLemmas.{cells_pair, value_pair}
+use Rattle.dg_mid.specs.Heads.{IsPlain, IsFlatPair, IsList, Flat, AreFlat}
+use Rattle.dg_machine.specs.Heads.{at_heap, listed}
+use Rattle.dg_machine.proofs.PathLemmas.{value_pair}
 use Rattle.dg_machine.proofs.Kept.{refs_kept}
 use Rattle.dg_machine.proofs.TermLemmas.{refs_get, refs_end}
 use Rattle.dg_machine.proofs.Opens.{heap_full}
 use Rattle.dg_machine.proofs.HeadLemmas.{follows_told}
-use Rattle.dg_machine.proofs.WriteSteps.{charged_none, charged_both, overflows_behind, plain_cell}
+use Rattle.dg_machine.proofs.WriteSteps.{charged_none, charged_both, overflows_behind}
 use Rattle.dg_machine.proofs.RegisterLemmas.{cells_append}
 use Rattle.dg_machine.proofs.Matching.{Left, Matching, pairs_from, left_ends, left_full, left_clash, left_on, left_parts, match_full, match_clash, match_on}
 
@@ -57,15 +58,6 @@ pub no_program : CoreProgram
 no_program = record { preds = []; closures = []; places = []; objects = []; words = []; sites = 0; entry = 0 }
 
 -- ## Flat terms
-
-top_is : (t h tl : Term) → t ≡ Pair-Term h tl → out-Term t ≡ term.Pair h tl
-top_is t h tl is = ap out-Term is ∙ outs-Pair h tl
-
-pair_is : (t h tl : Term) → out-Term t ≡ term.Pair h tl → t ≡ Pair-Term h tl
-pair_is t h tl e = sym (roll-out-Term t) ∙ ap roll-Term e ∙ rolls-Pair h tl
-
-pub list_on : (n : ℕ) (t h tl : Term) → t ≡ Pair-Term h tl → IsPlain (out-Term h) → IsList n tl → IsList (suc n) t
-list_on n t h tl is plain rest = subst (IsFlatPair (IsList n)) (sym (top_is t h tl is)) (plain, rest)
 
 -- a flat pair has a plain head and a flat tail
 pub record Parts (h tl : Term) : Type 0 where
@@ -114,15 +106,6 @@ flat_plain t other f = list_plain f.pairs t other f.is
 
 pub rest_plain : (t : Term) (count : ℕ) → ((h tl : Term) → t ≡ Pair-Term h tl → ⊥) → Rest t count → IsPlain (out-Term t)
 rest_plain t count other r = list_plain r.pairs t other r.is
-
--- what a flat term takes in each program
-list_top : (p : CoreProgram) (n : ℕ) (t : Term) (o : term.Term-F Term) → out-Term t ≡ o → ((tl : Term) → IsList n tl → cells_of p tl ≡ 3 * n) → IsFlatPair (IsList n) o → cells_of p t ≡ 3 * suc n
-list_top p n t (term.Pair h tl) e more f = omega (arith, cells_pair p t h tl (pair_is t h tl e), plain_cell p h f.0, more tl f.1)
-list_top p n t o e more f = absurd f
-
-pub list_takes : (p : CoreProgram) (n : ℕ) (t : Term) → IsList n t → cells_of p t ≡ 3 * n
-list_takes p zero t f = plain_cell p t f
-list_takes p (suc n) t f = list_top p n t (out-Term t) refl (λ tl g. list_takes p n tl g) f
 
 -- ## Terms
 

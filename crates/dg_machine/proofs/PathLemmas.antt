@@ -12,32 +12,12 @@ use Rattle.dg_meaning.specs.Values.{Value, pair, value_of}
 use Rattle.dg_meaning.specs.Cells.{node_cells}
 use Rattle.dg_unify.specs.Store.{Store, Kept}
 use Rattle.dg_unify.specs.declared.bindings.Ref.{Ref}
+use Rattle.dg_mid.proofs.FlatLemmas.{nodes_are}
 use Rattle.dg_machine.specs.declared.now.Side.{Side}
 use Rattle.dg_machine.specs.declared.now.Side.TheVariants.{Head, Tail}
 use Rattle.dg_machine.specs.inside.Writing.{part_in, part_of, reached, IsHead, IsGone, AreGone, left_in, left_around, cells_of, nodes_of, cells_around}
 
 -- ## Pairs
-
-nodes_are : (h t : Term) → nodes (Pair-Term h t) ≡ Pair-Term h t ∷ ((nodes h ++ []) ++ (nodes t ++ []))
-unfolding hidden-the_row-Term-0 denote.Hole.Carrier.hidden
-nodes_are h t = refl
-
-pair_cells : (p : CoreProgram) (h t : Term) → node_cells p (out-Term (Pair-Term h t)) ≡ 3
-unfolding out-Term denote.Hole.Carrier.out
-pair_cells p h t = refl
-
-pub cells_pair : (p : CoreProgram) (x h t : Term) → x ≡ Pair-Term h t → cells_of p x ≡ 3 + (cells_of p h + cells_of p t)
-cells_pair p x h t is =
-    let f = λ (y : Term). node_cells p (out-Term y) in
-    let e : cells_of p (Pair-Term h t) ≡ sum_by f (Pair-Term h t ∷ (((nodes h ++ []) ++ (nodes t ++ [])) ++ [])) = ap (λ l. sum_by f (l ++ [])) (nodes_are h t) in
-    let a = sum_by-append f (nodes h ++ []) (nodes t ++ []) in
-    let b = sum_by-append f ((nodes h ++ []) ++ (nodes t ++ [])) [] in
-    let first = sum_by-append f (Pair-Term h t ∷ []) (((nodes h ++ []) ++ (nodes t ++ [])) ++ []) in
-    let top : sum_by f (Pair-Term h t ∷ []) ≡ 0 + f (Pair-Term h t) = refl in
-    let head : cells_of p h ≡ sum_by f (nodes h ++ []) = refl in
-    let tail : cells_of p t ≡ sum_by f (nodes t ++ []) = refl in
-    let none : sum_by f [] ≡ 0 = refl in
-    omega (arith, ap (cells_of p) is, e, a, b, first, top, head, tail, none, pair_cells p h t)
 
 pair_value : (p : CoreProgram) (vs : List Value) (h t : Term) → value_of p vs (Pair-Term h t) ≡ pair (value_of p vs h) (value_of p vs t)
 unfolding hidden-the_row-Term-0 denote.Hole.Carrier.hidden

@@ -19,7 +19,8 @@ use Rattle.dg_unify.specs.declared.bindings.Ref.{Ref}
 use Rattle.dg_unify.proofs.StoreLemmas.{told_is, holds_some}
 use Rattle.dg_machine.specs.declared.now.Captured.{Captured}
 use Rattle.dg_machine.specs.declared.tables.Tables.{Tables}
-use Rattle.dg_machine.specs.Built.{IsPlain, IsNoPair}
+use Rattle.dg_machine.specs.Built.{IsNoPair}
+use Rattle.dg_mid.specs.Heads.{IsPlain}
 use Rattle.dg_machine.specs.Refs.{RefsAt}
 use Rattle.dg_machine.specs.Tables.{IsOf, items_in, captured_at}
 use Rattle.dg_machine.specs.inside.Writing.{cells_of}

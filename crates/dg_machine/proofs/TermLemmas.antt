@@ -15,7 +15,7 @@ use Rattle.dg_unify.specs.declared.bindings.View.{View}
 use Rattle.dg_unify.specs.declared.bindings.View.TheVariants as view
 use Rattle.dg_unify.specs.declared.bindings.Ref.{Ref}
 use Rattle.dg_machine.specs.declared.now.Row.{Row}
-use Rattle.dg_machine.specs.Built.{IsPlain}
+use Rattle.dg_mid.specs.Heads.{IsPlain}
 use Rattle.dg_machine.specs.Refs.{ValuesAt, Captures, RowAt, IsVarAt, RefsAt, IsClosureOf}
 
 -- ## One term
@@ -189,16 +189,6 @@ refs_get s (r ∷ rs) (v ∷ vs) zero d e h lt = h.0
 refs_get s (r ∷ rs) (v ∷ vs) (suc n) d e h lt = refs_get s rs vs n d e h.1 (omega (arith, lt))
 
 -- ## Cells
-
-plain_node : (p : CoreProgram) (o : term.Term-F Term) → IsPlain o → node_cells p o ≡ 0
-plain_node p (term.Pair head tail) h = absurd h
-plain_node p (term.Closure c) h = absurd h
-plain_node p other h = refl
-
-pub plain_nodes : (p : CoreProgram) (t : Term) → IsPlain (out-Term t) → sum_by (λ (x : Term). node_cells p (out-Term x)) (nodes t) ≡ 0
-unfolding out-Term denote.Hole.Carrier.out
-plain_nodes p (Pair' s head t tail) h = absurd h
-plain_nodes p other h = omega (arith, plain_node p (out-Term other) h)
 
 -- a program of nothing
 pub no_program : CoreProgram

@@ -13,13 +13,13 @@ use Rattle.dg_unify.specs.declared.bindings.Full.{Full}
 use Rattle.dg_unify.proofs.StoreLemmas.{told_is, holds_some, kept_on}
 use Rattle.dg_arena.specs.declared.arena.Arena.{Arena}
 use Rattle.dg_arena.specs.Held.{meaning_of}
+use Rattle.dg_mid.proofs.FlatLemmas.{plain_cell, cells_pair}
 use Rattle.dg_machine.specs.declared.now.Side.{Side}
 use Rattle.dg_machine.specs.declared.now.Side.TheVariants.{Head, Tail}
-use Rattle.dg_machine.specs.Built.{IsPlain}
+use Rattle.dg_mid.specs.Heads.{IsPlain}
 use Rattle.dg_machine.specs.inside.Writing.{part_of, reached, IsHead, AreGone, IsAtPart, cells_of, nodes_of, cells_around, cells_left, nodes_around, nodes_left, Overflows, Descends, HeadMade}
 use Rattle.dg_machine.proofs.Opens.{heap_full}
-use Rattle.dg_machine.proofs.TermLemmas.{plain_nodes}
-use Rattle.dg_machine.proofs.PathLemmas.{cells_pair, value_pair, nodes_pair, some_node, head_part, tail_part, head_left, tail_left, reached_push, left_push, gone_push, gone_pop, least_left, gone_kept}
+use Rattle.dg_machine.proofs.PathLemmas.{value_pair, nodes_pair, some_node, head_part, tail_part, head_left, tail_left, reached_push, left_push, gone_push, gone_pop, least_left, gone_kept}
 
 -- ## Charges
 
@@ -42,11 +42,6 @@ overflows_behind m n k s t le kept a h =
 
 pub overflows_more : (m n k : ℕ) (s : Store) → k ≡ m + n → Overflows m s → Overflows k s
 overflows_more m n k s e over = omega (arith, e, over)
-
-pub plain_cell : (p : CoreProgram) (t : Term) → IsPlain (out-Term t) → cells_of p t ≡ 0
-plain_cell p t h =
-    let f = λ (x : Term). node_cells p (out-Term x) in
-    sum_by-append f (nodes t) [] ∙ omega (arith, plain_nodes p t h)
 
 pub plain_made : (p : CoreProgram) (t : Term) (s u : Store) (r : Ref) (v : Value) → IsPlain (out-Term t) → s.state.heap ≤ s.heap_limit → u.state ≡ s.state → u.value r ≡ Some v → Made (cells_of p t) s u r v
 plain_made p t s u r v plain le same value = record { charged = subst (λ n. Charged n s u) (sym (plain_cell p t plain)) (charged_none s u le same); value = value }

@@ -9,12 +9,6 @@ use Rattle.dg_mid.specs.declared.code.Action.TheVariants as action
 use Rattle.dg_mid.specs.declared.code.Code.{Code}
 use Rattle.dg_mid.specs.Code.{block_at}
 
--- A term without parts that reads nothing of the program.
-abbrev pub IsPlain : term.Term-F Term → Type 0
-IsPlain (term.Pair head tail) = ⊥
-IsPlain (term.Closure c) = ⊥
-IsPlain other = Unit {0}
-
 -- A term that isn't a pair.
 abbrev pub IsNoPair : term.Term-F Term → Type 0
 IsNoPair (term.Pair head tail) = ⊥

@@ -36,7 +36,7 @@ fn op_built(op: &Op) -> bool
         Op::Do(action) => action_built(action),
         Op::Ask(_, terms, _, _) => are_arguments(terms.as_slice()),
         Op::LastAsk(_, terms, _) => are_arguments(terms.as_slice()),
-        Op::Enter(_, terms) => are_arguments(terms.as_slice()),
+        Op::Enter(_, head) => are_arguments(head.terms()),
         Op::Find(_, terms, _, _) => are_arguments(terms.as_slice()),
         Op::Select(_, _, blocks, _) => are_branches(blocks.as_slice()),
         _ => true,

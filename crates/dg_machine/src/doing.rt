@@ -1,5 +1,5 @@
 // What an instruction does in memory.
-ghost use Rattle.std.specs.Prelude.{◌≡◌, ◌<◌, ◌≤◌, ℕ, List, [], ◌∷◌, length, slice_get};
+ghost use Rattle.std.specs.Prelude.{◌≡◌, ◌<◌, ◌≤◌, ℕ, List, [], ◌∷◌, IfSome, length, slice_get};
 ghost use Rattle.std.specs.Borrow.{Bor};
 ghost use Rattle.dg_base.specs.declared.run.Limits.{Limits};
 ghost use Rattle.dg_meaning.specs.Values.{Value, Values};
@@ -15,7 +15,7 @@ ghost use Rattle.dg_mid.specs.Potential.{Tidy};
 ghost use Rattle.dg_arena.specs.Held.{meaning_of};
 ghost use Rattle.dg_machine.specs.Built.{AreArguments, OpsBuilt, IsBuilt};
 ghost use Rattle.dg_machine.specs.declared.tables.Tables.{Tables as TheTables};
-ghost use Rattle.dg_machine.specs.Heads.{FlatTerms};
+ghost use Rattle.dg_mid.specs.Heads.{FlatTerms};
 ghost use Rattle.dg_machine.specs.Refs.{RefsAt, AreRefs};
 ghost use Rattle.dg_machine.specs.Layout.{HasRoom, Holds, last_rules};
 ghost use Rattle.dg_machine.specs.Passing.{IsFirst};
@@ -24,7 +24,6 @@ ghost use Rattle.dg_machine.specs.Standing.{comes_to, DoesWith, ThrowsDie, Chang
 ghost use Rattle.dg_machine.specs.Standing.{EntersLastBody, QueriesLast, EntersRule, EntersIn, IsThere, GoesOnAt, GoesOn, FailsTo};
 
 use crate::closures::body_row;
-use crate::heads::flat_cells;
 use crate::memory::Memory;
 use crate::now::{Call, Did, Now, Way};
 use crate::passing::pass;
@@ -550,15 +549,23 @@ impl Memory {
         }
     }
 
-    /// A rule of so many variables and this head is entered.
+    /// A rule of so many variables and this head is entered, which takes so many cells if it is flat.
     #[inline(always)]
-    fn enter(&mut self, tables: &Tables, call: Call, vars: u16, head: &[Term]) -> Did
+    fn enter(
+        &mut self,
+        tables: &Tables,
+        call: Call,
+        vars: u16,
+        head: &[Term],
+        flat: Option<u32>,
+    ) -> Did
         requires room { HasRoom self.old }
         requires args { AreRefs (meaning_of self.old.arena) self.old.args.items }
         requires head { AreArguments head.now }
+        requires flat { IfSome flat (λ n. FlatTerms head.now n) }
         ensures { (code : TheCode) → (rest : Bor (List TheOp)) → EntersIn tables.now code self.old call vars head.now rest.now self.new (comes_to result rest) }
     {
-        match flat_cells(head) {
+        match flat {
             Some(cells) => self.enter_flat(call, vars, head, cells),
             None => self.enter_written(tables, call, vars, head),
         }
@@ -727,7 +734,8 @@ impl Memory {
             [] => Now::Fails,
             [op, rest @ ..] => match op {
                 Op::Enter(vars, head) => {
-                    let did = self.enter(tables, call, *vars, head.as_slice());
+                    let flat = head.flat_cells();
+                    let did = self.enter(tables, call, *vars, head.terms(), flat);
                     behind(did, rest)
                 }
                 _ => Now::Fails,

@@ -10,63 +10,18 @@ ghost use Rattle.dg_meaning.specs.Substitutions.{walk};
 ghost use Rattle.dg_meaning.specs.Unify.{solve, unify as unified};
 ghost use Rattle.dg_unify.specs.Store.{told, Holds, Made, ShowsVar, Follows};
 ghost use Rattle.dg_arena.specs.Held.{meaning_of};
-ghost use Rattle.dg_machine.specs.Built.{IsPlain, AreArguments};
+ghost use Rattle.dg_machine.specs.Built.{AreArguments};
+ghost use Rattle.dg_mid.specs.Heads.{IsPlain, Flat, AreFlat, FlatTerm, FlatTerms};
 ghost use Rattle.dg_machine.specs.Refs.{RowAt, RefsAt, AreRefs, Keeps};
-ghost use Rattle.dg_machine.specs.Heads.{Flat, AreFlat, FlatTerm, FlatTerms, at_heap, listed, Matches};
+ghost use Rattle.dg_machine.specs.Heads.{at_heap, listed, Matches};
 ghost use Rattle.dg_machine.specs.inside.Writing.{Overflows};
 
 use crate::now::Row;
 use crate::terms::{join, join_pair, plain_value};
 use dg_arena::Arena;
 use dg_base::Term;
+use dg_mid::is_plain;
 use dg_unify::{Bindings, Full, Ref, View};
-
-/// Whether a term has no parts and reads nothing of the program.
-#[inline(always)]
-fn is_plain(term: &Term) -> bool
-    ensures { result ≡ true → IsPlain (out-Term term.now) }
-{
-    !matches!(term, Term::Pair(_, _) | Term::Closure(_))
-}
-
-/// How many cells a term takes, if it is flat.
-#[inline(always)]
-fn flat_term(term: &Term) -> Option<u32>
-    ensures { IfSome result (λ n. FlatTerm term.now n) }
-{
-    let mut pairs = 0;
-    let mut rest = term;
-    'pairs: while let Term::Pair(head, tail) = rest {
-        if pairs == 12 || !is_plain(head.get()) {
-            return None;
-        }
-        pairs += 1;
-        rest = tail.get();
-    }
-    if is_plain(rest) {
-        Some(3 * pairs)
-    } else {
-        None
-    }
-}
-
-/// How many cells the terms of a head take, if all are flat.
-#[inline(always)]
-pub fn flat_cells(head: &[Term]) -> Option<u32>
-    requires { AreArguments head.now }
-    ensures { IfSome result (λ n. FlatTerms head.now n) }
-{
-    let mut cells = 0;
-    let mut rest = head;
-    'terms: while let [term, others @ ..] = rest {
-        match flat_term(term) {
-            None => return None,
-            Some(more) => cells += more,
-        }
-        rest = others;
-    }
-    Some(cells)
-}
 
 /// Makes the pairs of a list, whose values and end are there.
 fn make_list(arena: &mut Arena, values: &[Ref], end: Ref) -> Result<Ref, Full>
@@ -110,18 +65,19 @@ fn flat_value(arena: &mut Arena, row: &Row, term: &Term) -> Result<Ref, Full>
     make_list(arena, &values[..count], end)
 }
 
-/// Unifies a value with that of a flat term, which is written.
-fn match_written(arena: &mut Arena, row: &Row, term: &Term, arg: Ref) -> Result<bool, Full>
+/// Unifies a value with that of a flat term, which is written. The row is handed over, so that it needs no place where nothing is written.
+#[inline(never)]
+fn match_written(arena: &mut Arena, row: Row, term: &Term, arg: Ref) -> Result<bool, Full>
     requires flat { Flat term.now }
-    requires row { (vs : List Value) × RowAt (meaning_of arena.old) row.now vs }
+    requires row { (vs : List Value) × RowAt (meaning_of arena.old) row vs }
     requires arg { Holds (meaning_of arena.old) arg }
     requires room { (p : CoreProgram) → (meaning_of arena.old).state.heap + cells p (term.now ∷ []) ≤ (meaning_of arena.old).heap_limit }
     ensures keeps { Keeps arena.old arena.new }
-    ensures matched { (p : CoreProgram) → (vs : List Value) → RowAt (meaning_of arena.old) row.now vs →
+    ensures matched { (p : CoreProgram) → (vs : List Value) → RowAt (meaning_of arena.old) row vs →
         Follows (at_heap ((meaning_of arena.old).state.heap + cells p (term.now ∷ [])) (meaning_of arena.old)) (meaning_of arena.new)
         (unified (meaning_of arena.old).state.subst (told (meaning_of arena.old) arg) (value_of p vs term.now)) result }
 {
-    match flat_value(arena, row, term) {
+    match flat_value(arena, &row, term) {
         Err(full) => Err(full),
         Ok(whole) => join(arena, arg, whole),
     }
@@ -200,7 +156,7 @@ fn match_flat(arena: &mut Arena, row: &Row, term: &Term, arg: Ref) -> Result<boo
             View::Unbound(var) if is_plain(tail.get()) => {
                 return match_unbound(arena, row, head.get(), tail.get(), at, var);
             }
-            _ => return match_written(arena, row, rest, at),
+            _ => return match_written(arena, *row, rest, at),
         }
     }
     match_plain(arena, row, rest, at)

@@ -26,7 +26,7 @@ ghost use Rattle.dg_machine.specs.Tables.{IsOf};
 ghost use Rattle.dg_machine.specs.Links.{named, below};
 ghost use Rattle.dg_machine.specs.Measure.{way_left, choices_left};
 ghost use Rattle.dg_machine.specs.Passing.{IsFirst};
-ghost use Rattle.dg_machine.specs.Heads.{FlatTerms};
+ghost use Rattle.dg_mid.specs.Heads.{FlatTerms};
 ghost use Rattle.dg_machine.specs.Refs.{RowAt, RefsAt, AreRefs, IsClosureOf};
 
 use crate::heads::match_flats;

@@ -12,7 +12,7 @@ ghost use Rattle.dg_machine.specs.inside.Writing.{Overflows, SpareFits};
 use crate::closures::leaf_value;
 use crate::now::{Row, Side};
 use crate::tables::Tables;
-use crate::terms::var_value;
+use crate::terms::{constant_value, var_value};
 use crate::writing::write_term;
 use dg_arena::Arena;
 use dg_base::Term;
@@ -41,6 +41,42 @@ fn write_value(
     match term {
         Term::Pair(_, _) => write_term(arena, tables, row, term, path, spare),
         _ => leaf_value(arena, tables, row, term, spare),
+    }
+}
+
+/// Puts the value of a term, among variables in a row, behind others; a row that is handed over so needs no place meanwhile.
+#[inline(never)]
+fn write_other(
+    arena: &mut Arena,
+    tables: &Tables,
+    row: Row,
+    term: &Term,
+    to: &mut Vec<Ref>,
+    path: &mut Vec<Side>,
+    spare: &mut Vec<Ref>,
+) -> Result<(), Full>
+    requires fits { (meaning_of arena.old).heap_limit < 3 * vec_capacity path.old + 3 }
+    requires row { (vs : List Value) × RowAt (meaning_of arena.old) row vs }
+    requires spare { SpareFits (meaning_of arena.old) (vec_capacity spare.old) spare.old.items }
+    requires room { length to.old.items < vec_capacity to.old }
+    ensures keeps { Keeps arena.old arena.new }
+    ensures put { (p : CoreProgram) → (us vs : List Value) → IsOf p tables.now → RefsAt (meaning_of arena.old) to.old.items us →
+        RowAt (meaning_of arena.old) row vs → MatchResult result
+        (λ _. Puts (cells p (term.now ∷ [])) (us ++ value_of p vs term.now ∷ []) (meaning_of arena.old) (meaning_of arena.new) to.new.items)
+        (λ _. Overflows (cells p (term.now ∷ [])) (meaning_of arena.old)) }
+    ensures count { OnOk result (length to.new.items ≡ length to.old.items + 1) }
+    ensures few { length to.new.items ≤ length to.old.items + 1 }
+    ensures capacity { vec_capacity to.new ≡ vec_capacity to.old }
+    ensures path { vec_capacity path.new ≡ vec_capacity path.old }
+    ensures spare { OnOk result (spare.new.items ≡ spare.old.items) }
+    ensures spare_room { vec_capacity spare.new ≡ vec_capacity spare.old }
+{
+    match write_value(arena, tables, &row, term, path, spare) {
+        Err(full) => Err(full),
+        Ok(value) => {
+            to.push_reserved(value);
+            Ok(())
+        }
     }
 }
 
@@ -77,21 +113,20 @@ fn write_next(
             to.push_reserved(value);
             Ok(())
         }
+        Term::Pair(_, _) | Term::Closure(_) => {
+            write_other(arena, tables, *row, term, to, path, spare)
+        }
         _ => {
-            match write_value(arena, tables, row, term, path, spare) {
-                Err(full) => Err(full),
-                Ok(value) => {
-                    to.push_reserved(value);
-                    Ok(())
-                }
-            }
+            let value = constant_value(arena, term);
+            to.push_reserved(value);
+            Ok(())
         }
     }
 }
 
 /// Puts the values of terms, among variables in a row, into a register that is emptied.
 #[inline(always)]
-pub fn write_terms(
+fn write_each(
     arena: &mut Arena,
     tables: &Tables,
     row: &Row,
@@ -124,7 +159,68 @@ pub fn write_terms(
     Ok(())
 }
 
+/// The same, out of line.
+#[inline(never)]
+fn write_captured(
+    arena: &mut Arena,
+    tables: &Tables,
+    row: Row,
+    terms: &[Term],
+    to: &mut Vec<Ref>,
+    path: &mut Vec<Side>,
+    spare: &mut Vec<Ref>,
+) -> Result<(), Full>
+    requires fits { (meaning_of arena.old).heap_limit < 3 * vec_capacity path.old + 3 }
+    requires row { (vs : List Value) × RowAt (meaning_of arena.old) row vs }
+    requires spare { SpareFits (meaning_of arena.old) (vec_capacity spare.old) spare.old.items }
+    requires room { length terms.now ≤ vec_capacity to.old }
+    ensures keeps { Keeps arena.old arena.new }
+    ensures put { (p : CoreProgram) → (vs : List Value) → IsOf p tables.now → RowAt (meaning_of arena.old) row vs →
+        MatchResult result (λ _. Puts (cells p terms.now) (map (value_of p vs) terms.now) (meaning_of arena.old) (meaning_of arena.new) to.new.items)
+        (λ _. Overflows (cells p terms.now) (meaning_of arena.old)) }
+    ensures few { length to.new.items ≤ length terms.now }
+    ensures capacity { vec_capacity to.new ≡ vec_capacity to.old }
+    ensures path { vec_capacity path.new ≡ vec_capacity path.old }
+    ensures spare { OnOk result (spare.new.items ≡ spare.old.items) }
+    ensures spare_room { vec_capacity spare.new ≡ vec_capacity spare.old }
+{
+    write_each(arena, tables, &row, terms, to, path, spare)
+}
+
+/// The same. The body of a closure, whose row has captured variables too, is seldom run.
+#[inline(always)]
+pub fn write_terms(
+    arena: &mut Arena,
+    tables: &Tables,
+    row: &Row,
+    terms: &[Term],
+    to: &mut Vec<Ref>,
+    path: &mut Vec<Side>,
+    spare: &mut Vec<Ref>,
+) -> Result<(), Full>
+    requires fits { (meaning_of arena.old).heap_limit < 3 * vec_capacity path.old + 3 }
+    requires row { (vs : List Value) × RowAt (meaning_of arena.old) row.now vs }
+    requires spare { SpareFits (meaning_of arena.old) (vec_capacity spare.old) spare.old.items }
+    requires room { length terms.now ≤ vec_capacity to.old }
+    ensures keeps { Keeps arena.old arena.new }
+    ensures put { (p : CoreProgram) → (vs : List Value) → IsOf p tables.now → RowAt (meaning_of arena.old) row.now vs →
+        MatchResult result (λ _. Puts (cells p terms.now) (map (value_of p vs) terms.now) (meaning_of arena.old) (meaning_of arena.new) to.new.items)
+        (λ _. Overflows (cells p terms.now) (meaning_of arena.old)) }
+    ensures few { length to.new.items ≤ length terms.now }
+    ensures capacity { vec_capacity to.new ≡ vec_capacity to.old }
+    ensures path { vec_capacity path.new ≡ vec_capacity path.old }
+    ensures spare { OnOk result (spare.new.items ≡ spare.old.items) }
+    ensures spare_room { vec_capacity spare.new ≡ vec_capacity spare.old }
+{
+    if row.captured == 0 {
+        let own = row.own();
+        return write_each(arena, tables, &own, terms, to, path, spare);
+    }
+    write_captured(arena, tables, *row, terms, to, path, spare)
+}
+
 /// Puts the value of a term, among variables in a row, into a register that is emptied.
+#[inline(always)]
 pub fn write_one(
     arena: &mut Arena,
     tables: &Tables,
@@ -154,6 +250,7 @@ pub fn write_one(
 }
 
 /// Puts the values of two terms, among variables in a row, into a register that is emptied.
+#[inline(always)]
 pub fn write_both(
     arena: &mut Arena,
     tables: &Tables,
@@ -187,6 +284,7 @@ pub fn write_both(
 }
 
 /// Puts the values of three terms, among variables in a row, into a register that is emptied.
+#[inline(always)]
 pub fn write_three(
     arena: &mut Arena,
     tables: &Tables,

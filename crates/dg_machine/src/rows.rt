@@ -1,6 +1,7 @@
 // Variables in a row of the store.
 ghost use Rattle.std.specs.Prelude.{◌≡◌, ◌<◌, ◌+◌, List, None, IfOk, MatchResult};
 ghost use Rattle.dg_meaning.specs.Values.{Value};
+ghost use Rattle.dg_unify.specs.Store.{Store};
 ghost use Rattle.dg_arena.specs.Held.{meaning_of};
 ghost use Rattle.dg_machine.specs.Refs.{RowAt, IsVarAt, Keeps, MadeRow};
 
@@ -9,6 +10,20 @@ use dg_arena::Arena;
 use dg_unify::{Bindings, Full, Ref};
 
 impl Row {
+    /// The row alone, where nothing is captured before it.
+    #[inline(always)]
+    pub fn own(&self) -> Row
+        requires { self.now.captured ≡ 0 }
+        ensures { (s : Store) → (vs : List Value) → RowAt s self.now vs → RowAt s result vs }
+    {
+        Row {
+            closure: None,
+            captured: 0,
+            first: self.first,
+            count: self.count,
+        }
+    }
+
     /// The variable of that number, if there is one.
     #[inline(always)]
     pub fn at(&self, arena: &Arena, number: u16) -> Option<Ref>

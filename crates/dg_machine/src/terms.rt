@@ -9,7 +9,7 @@ ghost use Rattle.dg_meaning.specs.Substitutions.{walk};
 ghost use Rattle.dg_meaning.specs.Unify.{solve, unify as unified};
 ghost use Rattle.dg_unify.specs.Store.{Follows, Holds, ShowsVar, told, label_of};
 ghost use Rattle.dg_arena.specs.Held.{meaning_of};
-ghost use Rattle.dg_machine.specs.Built.{IsPlain};
+ghost use Rattle.dg_mid.specs.Heads.{IsPlain};
 ghost use Rattle.dg_machine.specs.Refs.{RowAt, RefsAt, AreRefs, Keeps, Stays};
 
 use crate::now::Row;
@@ -43,7 +43,8 @@ pub fn var_value(arena: &mut Arena, row: &Row, var: u16) -> Ref
 }
 
 /// The value of a term without parts that is no variable.
-fn constant_value(arena: &mut Arena, term: &Term) -> Ref
+#[inline(always)]
+pub fn constant_value(arena: &mut Arena, term: &Term) -> Ref
     requires plain { IsPlain (out-Term term.now) }
     requires other { (n : ℕ) → term.now ≡ VarTerm n → ⊥ }
     ensures stays { Stays arena.old arena.new }

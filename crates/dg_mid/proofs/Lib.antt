@@ -35,3 +35,4 @@ pub mod Opening
 pub mod Selecting
 pub mod Rules
 pub mod Weights
+pub mod FlatLemmas

@@ -1,3 +1,4 @@
+pub mod Heads
 pub mod Code
 pub mod State
 pub mod Actions

@@ -1,5 +1,6 @@
 // The instructions, and what they stand in.
 
+use crate::heads::Head;
 use dg_base::{ArithOp, CompareOp, GapKind, Items, Mode, Name, Term, TestKind};
 
 /// What is done at once: a goal with no goals in it that makes no choice.
@@ -80,7 +81,7 @@ pub enum Op {
     /// It goes on at a block.
     Goto(u32),
     /// First of a rule, with so many variables and this head.
-    Enter(u16, Items<Term>),
+    Enter(u16, Head),
     /// The run is done.
     Done,
 }

@@ -76,7 +76,8 @@ impl Scraps {
         match op {
             Op::Do(action) => self.add_action(action),
             Op::Ask(_, args, _, _) | Op::LastAsk(_, args, _) => self.add_terms(args),
-            Op::Find(_, args, _, _) | Op::Enter(_, args) => self.add_terms(args),
+            Op::Find(_, args, _, _) => self.add_terms(args),
+            Op::Enter(_, head) => self.add_terms(head.into_terms()),
             Op::Query(a, b, _, _) | Op::LastQuery(a, b, _) => self.add_query(a, b),
             Op::Collect(a, b, _) => self.add_two(a, b),
             Op::TakeOut(_, a) | Op::Keep(a) => self.add_term(a),

@@ -4,6 +4,7 @@
 mod branches;
 mod closures;
 mod code;
+mod heads;
 mod laws;
 mod letting;
 mod places;
@@ -13,6 +14,7 @@ mod writing;
 
 pub use branches::Branching;
 pub use code::{Action, Block, BodyCode, Code, Gathered, Key, Op, RuleCode};
+pub use heads::{Head, is_plain};
 pub use laws::{
     code_costs_its_work, code_moves_on, code_runs_as_searched, code_shows_faults,
     code_shows_the_game, heights_order_places, steps_come_to_a_goal,

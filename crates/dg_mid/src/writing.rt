@@ -16,6 +16,7 @@ ghost use Rattle.dg_base.specs.declared.program.Term.{out-Term};
 
 use crate::branches::Branching;
 use crate::code::{Action, Block, Gathered, Key, Op, RuleCode};
+use crate::heads::Head;
 use crate::terms::copy;
 use dg_base::{Goal, Items, Pred, Rule, Term};
 use std::alloc::{AllocError, Global};
@@ -435,7 +436,7 @@ impl Writer {
         let key = key_of(head.as_slice());
         let end = one(self.alloc, Op::Return)?;
         let ops = self.write(body, end)?;
-        let ops = with(ops, Op::Enter(vars, head))?;
+        let ops = with(ops, Op::Enter(vars, Head::new(head)))?;
         let block = self.block(ops)?;
         Ok(RuleCode { key, block })
     }

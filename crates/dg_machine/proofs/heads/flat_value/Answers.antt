@@ -4,11 +4,11 @@ use Rattle.dg_meaning.specs.Values.{pair, value_of}
 use Rattle.dg_meaning.specs.Cells.{cells}
 use Rattle.dg_unify.proofs.StoreLemmas.{holds_some}
 use Rattle.dg_arena.specs.Held.{meaning_of}
+use Rattle.dg_mid.proofs.FlatLemmas.{plain_cell, cells_pair}
 use Rattle.dg_machine.specs.Heads.{listed}
 use Rattle.dg_machine.specs.inside.Writing.{cells_of, nodes_of}
 use Rattle.dg_machine.proofs.Kept.{row_kept, refs_kept}
-use Rattle.dg_machine.proofs.PathLemmas.{cells_pair, value_pair, nodes_pair}
-use Rattle.dg_machine.proofs.WriteSteps.{plain_cell}
+use Rattle.dg_machine.proofs.PathLemmas.{value_pair, nodes_pair}
 use Rattle.dg_machine.proofs.HeadLemmas.{keeps_same, keeps_on, stays_on}
 use Rattle.dg_machine.proofs.HeadMatching.{no_program, Rest, rest_parts, rest_plain, written_on, written_from}
 use Rattle.dg_machine.proofs.heads.flat_value.Goals as goal

@@ -5,7 +5,8 @@ use Rattle.dg_base.specs.declared.program.Term.{Term}
 use Rattle.dg_meaning.specs.Values.{Value, Nil, leaf, value_of}
 use Rattle.dg_unify.specs.declared.bindings.Ref.{Ref}
 use Rattle.dg_arena.specs.Held.{meaning_of}
-use Rattle.dg_machine.specs.Heads.{Flat, at_heap}
+use Rattle.dg_machine.specs.Heads.{at_heap}
+use Rattle.dg_mid.specs.Heads.{Flat}
 use Rattle.dg_machine.specs.inside.Writing.{cells_of}
 use Rattle.dg_machine.proofs.Kept.{row_kept}
 use Rattle.dg_machine.proofs.TermLemmas.{refs_length}

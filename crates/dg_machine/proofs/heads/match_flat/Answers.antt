@@ -8,11 +8,12 @@ use Rattle.dg_meaning.specs.Unify.{unify}
 use Rattle.dg_unify.specs.Store.{told, ShowsPair, Follows}
 use Rattle.dg_unify.proofs.StoreLemmas.{holds_some}
 use Rattle.dg_arena.specs.Held.{meaning_of}
-use Rattle.dg_machine.specs.Built.{IsPlain}
-use Rattle.dg_machine.specs.Heads.{Flat, at_heap}
+use Rattle.dg_mid.specs.Heads.{IsPlain, Flat}
+use Rattle.dg_mid.proofs.FlatLemmas.{cells_pair}
+use Rattle.dg_machine.specs.Heads.{at_heap}
 use Rattle.dg_machine.specs.inside.Writing.{cells_of, nodes_of}
 use Rattle.dg_machine.proofs.Kept.{row_kept}
-use Rattle.dg_machine.proofs.PathLemmas.{cells_pair, value_pair, nodes_pair}
+use Rattle.dg_machine.proofs.PathLemmas.{value_pair, nodes_pair}
 use Rattle.dg_machine.proofs.HeadLemmas.{keeps_same, keeps_on}
 use Rattle.dg_machine.proofs.Matching.{left_starts}
 use Rattle.dg_machine.proofs.HeadMatching.{no_program, flat_parts, flat_plain, heap_grown, heap_few, left_last, part_full, part_clash, part_on}

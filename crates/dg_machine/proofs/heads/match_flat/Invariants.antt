@@ -5,7 +5,7 @@ use Rattle.dg_meaning.specs.Values.{Value, value_of}
 use Rattle.dg_unify.specs.Store.{told, Holds}
 use Rattle.dg_arena.specs.Held.{meaning_of}
 use Rattle.dg_machine.specs.Refs.{RowAt, Keeps}
-use Rattle.dg_machine.specs.Heads.{Flat}
+use Rattle.dg_mid.specs.Heads.{Flat}
 use Rattle.dg_machine.specs.inside.Writing.{cells_of}
 use Rattle.dg_machine.proofs.Matching.{Left}
 use Rattle.dg_machine.proofs.heads.match_flat.Given as goal

@@ -6,7 +6,7 @@ use Rattle.dg_machine.proofs.Kept.{row_kept}
 use Rattle.dg_machine.proofs.TableLemmas.{a_program, a_program_is}
 use Rattle.dg_machine.proofs.HeadLemmas.{keeps_same, keeps_on}
 use Rattle.dg_machine.proofs.RegisterLemmas.{spare_on, puts_none, terms_on, terms_full, terms_put}
-use Rattle.dg_machine.proofs.register.write_terms.Goals as goal
+use Rattle.dg_machine.proofs.register.write_each.Goals as goal
 
 pub terms-init : goal.terms-init
 terms-init c = record {

@@ -1,8 +1,8 @@
 use Rattle.std.proofs.Common.{◌≡◌, ◌+◌, ◌*◌, ◌≤◌, length}
 use Rattle.dg_base.specs.declared.program.CoreProgram.{CoreProgram}
 use Rattle.dg_meaning.specs.Cells.{cells}
-use Rattle.dg_machine.specs.Heads.{AreFlat}
-use Rattle.dg_machine.proofs.heads.flat_cells.Given as goal
+use Rattle.dg_mid.specs.Heads.{AreFlat}
+use Rattle.dg_mid.proofs.heads.flat_cells.Given as goal
 
 abbrev pub invariant-terms : goal.invariant-terms
 invariant-terms l = record {

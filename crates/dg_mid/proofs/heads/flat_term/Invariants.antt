@@ -1,6 +1,6 @@
 use Rattle.std.proofs.Common.{ℕ, ◌+◌, ◌-◌, ◌≤◌}
-use Rattle.dg_machine.specs.Heads.{IsList}
-use Rattle.dg_machine.proofs.heads.flat_term.Given as goal
+use Rattle.dg_mid.specs.Heads.{IsList}
+use Rattle.dg_mid.proofs.heads.flat_term.Given as goal
 
 abbrev pub invariant-pairs : goal.invariant-pairs
 invariant-pairs l = record {

@@ -5,7 +5,7 @@ use Rattle.dg_meaning.specs.Cells.{cells}
 use Rattle.dg_arena.specs.Held.{meaning_of}
 use Rattle.dg_machine.specs.Tables.{IsOf}
 use Rattle.dg_machine.specs.Refs.{RowAt, Keeps, Puts}
-use Rattle.dg_machine.proofs.register.write_terms.Given as goal
+use Rattle.dg_machine.proofs.register.write_each.Given as goal
 
 abbrev pub invariant-terms : goal.invariant-terms
 invariant-terms l = record {

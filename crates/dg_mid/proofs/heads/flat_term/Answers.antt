@@ -1,9 +1,8 @@
-use Rattle.std.proofs.Common.{◌≡◌, ◌+◌, ◌*◌, suc, subst, arith}
+use Rattle.std.proofs.Common.{suc, subst, arith}
 use Rattle.dg_base.specs.declared.program.Term.{out-Term}
-use Rattle.dg_machine.specs.Built.{IsPlain}
-use Rattle.dg_machine.specs.Heads.{IsList}
-use Rattle.dg_machine.proofs.HeadMatching.{list_on, list_takes}
-use Rattle.dg_machine.proofs.heads.flat_term.Goals as goal
+use Rattle.dg_mid.specs.Heads.{IsPlain, IsList}
+use Rattle.dg_mid.proofs.FlatLemmas.{list_on, list_takes}
+use Rattle.dg_mid.proofs.heads.flat_term.Goals as goal
 
 pub pairs-init : goal.pairs-init
 pairs-init c = record { flat = λ n f. subst (λ k. IsList k c.args.term.now) (omega arith) f; few = omega arith }
