@@ -1,6 +1,6 @@
 -- A variable that is joined to the end of a value, and values in which it doesn't stand.
 use Rattle.std.proofs.lemmas.Bool.{ne_eqb}
-use Rattle.std.proofs.Common.{◌-◌, ◌≤◌, ◌≡◌, ℕ, ◌<◌, refl, sym, ap, ◌∙◌, subst, arith, Some, false, length, get_or}
+use Rattle.std.proofs.Common.{◌-◌, ◌+◌, ◌≤◌, ◌≡◌, ℕ, ◌<◌, refl, sym, ap, ◌∙◌, subst, arith, Some, false, length, get_or, reverse}
 use Rattle.std.specs.Prelude.{Bool, Result, Ok, Err, Option, None, max}
 use Rattle.dg_meaning.specs.Values.{Value, Values, Var, Node, Pair, More, NoMore, pair}
 use Rattle.dg_meaning.specs.Substitutions.{walk, resolved, contains, is_bound, IsSubstitution}
@@ -11,7 +11,7 @@ use Rattle.dg_unify.specs.Store.{Store, told, or_nil, ShowsVar, ShowsPair, Follo
 use Rattle.dg_unify.specs.Slots.{label_at, value_in, Fields, AreSound, store_of}
 use Rattle.dg_unify.specs.inside.Ends.{subst_in, told_in, TellsOf, IsEnd, LeadsTo, EndsAt, MayLink}
 use Rattle.dg_unify.specs.inside.Turns.{IsUnbound, FollowsTurn, TurnsInto, met_of}
-use Rattle.dg_unify.specs.Laws.{place_of_var}
+use Rattle.dg_unify.specs.Laws.{place_of_var, slots_younger}
 use Rattle.dg_unify.specs.declared.slots.Slot.{Slot}
 use Rattle.dg_unify.specs.declared.slots.Slot.TheVariants as slot
 use Rattle.dg_unify.proofs.Stores.{bind_var}
@@ -189,3 +189,37 @@ module _ (f : Fields) (sound : AreSound f) (a b var to : Ref) (n : ℕ) (free : 
   points_right ea eb None h = h
   points_right ea eb (Some r) h =
       turn_ends held new sound.fits.sound a b r (met_right held new sound.fits.sound a b var h.node.label h.node.parts r (sym ea.is ∙ h.node.is) (ends_free b eb) (bound_at a ea r h))
+
+-- ## Two variables, of which the younger is bound to the older
+
+module _ (f : Fields) (sound : AreSound f) (var to : Ref) (n m : ℕ) (free : IsFree f var n) (older : IsFree f to m) (lt : to.0 < var.0) where
+  abbrev st2 : Store
+  st2 = store_of false f
+
+  before_it : m < n
+  before_it = slots_younger f.slots (reverse f.log) f.vars sound.fits to var m n older.value free.value lt
+
+  pub tie_link : MayLink f n to
+  tie_link =
+      let differ = before_it in
+      free_link f sound var to n free (holds_some st2 to (Var m) older.value) older.end_is (other_absent f sound to m n older.value older.end_is (λ e. omega (arith, differ, e)))
+
+  pub tie_top : top (told_in f to) ≤ m + 1
+  tie_top = let e : told_in f to ≡ Var m = ap or_nil older.value in rw e (omega arith)
+
+  module _ (new : Store) (young : Younger st2) (r : Result Bool Full) (h : FollowsTurn st2 new (Binds n (walk (subst_in f) (told_in f to))) r) where
+    abbrev at_var : (a : Ref) → EndsAt f a var → ShowsVar st2 (walked_to st2 a) var
+    at_var a ends = record { number = n; is = sym ends.is ∙ ap or_nil free.value; value = free.value }
+
+    abbrev at_to : (a : Ref) → EndsAt f a to → ShowsVar st2 (walked_to st2 a) to
+    at_to a ends = record { number = m; is = sym ends.is ∙ ap or_nil older.value; value = older.value }
+
+    pub tied_left : (a b : Ref) → EndsAt f a var → EndsAt f b to → Follows st2 new (unify (subst_in f) (told_in f a) (told_in f b)) r
+    tied_left a b ea eb =
+        let sb = at_to b eb in
+        turn_ends st2 new sound.fits.sound a b r (met_vars st2 new sound.fits.sound a b var to r (at_var a ea) sb (tie_older st2 new young var to n m (unbound_at st2 sound.fits.sound b to sb) free.value older.value (λ e. omega arith) (omega arith) r h))
+
+    pub tied_right : (a b : Ref) → EndsAt f a to → EndsAt f b var → Follows st2 new (unify (subst_in f) (told_in f a) (told_in f b)) r
+    tied_right a b ea eb =
+        let sa = at_to a ea in
+        turn_ends st2 new sound.fits.sound a b r (met_vars st2 new sound.fits.sound a b to var r sa (at_var b eb) (tie_younger st2 new young to var m n (unbound_at st2 sound.fits.sound a to sa) older.value free.value (λ e. omega arith) lt r h))

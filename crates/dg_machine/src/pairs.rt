@@ -82,6 +82,20 @@ fn join_or_unify(arena: &mut Arena, a: Ref, b: Ref) -> Result<bool, Full>
 {
     match arena.join(a, b) {
         Some(joined) => joined,
+        None => join_far(arena, a, b),
+    }
+}
+
+// The same, where more is to be looked at.
+fn join_far(arena: &mut Arena, a: Ref, b: Ref) -> Result<bool, Full>
+    requires a_in { Holds (meaning_of arena.old) a }
+    requires b_in { Holds (meaning_of arena.old) b }
+    ensures keeps { Keeps arena.old arena.new }
+    ensures unified { Follows (meaning_of arena.old) (meaning_of arena.new)
+        (unified (meaning_of arena.old).state.subst (told (meaning_of arena.old) a) (told (meaning_of arena.old) b)) result }
+{
+    match arena.join_ends(a, b) {
+        Some(joined) => joined,
         None => unify(arena, a, b),
     }
 }

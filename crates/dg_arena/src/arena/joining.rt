@@ -20,6 +20,9 @@ use dg_unify::{FIRST_SIMPLE, Full, Ref, Slot};
 // The first number that names the empty list. Of two smaller ones each names another value without parts.
 const FIRST_NIL: u32 = 2147680256;
 
+// A list with so many pairs at most is short.
+const SHORT: u8 = 12;
+
 /// What a look at a part shows: whether it is clear that a variable doesn't stand in it, and a number above the variables of it.
 #[derive(Clone, Copy)]
 pub struct Glance {
@@ -51,6 +54,23 @@ impl Arena {
         match self.link_fenced(number, end) {
             Ok(()) => Some(Ok(true)),
             Err(full) => Some(Err(full)),
+        }
+    }
+
+    /// The same, with a further look: two variables are unified whichever is older, and a variable and a list where a look along the
+    /// list shows that the variable doesn't stand in it.
+    pub fn join_ends(&mut self, to: Ref, from: Ref) -> Option<Result<bool, Full>>
+        requires to_in { Holds (meaning_of self.old) to }
+        requires from_in { Holds (meaning_of self.old) from }
+        ensures kept { Kept (meaning_of self.old) (meaning_of self.new) }
+        ensures saved { (ms : List Saved) → saves_of self.old ms → saves_of self.new ms }
+        ensures joined { Joins (meaning_of self.old) (meaning_of self.new) to from result }
+    {
+        let end = self.end_of(to);
+        let value = self.end_of(from);
+        match self.same_ends(end, value) {
+            None => self.join_along(end, value),
+            Some(same) => Some(Ok(same)),
         }
     }
 
@@ -235,7 +255,59 @@ impl Arena {
         }
     }
 
-    // Whether it is clear from a look along a list that a variable of this number doesn't stand in it.
+    // Whether it is clear from a look along a short list that a variable of this number doesn't stand in it.
+    fn short_clear(&self, at: Ref, number: u32) -> bool
+        requires { TellsOf (fields_of self.now) at }
+        ensures { result ≡ true → IsAbsent (fields_of self.now) at number }
+    {
+        let mut end = self.end_of(at);
+        let mut left = SHORT;
+        'pairs: while left > 0 {
+            if self.end_clear(end, number) {
+                return true;
+            }
+            match self.clear_behind(end, number) {
+                None => return false,
+                Some(tail) => end = self.end_of(tail),
+            }
+            left -= 1;
+        }
+        false
+    }
+
+    // Whether it is clear at once, or from a look along a short list, that a variable of this number doesn't stand in a value.
+    #[inline(always)]
+    fn head_clear(&self, at: Ref, number: u32) -> bool
+        requires { TellsOf (fields_of self.now) at }
+        ensures { result ≡ true → IsAbsent (fields_of self.now) at number }
+    {
+        if self.part_clear(at, number) {
+            return true;
+        }
+        self.short_clear(at, number)
+    }
+
+    // The tail of a pair, where it is clear so that a variable of this number doesn't stand in the head.
+    #[inline(always)]
+    fn clear_past(&self, end: Ref, number: u32) -> Option<Ref>
+        requires { TellsOf (fields_of self.now) end }
+        ensures { IfSome result (λ tail. IsClearTo (fields_of self.now) end tail number) }
+    {
+        if end.0 >= FIRST_SIMPLE {
+            return None;
+        }
+        match self.cells[end.0 as usize] {
+            Slot::Pair(head, tail, _) => {
+                if !self.head_clear(head, number) {
+                    return None;
+                }
+                Some(tail)
+            }
+            _ => None,
+        }
+    }
+
+    // Whether it is clear from a look along a list, and along the short lists in it, that a variable of this number doesn't stand in it.
     fn list_clear(&self, at: Ref, number: u32) -> bool
         requires { TellsOf (fields_of self.now) at }
         ensures { result ≡ true → IsAbsent (fields_of self.now) at number }
@@ -246,7 +318,7 @@ impl Arena {
             if self.end_clear(end, number) {
                 return true;
             }
-            match self.clear_behind(end, number) {
+            match self.clear_past(end, number) {
                 None => return false,
                 Some(tail) => end = self.end_of(tail),
             }
@@ -278,8 +350,52 @@ impl Arena {
         }
     }
 
-    // Unifies two ends of which one is an unbound variable, where it is clear from a look along the other that the variable doesn't
-    // stand in it. Else nothing is done.
+    // Binds an unbound variable to another one that is older.
+    #[inline(always)]
+    fn tie(&mut self, var: Ref, number: u32, to: Ref, other: u32) -> Option<Result<bool, Full>>
+        requires var_free { IsFree (fields_of self.old) var number }
+        requires to_free { IsFree (fields_of self.old) to other }
+        requires older { to.0 < var.0 }
+        ensures kept { Kept (meaning_of self.old) (meaning_of self.new) }
+        ensures saved { (ms : List Saved) → saves_of self.old ms → saves_of self.new ms }
+        ensures left { (a b : Ref) → EndsAt (fields_of self.old) a var → EndsAt (fields_of self.old) b to →
+            Joins (meaning_of self.old) (meaning_of self.new) a b result }
+        ensures right { (a b : Ref) → EndsAt (fields_of self.old) a to → EndsAt (fields_of self.old) b var →
+            Joins (meaning_of self.old) (meaning_of self.new) a b result }
+    {
+        match self.link_below(number, to, other as usize + 1) {
+            Ok(()) => Some(Ok(true)),
+            Err(full) => Some(Err(full)),
+        }
+    }
+
+    // Unifies an unbound variable and an end: another such variable, or a value where it is clear from a look along that that the
+    // variable doesn't stand in it. Else nothing is done.
+    #[inline(always)]
+    fn join_free(&mut self, a: Ref, number: u32, b: Ref) -> Option<Result<bool, Full>>
+        requires free { IsFree (fields_of self.old) a number }
+        requires b_in { TellsOf (fields_of self.old) b }
+        requires b_end { IsEnd (fields_of self.old) b }
+        ensures kept { Kept (meaning_of self.old) (meaning_of self.new) }
+        ensures saved { (ms : List Saved) → saves_of self.old ms → saves_of self.new ms }
+        ensures joined { (to from : Ref) → EndsAt (fields_of self.old) to a → EndsAt (fields_of self.old) from b →
+            Joins (meaning_of self.old) (meaning_of self.new) to from result }
+    {
+        let other = match self.free_at(b) {
+            None => return self.point(number, b),
+            Some(other) => other,
+        };
+        if a.0 < b.0 {
+            return self.tie(b, other, a, number);
+        }
+        if b.0 < a.0 {
+            return self.tie(a, number, b, other);
+        }
+        None
+    }
+
+    // Unifies two ends of which one is an unbound variable, and the other another one, or a value where it is clear from a look along
+    // that that the variable doesn't stand in it. Else nothing is done.
     fn join_along(&mut self, a: Ref, b: Ref) -> Option<Result<bool, Full>>
         requires a_in { TellsOf (fields_of self.old) a }
         requires b_in { TellsOf (fields_of self.old) b }
@@ -291,7 +407,7 @@ impl Arena {
             Joins (meaning_of self.old) (meaning_of self.new) to from result }
     {
         match self.free_at(a) {
-            Some(number) => self.point(number, b),
+            Some(number) => self.join_free(a, number, b),
             None => match self.free_at(b) {
                 Some(number) => self.point(number, a),
                 None => None,
