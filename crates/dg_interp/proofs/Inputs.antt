@@ -12,7 +12,6 @@ use Rattle.dg_base.specs.declared.program.Term.{Term}
 use Rattle.dg_base.specs.declared.run.Ending.{Ending}
 use Rattle.dg_base.specs.declared.run.Ending.TheVariants.{Failed, InputEnded}
 use Rattle.dg_base.specs.declared.run.RunFault.{RunFault}
-use Rattle.dg_base.specs.declared.run.RunFault.TheVariants.{Write, OutOfMemory}
 use Rattle.dg_base.proofs.WrittenLemmas.{broke_later}
 use Rattle.dg_meaning.specs.Letters.{copied}
 use Rattle.dg_meaning.specs.Values.{Value}
@@ -44,12 +43,12 @@ use Rattle.dg_interp.specs.inside.Engine.{store_in, steps_of, limit_in, StandsAt
 use Rattle.dg_meaning.specs.Engines.{game, told_behind, left_told}
 use Rattle.dg_meaning.proofs.Engines.{as_told}
 use Rattle.dg_texts.specs.Printing.{Added}
-use Rattle.dg_interp.specs.inside.Running.{HasText, Writes, Gave, Awaits, Stretch, Reaches, HasEnded, MeetsLimit, IsBroken, IsLimited, TakesMore, LosesInput, Broken, GoalDone, DoesGoal, over, outcome_of}
+use Rattle.dg_interp.specs.inside.Running.{HasText, Writes, Gave, Awaits, Stretch, Reaches, HasEnded, MeetsLimit, HasPart, IsLimited, TakesMore, LosesInput, LosesOutput, Broken, GoalDone, DoesGoal, over, outcome_of}
 use Rattle.dg_texts.specs.Spelling.{IsShort, SpellsSome}
 use Rattle.dg_interp.specs.inside.Wording.{words_in, MakesAt, TakesLineAt, AwaitsInput}
 use Rattle.dg_interp.proofs.Places.{inside_in, limits_at, limits_on, adds_nothing}
 use Rattle.dg_texts.proofs.Texts.{render_grows}
-use Rattle.dg_interp.proofs.Runs.{stretched, writes_nothing, text_added, text_begins, finished_so, ended_at, limited_at, no_more}
+use Rattle.dg_interp.proofs.Runs.{stretched, writes_nothing, text_added, lost_one, loses_here, finished_so, ended_at, limited_at, no_more}
 use Rattle.dg_interp.proofs.Rounds.{stretch_on}
 use Rattle.dg_interp.proofs.Wordings.{made_grows, made_later}
 use Rattle.dg_texts.proofs.TypedLetters.{line_short}
@@ -196,17 +195,11 @@ module _ (term : Term) (into : Ref) (old mid here : Engine) (some : 0 < length o
     happened g n w v run m = made_later (value_in w) into here g n v run m
 
     -- the sink failed at the gap
-    pub gap_lost : ((xs : List Print) → StandsFor s xs → BrokeOff k k' (growth xs (GapOf Line))) → Reaches old s k i i' (IsBroken Write s' k' i'.left)
-    gap_lost broke = record {
-      taken = bytes;
-      ended = false;
-      gave = gave;
-      reaches = λ g w run start a st text.
-          let t = comes g here.left w run a (subst (λ n. StandsAt old g n w run) left_is st) in
-          let is : text_of t.world.events ≡ render (prints w.events) ++ growth (prints w.events) (GapOf Line) = ap render t.prints_are ∙ render_grows (prints w.events) (GapOf Line) in
-          text_begins t.world.events run.world.events (happened g here.left w t.world run t.holds).events start k'
-          (subst (BrokeOff start k') (sym is) (broke_later start k k' (render (prints w.events)) (growth (prints w.events) (GapOf Line)) text.wrote (broke (prints w.events) text.stands)));
-    }
+    pub gap_lost : ((xs : List Print) → StandsFor s xs → BrokeOff k k' (growth xs (GapOf Line))) → LosesOutput old s k k' i i'
+    gap_lost broke =
+        loses_here old s k k' i i' es bytes some (omega (arith, left_is)) gave
+        (λ g w run a st. let t = comes g 0 w run a st in record { world = t.world; prints_are = t.prints_are; typed = t.typed; holds = happened g 0 w t.world run t.holds })
+        (lost_one s k k' (GapOf Line) broke)
 
     -- ## The gap was printed
 
@@ -257,7 +250,7 @@ module _ (term : Term) (into : Ref) (old mid here : Engine) (some : 0 < length o
             record { world = x.world; typed = x.typed; is = x.is; text = x.text };
       }
 
-      line_lost : Reaches old s k i i' (IsBroken OutOfMemory s' k' i'.left)
+      line_lost : Reaches old s k i i' (HasPart s' k' i'.left)
       line_lost = record {
         taken = bytes;
         ended = false;

@@ -24,7 +24,7 @@ use Rattle.std.proofs.lemmas.List.{append-nil, append_cancel_left}
 use Rattle.dg_meaning.specs.World.{Print}
 use Rattle.dg_meaning.specs.Engines.{told_behind, left_told}
 use Rattle.dg_meaning.proofs.Engines.{as_told}
-use Rattle.dg_interp.specs.inside.Running.{Gave, Awaits, Stretch, HasText, Reaches, GoesOn, HasEnded, MeetsLimit, Ended, IsBroken, IsLimited, TakesMore, LosesInput, Broken, GoalDone, Does, ending_at, limit_of}
+use Rattle.dg_interp.specs.inside.Running.{Gave, Awaits, Stretch, HasText, Reaches, GoesOn, HasEnded, MeetsLimit, Ended, HasPart, IsLimited, TakesMore, LosesInput, LosesOutput, Broken, GoalDone, Does, ending_at, limit_of}
 use Rattle.dg_interp.proofs.Places.{limits_at, adds_nothing, limits_on, limits_here}
 use Rattle.dg_interp.proofs.Runs.{gave_nothing, gave_on, stretched, ended_at, writes_nothing, writes_on, finished_so, no_more}
 
@@ -106,9 +106,9 @@ module _ (old mid new : Engine) (s s' : Spacer) (k k' : SinkView) (i i' : Source
   next_ok (Some Failed) a = next_ended Failing Failed refl a
   next_ok (Some _) a = absurd a
 
-  next_lost : Reaches old s k i i' (IsBroken OutOfMemory s' k' i'.left)
+  next_lost : Reaches old s k i i' (HasPart s' k' i'.left)
   next_lost =
-      behind_goal (IsBroken OutOfMemory s' k' i'.left)
+      behind_goal (HasPart s' k' i'.left)
       (λ g w v run start taken left st text. record { moment = v; taken = taken; until = stands_happened g st.at.inside.lives st.at.ways _ mid.left v run st.stands; text = text; left = left })
 
   next_limit : (area : Area) (left : ℕ) → mid.left ≡ left → PassesLimit area (StandsAt mid) (limit_in area mid) → MeetsLimit area left old s s' k k' i i'
@@ -233,11 +233,31 @@ module _ (a b : Engine) (s s' s'' : Spacer) (k k' k'' : SinkView) (i i' i'' : So
         writes = writes_on s s' s'' k k' k'' h.added j.added h.writes j.writes;
       }
 
+  -- or the output
+  output_further : LosesOutput b s' k' k'' i' i'' → LosesOutput a s k k'' i i''
+  output_further j =
+      let behind : suc (h.goals + j.goals) ≡ h.goals + suc j.goals = omega arith in
+      record {
+        goals = h.goals + j.goals;
+        below = omega (arith, h.left, j.below);
+        taken = h.taken ++ j.taken;
+        gave = gave_on i i' i'' false h.taken j.taken h.gave j.gave;
+        breaks = λ g w run start awaits st text.
+            let t = h.leads g (suc j.goals) w run (awaits_first i' i'' false h.taken j.taken w j.gave awaits) (subst (λ i. StandsAt a g i w run) behind st) in
+            j.breaks g t.world run start (awaits_then i'' false h.taken j.taken w t.world t.typed awaits) t.holds (has_text w t.world start t.prints_are text);
+        until = λ g w run awaits st.
+            let t = h.leads g (suc j.goals) w run (awaits_first i' i'' false h.taken j.taken w j.gave awaits) (subst (λ i. StandsAt a g i w run) behind st) in
+            j.until g t.world run (awaits_then i'' false h.taken j.taken w t.world t.typed awaits) t.holds;
+        since = λ g w run awaits st.
+            let t = h.leads g j.goals w run (awaits_first i' i'' false h.taken j.taken w j.gave awaits) st in
+            j.since g t.world run (awaits_then i'' false h.taken j.taken w t.world t.typed awaits) t.holds;
+      }
+
   pub broken_reaches : (fault : RunFault) → Broken fault b s' s'' k' k'' i' i'' → Broken fault a s s'' k k'' i i''
   broken_reaches Read j = loses_further j
-  broken_reaches Write j = reaches_further (IsBroken Write s'' k'' i''.left) (IsBroken Write s'' k'' i''.left) (λ w v run start ends y. y) j
+  broken_reaches Write j = output_further j
   broken_reaches OutOfMemory j =
-      reaches_further (IsBroken OutOfMemory s'' k'' i''.left) (IsBroken OutOfMemory s'' k'' i''.left)
+      reaches_further (HasPart s'' k'' i''.left) (HasPart s'' k'' i''.left)
       (λ w v run start ends y. record { moment = y.moment; taken = ends_on w.typed v.typed y.moment.typed ends y.taken; until = y.until; text = y.text; left = y.left })
       j
 

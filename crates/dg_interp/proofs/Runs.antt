@@ -1,7 +1,7 @@
 -- How goals add up to a run.
 use Rattle.std.proofs.Common.{◌≡◌, ℕ, suc, ◌<◌, List, [], ◌∷◌, ◌++◌, Bool, true, false, Option, Some, None, refl, sym, ap, ◌∙◌, subst, arith, length, append_assoc, Ok, Err}
 use Rattle.std.specs.Prelude.{Result, IfOk, IfErr}
-use Rattle.std.proofs.lemmas.List.{append-nil}
+use Rattle.std.proofs.lemmas.List.{append-nil, append_cancel_left}
 use Rattle.dg_base.specs.declared.program.Goal.{Goal, out-Goal}
 use Rattle.dg_base.specs.declared.program.Goal as place
 use denote.Hole.Carrier.{out}
@@ -11,13 +11,12 @@ use Rattle.dg_base.specs.declared.program.Term.{Term}
 use Rattle.dg_base.specs.declared.run.Ending.{Ending}
 use Rattle.dg_base.specs.declared.run.Ending.TheVariants.{Failed, StepLimit, Stopped, Quit as Quit-Ending}
 use Rattle.dg_base.specs.declared.run.RunFault.{RunFault}
-use Rattle.dg_base.specs.declared.run.RunFault.TheVariants.{Write, OutOfMemory}
 use Rattle.dg_meaning.specs.World.{Game, World, Event, Print, Piece, GapOf, prints}
 use Rattle.dg_meaning.specs.Path.{Result as SearchResult, Failing, End}
 use Rattle.dg_meaning.specs.Moves.{path_of, goals_at}
 use Rattle.dg_meaning.specs.Render.{nothing_met, met_from, render, render_from}
 use Rattle.dg_meaning.specs.Transcript.{Run, ending_of, text_of}
-use Rattle.dg_meaning.specs.OneRun.{Begins, Grows}
+use Rattle.dg_meaning.specs.OneRun.{Begins, EndsWith, Grows}
 use Rattle.dg_meaning.specs.Peaks.{Area, Heap, Trail, Aux, Keep, greatest, limit_ending}
 use Rattle.dg_meaning.specs.Keeps.{Stands, Finished}
 use Rattle.dg_meaning.proofs.Dropping.{prints_append}
@@ -40,7 +39,7 @@ use Rattle.dg_base.specs.Streams.{SourceView}
 use Rattle.dg_meaning.specs.Shows.{IsLeft}
 use Rattle.dg_meaning.specs.Engines.{left_told}
 use Rattle.dg_meaning.proofs.Engines.{as_told}
-use Rattle.dg_interp.specs.inside.Running.{HasText, Writes, Gave, Awaits, Stretch, Reaches, HasEnded, IsNoFurther, MeetsLimit, Ended, IsBroken, Broken, GoalDone, DoesGoal, ending_at, over, outcome_of}
+use Rattle.dg_interp.specs.inside.Running.{HasText, Writes, Gave, Awaits, Stretch, Reaches, HasEnded, IsNoFurther, MeetsLimit, Ended, HasPart, LosesOutput, Broken, GoalDone, DoesGoal, ending_at, over, outcome_of}
 use Rattle.dg_base.proofs.WrittenLemmas.{wrote_on, broke_first, broke_later}
 use Rattle.dg_interp.proofs.Places.{limits_at, adds_nothing, adds_on, adds_drops, limits_on}
 use Rattle.dg_interp.proofs.Goals.{prints_word, prints_gap, quits}
@@ -196,9 +195,9 @@ module _ (x : Goal) (old mid : Engine) (s : Spacer) (k : SinkView) (i : SourceVi
       reads_nothing old s k i (HasEnded e new.left s k (left_told i i)) (λ g w run start left st text. finished_so result e mid.left new.left s k (left_told i i) w run start (as_told i i w.typed left) text (sym h.left) is (h.ends g mid.left w run (takes_here g w run st)))
 
   -- memory ran out before anything was written
-  pub goal_lost : Reaches old s k i i (IsBroken OutOfMemory s k i.left)
+  pub goal_lost : Reaches old s k i i (HasPart s k i.left)
   goal_lost =
-      reads_nothing old s k i (IsBroken OutOfMemory s k i.left)
+      reads_nothing old s k i (HasPart s k i.left)
       (λ g w run start left st text.
       record { moment = w; taken = record { taken = []; is = refl }; until = stands_happened g st.at.inside.lives st.at.ways _ old.left w run st.stands; text = text; left = left })
 
@@ -238,6 +237,32 @@ module _ (x : Goal) (old mid : Engine) (s : Spacer) (k : SinkView) (i : SourceVi
     here (Ok false) = tt
     here (Err lack) = lacks (area_of lack)
 
+-- ## The output fails at the goal at hand
+
+pub loses_here : (old : Engine) (s : Spacer) (k k' : SinkView) (i i' : SourceView) (added : List Print) (bytes : List ℕ) → 0 < length old.here.goals.now → 0 < old.left → Gave i i' false bytes → ((g : Game) (w : World) (run : Run) → Awaits i' false bytes w → StandsAt old g (suc 0) w run → Stretch added bytes w (λ v. Grows v run.world)) →
+    ((start : SinkView) (es : List Print) → HasText s start k es → BrokeOff start k' (render (es ++ added))) → LosesOutput old s k k' i i'
+loses_here old s k k' i i' added bytes some left gave comes broke = record {
+  goals = 0;
+  below = left;
+  taken = bytes;
+  gave = gave;
+  breaks = λ g w run start a st text.
+      let t = comes g w run a st in
+      text_begins t.world.events run.world.events t.holds.events start k' (subst (λ l. BrokeOff start k' (render l)) (sym t.prints_are) (broke start (prints w.events) text));
+  until = λ g w run a st.
+      let t = comes g w run a st in
+      subst (λ l. EndsWith l run.world.typed) (append_cancel_left bytes t.world.typed a.rest (sym t.typed ∙ a.typed)) t.holds.typed;
+  since = λ g w run a st. (no_more old added i' bytes g w run a some st).typed;
+}
+
+-- what was printed has happened where a run comes to it
+pub happens : (mid : Engine) (es : List Print) (g : Game) (n : ℕ) (w : World) (run : Run) → Then es w (λ v. StandsAt mid g n v run) → Stretch es [] w (λ v. Grows v run.world)
+happens mid es g n w run t = stretched es w (λ v. Grows v run.world) (record { world = t.world; adds = t.adds; holds = stands_happened g t.holds.at.inside.lives t.holds.at.ways _ n t.world run t.holds.stands })
+
+-- the sink failed within one thing
+pub lost_one : (s : Spacer) (k k' : SinkView) (e : Print) → ((es : List Print) → StandsFor s es → BrokeOff k k' (growth es e)) → (start : SinkView) (es : List Print) → HasText s start k es → BrokeOff start k' (render (es ++ e ∷ []))
+lost_one s k k' e broke start es text = subst (BrokeOff start k') (sym (render_grows es e)) (broke_later start k k' (render es) (growth es e) text.wrote (broke es text.stands))
+
 -- ## One thing that is printed
 
 module _ (x : Goal) (e : Print) (old mid : Engine) (s s' : Spacer) (k k' : SinkView) (i : SourceView) (taken : Taken x old mid) (prints_it : (g : Game) (n : ℕ) (w : World) (run : Run) → TakesAt x mid g n w run → Then (e ∷ []) w (λ v. StandsAt mid g n v run)) where
@@ -256,14 +281,8 @@ module _ (x : Goal) (e : Print) (old mid : Engine) (s s' : Spacer) (k k' : SinkV
     writes = λ start es text. text_added s s' start k k' es e text added;
   }
 
-  pub one_lost : ((es : List Print) → StandsFor s es → BrokeOff k k' (growth es e)) → Reaches old s k i i (IsBroken Write s' k' i.left)
-  one_lost broke = reads_nothing old s k i (IsBroken Write s' k' i.left)
-      (λ g w run start left st text.
-      let t = one_then g mid.left w run (subst (λ n. StandsAt old g n w run) taken.left st) in
-      let h = t.holds in
-      let is : text_of t.world.events ≡ render (prints w.events) ++ growth (prints w.events) e = ap render t.adds.prints_are ∙ render_grows (prints w.events) e in
-      text_begins t.world.events run.world.events (stands_happened g h.at.inside.lives h.at.ways _ mid.left t.world run h.stands).events start k'
-      (subst (BrokeOff start k') (sym is) (broke_later start k k' (render (prints w.events)) (growth (prints w.events) e) text.wrote (broke (prints w.events) text.stands))))
+  pub one_lost : 0 < length old.here.goals.now → ((es : List Print) → StandsFor s es → BrokeOff k k' (growth es e)) → LosesOutput old s k k' i i
+  one_lost some broke = loses_here old s k k' i i (e ∷ []) [] some (omega (arith, taken.left)) (gave_nothing i) (λ g w run a st. happens mid (e ∷ []) g 0 w run (one_then g 0 w run st)) (lost_one s k k' e broke)
 
 pub word_prints : (x : Goal) (name bytes : List ℕ) (e : Engine) → x ≡ Text name → bytes ≡ name → (g : Game) (n : ℕ) (w : World) (run : Run) → TakesAt x e g n w run → Then (Piece bytes ∷ []) w (λ v. StandsAt e g n v run)
 word_prints x name bytes e is same g n w run st = prints_word bytes e g n w run (subst (λ y. TakesAt y e g n w run) (is ∙ ap Text (sym same)) st)
@@ -297,15 +316,10 @@ module _ (x : Goal) (term : Term) (value : Ref) (old mid new : Engine) (s s' : S
     writes = λ start es text. text_grown ps s s' start k k' es text added;
   }
 
-  pub value_lost : ((es : List Print) → StandsFor s es → BrokeOff k k' (growth_of es ps)) → Reaches old s k i i (IsBroken Write s' k' i.left)
-  value_lost broke = reads_nothing old s k i (IsBroken Write s' k' i.left)
-      (λ g w run start left st text.
-      let t = printed_then g mid.left w run (subst (λ n. StandsAt old g n w run) taken.left st) in
-      let h = t.holds in
-      let es = prints w.events in
-      let same : text_of t.world.events ≡ render es ++ growth_of es ps = ap render t.adds.prints_are ∙ render_append es (as_prints ps) in
-      text_begins t.world.events run.world.events (stands_happened g h.at.inside.lives h.at.ways _ mid.left t.world run h.stands).events start k'
-      (subst (BrokeOff start k') (sym same) (broke_later start k k' (render es) (growth_of es ps) text.wrote (broke es text.stands))))
+  pub value_lost : 0 < length old.here.goals.now → ((es : List Print) → StandsFor s es → BrokeOff k k' (growth_of es ps)) → LosesOutput old s k k' i i
+  value_lost some broke =
+      loses_here old s k k' i i (as_prints ps) [] some (omega (arith, taken.left)) (gave_nothing i) (λ g w run a st. happens new (as_prints ps) g 0 w run (printed_then g 0 w run st))
+      (λ start es text. subst (BrokeOff start k') (sym (render_append es (as_prints ps))) (broke_later start k k' (render es) (growth_of es ps) text.wrote (broke es text.stands)))
 
 pub goal_quits : (x : Goal) (old mid : Engine) (s : Spacer) (k : SinkView) (i : SourceView) → Taken x old mid → x ≡ Quit → Reaches old s k i i (HasEnded Quit-Ending mid.left s k (left_told i i))
 goal_quits x old mid s k i taken is =

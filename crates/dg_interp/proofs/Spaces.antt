@@ -1,5 +1,5 @@
 -- What a goal that prints spaces comes to.
-use Rattle.std.proofs.Common.{◌≡◌, ℕ, suc, List, [], ◌∷◌, ◌++◌, Option, Some, None, refl, sym, ap, ◌∙◌, subst}
+use Rattle.std.proofs.Common.{◌≡◌, ◌<◌, ℕ, suc, List, [], ◌∷◌, ◌++◌, Option, Some, None, refl, sym, ap, ◌∙◌, subst, arith, length}
 use Rattle.std.proofs.lemmas.List.{append-nil}
 use Rattle.std.specs.declared.vec.Vec.{Vec}
 use Rattle.std.specs.declared.alloc.Global.{Global}
@@ -34,12 +34,12 @@ use Rattle.dg_interp.specs.inside.Engine.{store_in, KeepsPlaces, steps_of, IsRea
 use Rattle.dg_terms.specs.Throwing.{number_in}
 use Rattle.dg_interp.specs.inside.Giving.{ActsAt, PrintsOne, TellsSpaces}
 use Rattle.dg_texts.specs.Printing.{Added}
-use Rattle.dg_interp.specs.inside.Running.{GoalDone, Reaches, IsBroken}
+use Rattle.dg_interp.specs.inside.Running.{GoalDone, LosesOutput}
 use Rattle.dg_interp.proofs.Takes.{store_sound, store_ready}
 use Rattle.dg_interp.proofs.Places.{inside_in, limits_on}
 use Rattle.dg_base.specs.Streams.{SourceView}
 use Rattle.dg_texts.proofs.Texts.{render_grows}
-use Rattle.dg_interp.proofs.Runs.{gave_nothing, stretched, reads_nothing, text_added, text_begins}
+use Rattle.dg_interp.proofs.Runs.{gave_nothing, stretched, text_added, happens, lost_one, loses_here}
 use Rattle.dg_interp.proofs.Giving.{with_store, steps_kept, kept_limits, written_acts}
 
 pub spaces_held : (term : Term) → terms_held (out-Goal (GapN term)) ≡ term ∷ []
@@ -128,11 +128,5 @@ module _ (x : Goal) (e : Print) (old mid new : Engine) (s s' : Spacer) (k k' : S
     writes = λ start es text. text_added s s' start k k' es e text added;
   }
 
-  pub told_lost : ((es : List Print) → StandsFor s es → BrokeOff k k' (growth es e)) → Reaches old s k i i (IsBroken Write s' k' i.left)
-  told_lost broke = reads_nothing old s k i (IsBroken Write s' k' i.left)
-      (λ g w run start left st text.
-      let t = then_one g mid.left w run (subst (λ n. StandsAt old g n w run) taken.left st) in
-      let h = t.holds in
-      let is : text_of t.world.events ≡ render (prints w.events) ++ growth (prints w.events) e = ap render t.adds.prints_are ∙ render_grows (prints w.events) e in
-      text_begins t.world.events run.world.events (stands_happened g h.at.inside.lives h.at.ways _ mid.left t.world run h.stands).events start k'
-      (subst (BrokeOff start k') (sym is) (broke_later start k k' (render (prints w.events)) (growth (prints w.events) e) text.wrote (broke (prints w.events) text.stands))))
+  pub told_lost : 0 < length old.here.goals.now → ((es : List Print) → StandsFor s es → BrokeOff k k' (growth es e)) → LosesOutput old s k k' i i
+  told_lost some broke = loses_here old s k k' i i (e ∷ []) [] some (omega (arith, taken.left)) (gave_nothing i) (λ g w run a st. happens new (e ∷ []) g 0 w run (then_one g 0 w run st)) (lost_one s k k' e broke)

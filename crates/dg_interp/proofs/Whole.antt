@@ -7,7 +7,7 @@ use Rattle.dg_base.specs.declared.run.Ending.TheVariants.{InputEnded, HeapLimit,
 use Rattle.dg_meaning.specs.OneRun.{Begins, EndsWith, Grows}
 use Rattle.dg_meaning.specs.Peaks.{Area, Heap, Trail, Aux, Keep, limit_of, limit_ending, peak}
 use Rattle.dg_meaning.proofs.OneRun.{begins_same}
-use Rattle.dg_meaning.proofs.Engines.{as_told, some_left, for_given, may_write, nothing_taken, start_shows, start_forgets}
+use Rattle.dg_meaning.proofs.Engines.{as_told, some_left, for_given, nothing_taken, start_shows, start_forgets}
 use Rattle.dg_meaning.proofs.Limits.{later_run, limit_covers}
 use Rattle.dg_meaning.proofs.Dropping.{prints_append}
 use Rattle.dg_base.specs.declared.program.CoreProgram.{CoreProgram}
@@ -19,7 +19,7 @@ use Rattle.dg_base.specs.declared.run.Limits.{Limits}
 use Rattle.dg_meaning.specs.World.{Game, World, Event, Print, prints}
 use Rattle.dg_meaning.specs.Render.{render}
 use Rattle.dg_meaning.specs.Transcript.{Run, run, start_world, text_of, line_of, no_memory_line, input_fault_line, closing, closed, transcript}
-use Rattle.dg_meaning.specs.Shows.{IsLeft, HasGiven, taken_by, LeftBetween, ShowsLimit, ShowsNoMemory, ShowsInputFault, whole, without_memory, without_input}
+use Rattle.dg_meaning.specs.Shows.{IsLeft, HasGiven, taken_by, LeftBetween, Shows, ShowsLimit, ShowsNoMemory, ShowsInputFault, in_part, whole, without_memory, without_input}
 use Rattle.dg_meaning.proofs.Search.{run_within}
 use Rattle.dg_spacing.specs.declared.spacer.Spacer.{Spacer}
 use Rattle.dg_interp.specs.declared.engine.Engine.{Engine}
@@ -31,7 +31,7 @@ use Rattle.dg_outside.specs.declared.lack.Lack.TheVariants as lack
 use Rattle.dg_outside.specs.Outside.{LacksAtStart}
 use Rattle.dg_interp.specs.inside.Engine.{limit_in, Starts}
 use Rattle.dg_base.specs.Streams.{SourceView}
-use Rattle.dg_interp.specs.inside.Running.{limit_of as ending_of_lack, Gave, LeftBehind, Awaits, Stretch, HasText, Reaches, HasEnded, MeetsLimit, IsNoFurther, Ended, HasPart, IsLimited, TakesMore, LosesInput, IsBroken, Broken}
+use Rattle.dg_interp.specs.inside.Running.{limit_of as ending_of_lack, Gave, LeftBehind, Awaits, Stretch, HasText, Reaches, HasEnded, MeetsLimit, IsNoFurther, Ended, HasPart, IsLimited, TakesMore, LosesInput, LosesOutput, Broken}
 use Rattle.dg_meaning.specs.Engines.{game, left_told, ForTyped, HasShown, HasLostInput, HasLostOutput, HasLostMemory}
 use Rattle.dg_base.proofs.WrittenLemmas.{wrote_nothing, wrote_on, broke_first, broke_later}
 
@@ -162,10 +162,10 @@ module _ (program : CoreProgram) (limits : Limits) (e : Engine) (dice : List ℕ
         wrote = wrote_on k k' k'' (text_of part_is.part) (ending_line (prints part_is.part) (line_of (limit_ending area))) text_is.wrote (close (prints part_is.part) text_is.stands);
       }
 
-      limit_lost : (k'' : SinkView) → ((es : List Print) → StandsFor s' es → BrokeOff k' k'' (ending_line es (line_of (limit_ending area)))) → HasLostOutput g typed limits k k''
+      limit_lost : (k'' : SinkView) → ((es : List Print) → StandsFor s' es → BrokeOff k' k'' (ending_line es (line_of (limit_ending area)))) → HasLostOutput g typed limits (left_told i i') k k''
       limit_lost k'' close = record {
         bytes = closed part_is.part (line_of (limit_ending area));
-        may_write = whole (record { ending = limit_ending area; goals = limits.steps - left }) None (inr (limit_shows None tt));
+        may_write = whole (record { ending = limit_ending area; goals = limits.steps - left }) (inr (limit_shows (left_told i i') (as_told i i' a.rest a.left)));
         broke = broke_later k k' k'' (text_of part_is.part) (ending_line (prints part_is.part) (line_of (limit_ending area))) text_is.wrote (close (prints part_is.part) text_is.stands);
       }
 
@@ -182,38 +182,40 @@ module _ (program : CoreProgram) (limits : Limits) (e : Engine) (dice : List ℕ
       closes : transcript g typed limits.steps ≡ render (prints x.world.events) ++ ending_line (prints x.world.events) (line_of ending)
       closes = ap (λ (y : Run). closed y.world.events (line_of y.ending)) x.is
 
-      run_shown : (k'' : SinkView) → ((es : _) → StandsFor s' es → Wrote k' k'' (ending_line es (line_of ending))) → HasShown g typed limits (record { ending = ending; goals = limits.steps - left }) (left_told i i') k k''
-      run_shown k'' close =
+      run_shows : Shows g typed limits (transcript g typed limits.steps) (record { ending = ending; goals = limits.steps - left }) (left_told i i')
+      run_shows =
           let within = run_left in
           let same : r.left ≡ left = ap (λ (y : Run). y.left) x.is in
-          record {
-            bytes = transcript g typed limits.steps;
-            shows = inl
-                (record {
-                  text = refl;
-                  ending = sym (ap (λ (y : Run). y.ending) x.is);
-                  goals = omega (arith, same, within);
-                  left_is = subst (IsLeft (left_told i i')) (sym (ap (λ (y : Run). y.world.typed) x.is)) x.typed;
-                });
-            wrote = subst (Wrote k k'') (sym closes) (wrote_on k k' k'' (render (prints x.world.events)) (ending_line (prints x.world.events) (line_of ending)) x.text.wrote (close (prints x.world.events) x.text.stands));
-          }
+          inl (record {
+            text = refl;
+            ending = sym (ap (λ (y : Run). y.ending) x.is);
+            goals = omega (arith, same, within);
+            left_is = subst (IsLeft (left_told i i')) (sym (ap (λ (y : Run). y.world.typed) x.is)) x.typed;
+          })
 
-      run_lost : (k'' : SinkView) → ((es : _) → StandsFor s' es → BrokeOff k' k'' (ending_line es (line_of ending))) → HasLostOutput g typed limits k k''
+      run_shown : (k'' : SinkView) → ((es : _) → StandsFor s' es → Wrote k' k'' (ending_line es (line_of ending))) → HasShown g typed limits (record { ending = ending; goals = limits.steps - left }) (left_told i i') k k''
+      run_shown k'' close = record {
+        bytes = transcript g typed limits.steps;
+        shows = run_shows;
+        wrote = subst (Wrote k k'') (sym closes) (wrote_on k k' k'' (render (prints x.world.events)) (ending_line (prints x.world.events) (line_of ending)) x.text.wrote (close (prints x.world.events) x.text.stands));
+      }
+
+      run_lost : (k'' : SinkView) → ((es : _) → StandsFor s' es → BrokeOff k' k'' (ending_line es (line_of ending))) → HasLostOutput g typed limits (left_told i i') k k''
       run_lost k'' close = record {
         bytes = transcript g typed limits.steps;
-        may_write = may_write g typed limits;
+        may_write = whole (record { ending = ending; goals = limits.steps - left }) run_shows;
         broke = subst (BrokeOff k k'') (sym closes) (broke_later k k' k'' (render (prints x.world.events)) (ending_line (prints x.world.events) (line_of ending)) x.text.wrote (close (prints x.world.events) x.text.stands));
       }
 
-    shows_part : (told : Option (List ℕ)) (x : HasPart s' k' told (start_world g typed) r k) → ShowsNoMemory g typed limits (closed x.moment.events no_memory_line) told
-    shows_part told x = record {
+    shows_part : (told : Option (List ℕ)) (x : HasPart s' k' i'.left (start_world g typed) r k) → IsLeft told x.moment.typed → ShowsNoMemory g typed limits (closed x.moment.events no_memory_line) told
+    shows_part told x left = record {
       part = x.moment.events;
       text = refl;
       until = x.until.events;
       input =
           record {
             rest = x.moment.typed;
-            left_is = x.left;
+            left_is = left;
             since = subst (λ (w : World). EndsWith w.typed x.moment.typed) (sym (nothing_taken g typed)) x.taken;
             until = x.until.typed;
           };
@@ -261,7 +263,7 @@ module _ (program : CoreProgram) (limits : Limits) (e : Engine) (dice : List ℕ
 
   -- what is lost
   abbrev pub Lost : SinkView → List ℕ → Type 0
-  Lost k'' typed = HasLostOutput g typed limits k k''
+  Lost k'' typed = HasLostOutput g typed limits (left_told i i') k k''
 
   pub closing_lost : (k'' : SinkView) (ending : Ending) (left : ℕ) → Ended ending left e s s' k k' i i' → ((es : List Print) → StandsFor s' es → BrokeOff k' k'' (ending_line es (line_of ending))) → ForTyped i.left (Lost k'')
   closing_lost k'' HeapLimit left m close = met Heap left (Lost k'') m (λ typed a. limit_lost typed Heap left m (starts.limits_are Heap) a k'' close)
@@ -270,13 +272,27 @@ module _ (program : CoreProgram) (limits : Limits) (e : Engine) (dice : List ℕ
   closing_lost k'' KeepLimit left m close = met Keep left (Lost k'') m (λ typed a. limit_lost typed Keep left m (starts.limits_are Keep) a k'' close)
   closing_lost k'' ending left h close = came (HasEnded ending left s' k' (left_told i i')) (Lost k'') h (λ typed a. run_lost typed ending left h a k'' close)
 
-  pub text_lost : Reaches e s k i i' (IsBroken Write s' k' i'.left) → ForTyped i.left (Lost k')
+  pub text_lost : LosesOutput e s k k' i i' → ForTyped i.left (Lost k')
   text_lost h =
-      came (IsBroken Write s' k' i'.left) (Lost k') h
-      (λ typed a. record {
-        bytes = transcript g typed limits.steps;
-        may_write = may_write g typed limits;
-        broke = broke_first k k' (text_of (r typed).world.events) (closing (r typed).world.events (line_of (r typed).ending)) (reached typed (IsBroken Write s' k' i'.left) h a);
+      for_taken (Lost k') h.taken false h.gave
+      (λ typed a.
+      let one : suc h.goals - 1 ≡ h.goals = omega arith in
+      record {
+        bytes = text_of (run g typed (suc h.goals)).world.events;
+        may_write = in_part
+            (record {
+              goals = suc h.goals;
+              within = omega (arith, h.below, starts.left);
+              text = refl;
+              input =
+                  record {
+                    rest = a.rest;
+                    left_is = as_told i i' a.rest a.left;
+                    since = subst (λ n. EndsWith (run g typed n).world.typed a.rest) (sym one) (h.since g (start_world g typed) (run g typed h.goals) a (starts.stands g h.goals typed refl refl));
+                    until = h.until g (start_world g typed) (run g typed (suc h.goals)) a (starts.stands g (suc h.goals) typed refl refl);
+                  };
+            });
+        broke = h.breaks g (start_world g typed) (run g typed (suc h.goals)) k a (starts.stands g (suc h.goals) typed refl refl) no_text;
       })
 
   pub broken_later : (fault : RunFault) → Broken fault e s s' k k' i i' → i.faults ≤ i'.faults
@@ -311,13 +327,13 @@ module _ (program : CoreProgram) (limits : Limits) (e : Engine) (dice : List ℕ
     reads_more (inl over) = inl over
     reads_more (inr more) = inr (omega (arith, more.0, length-append h.taken h.more), omega (arith, more.1, taken_before))
 
-    input_shows : ShowsInputFault g typed limits (closed (run g typed h.goals).world.events input_fault_line) i'.left
-    input_shows = record {
+    input_shows : (told : Option (List ℕ)) → IsLeft told a.rest → ShowsInputFault g typed limits (closed (run g typed h.goals).world.events input_fault_line) told
+    input_shows told is = record {
       goals = h.goals;
       below = omega (arith, h.below, starts.left);
       text = refl;
       given = length (h.taken ++ h.more);
-      is_given = has_given i'.left a.left;
+      is_given = has_given told is;
       goes_on = stretch.holds.ending;
       no_more = omega (arith, taken_before, length-append h.taken h.more);
       reads = reads_more more_taken;
@@ -334,7 +350,7 @@ module _ (program : CoreProgram) (limits : Limits) (e : Engine) (dice : List ℕ
       let text = input_text h typed a in
       record {
         bytes = closed events input_fault_line;
-        shows = input_shows h typed a;
+        shows = input_shows h typed a i'.left a.left;
         wrote = wrote_on k k' k'' (text_of events) (ending_line (prints events) input_fault_line) text.wrote (close (prints events) text.stands);
       })
 
@@ -346,29 +362,29 @@ module _ (program : CoreProgram) (limits : Limits) (e : Engine) (dice : List ℕ
       let text = input_text h typed a in
       record {
         bytes = closed events input_fault_line;
-        may_write = without_input i'.left (input_shows h typed a);
+        may_write = without_input (input_shows h typed a (left_told i i') (as_told i i' a.rest a.left));
         broke = broke_later k k' k'' (text_of events) (ending_line (prints events) input_fault_line) text.wrote (close (prints events) text.stands);
       })
 
-  pub memory_shown : (k'' : SinkView) → Reaches e s k i i' (IsBroken OutOfMemory s' k' i'.left) → ((es : _) → StandsFor s' es → Wrote k' k'' (ending_line es no_memory_line)) → ForTyped i.left (λ typed. HasLostMemory g typed limits i'.left k k'')
+  pub memory_shown : (k'' : SinkView) → Reaches e s k i i' (HasPart s' k' i'.left) → ((es : _) → StandsFor s' es → Wrote k' k'' (ending_line es no_memory_line)) → ForTyped i.left (λ typed. HasLostMemory g typed limits i'.left k k'')
   memory_shown k'' h close =
-      came (IsBroken OutOfMemory s' k' i'.left) (λ typed. HasLostMemory g typed limits i'.left k k'') h
+      came (HasPart s' k' i'.left) (λ typed. HasLostMemory g typed limits i'.left k k'') h
       (λ typed a.
-      let x = reached typed (IsBroken OutOfMemory s' k' i'.left) h a in
+      let x = reached typed (HasPart s' k' i'.left) h a in
       record {
         bytes = closed x.moment.events no_memory_line;
-        shows = shows_part typed i'.left x;
+        shows = shows_part typed i'.left x x.left;
         wrote = wrote_on k k' k'' (text_of x.moment.events) (ending_line (prints x.moment.events) no_memory_line) x.text.wrote (close (prints x.moment.events) x.text.stands);
       })
 
-  pub memory_closing_lost : (k'' : SinkView) → Reaches e s k i i' (IsBroken OutOfMemory s' k' i'.left) → ((es : _) → StandsFor s' es → BrokeOff k' k'' (ending_line es no_memory_line)) → ForTyped i.left (Lost k'')
+  pub memory_closing_lost : (k'' : SinkView) → Reaches e s k i i' (HasPart s' k' i'.left) → ((es : _) → StandsFor s' es → BrokeOff k' k'' (ending_line es no_memory_line)) → ForTyped i.left (Lost k'')
   memory_closing_lost k'' h close =
-      came (IsBroken OutOfMemory s' k' i'.left) (Lost k'') h
+      came (HasPart s' k' i'.left) (Lost k'') h
       (λ typed a.
-      let x = reached typed (IsBroken OutOfMemory s' k' i'.left) h a in
+      let x = reached typed (HasPart s' k' i'.left) h a in
       record {
         bytes = closed x.moment.events no_memory_line;
-        may_write = without_memory i'.left (shows_part typed i'.left x);
+        may_write = without_memory (shows_part typed (left_told i i') x (as_told i i' x.moment.typed x.left));
         broke = broke_later k k' k'' (text_of x.moment.events) (ending_line (prints x.moment.events) no_memory_line) x.text.wrote (close (prints x.moment.events) x.text.stands);
       })
 
@@ -392,18 +408,18 @@ module _ (program : CoreProgram) (limits : Limits) (dice typed : List ℕ) (s : 
   start_shown lack.Trail ending told left over e close = absurd over
   start_shown lack.Aux ending told left over e close = absurd over
 
-  pub start_lost : (l : Lack) (ending : Ending) → LacksAtStart program limits.keep l → Ok ending ≡ ending_of_lack l → ((es : List Print) → StandsFor s es → BrokeOff k k' (ending_line es (line_of ending))) → HasLostOutput the_game typed limits k k'
-  start_lost lack.Keep ending over e close =
+  pub start_lost : (l : Lack) (ending : Ending) (told : Option (List ℕ)) → IsLeft told typed → LacksAtStart program limits.keep l → Ok ending ≡ ending_of_lack l → ((es : List Print) → StandsFor s es → BrokeOff k k' (ending_line es (line_of ending))) → HasLostOutput the_game typed limits told k k'
+  start_lost lack.Keep ending told left over e close =
       let same : KeepLimit ≡ ending = cc in
       record {
         bytes = closed [] (line_of KeepLimit);
-        may_write = whole (record { ending = KeepLimit; goals = 0 }) None (inr (start_shows program limits dice typed None tt over));
+        may_write = whole (record { ending = KeepLimit; goals = 0 }) (inr (start_shows program limits dice typed told left over));
         broke = broke_later k k k' (text_of []) (ending_line [] (line_of KeepLimit)) nothing_written (subst (λ x. BrokeOff k k' (ending_line [] (line_of x))) (sym same) (close [] new));
       }
-  start_lost lack.OutOfMemory ending over e close = absurd (cc)
-  start_lost lack.Heap ending over e close = absurd over
-  start_lost lack.Trail ending over e close = absurd over
-  start_lost lack.Aux ending over e close = absurd over
+  start_lost lack.OutOfMemory ending told left over e close = absurd (cc)
+  start_lost lack.Heap ending told left over e close = absurd over
+  start_lost lack.Trail ending told left over e close = absurd over
+  start_lost lack.Aux ending told left over e close = absurd over
 
   pub start_memory : (told : Option (List ℕ)) → IsLeft told typed → ((es : List Print) → StandsFor s es → Wrote k k' (ending_line es no_memory_line)) → HasLostMemory the_game typed limits told k k'
   start_memory told is close = record {
@@ -412,10 +428,10 @@ module _ (program : CoreProgram) (limits : Limits) (dice typed : List ℕ) (s : 
     wrote = wrote_on k k k' (text_of []) (ending_line [] no_memory_line) nothing_written (close [] new);
   }
 
-  pub start_memory_lost : ((es : List Print) → StandsFor s es → BrokeOff k k' (ending_line es no_memory_line)) → HasLostOutput the_game typed limits k k'
-  start_memory_lost close = record {
+  pub start_memory_lost : (told : Option (List ℕ)) → IsLeft told typed → ((es : List Print) → StandsFor s es → BrokeOff k k' (ending_line es no_memory_line)) → HasLostOutput the_game typed limits told k k'
+  start_memory_lost told is close = record {
     bytes = closed [] no_memory_line;
-    may_write = without_memory None (start_forgets program limits dice typed None tt);
+    may_write = without_memory (start_forgets program limits dice typed told is);
     broke = broke_later k k k' (text_of []) (ending_line [] no_memory_line) nothing_written (close [] new);
   }
 

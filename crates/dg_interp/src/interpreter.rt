@@ -4,6 +4,7 @@ ghost use Rattle.dg_base.specs.Causes.{Rose};
 ghost use Rattle.dg_meaning.specs.Transcript.{line_of};
 ghost use Rattle.dg_meaning.specs.Shows.{IsLeft};
 ghost use Rattle.dg_base.specs.Sound.{IsSound};
+ghost use Rattle.dg_base.specs.Streams.{SourceView};
 ghost use Rattle.dg_interp.specs.inside.Engine.{Starts};
 ghost use Rattle.dg_outside.specs.Outside.{LacksAtStart};
 ghost use Rattle.dg_meaning.specs.Engines.{game, left_told, ForTyped, HasShown, HasBrokenOff};
@@ -46,7 +47,8 @@ fn write_run<S: Source, K: Sink>(
         (λ typed. HasShown (game program.now dice.now) typed limits.now outcome (left_told (S.view source.old) (S.view source.new))
         (K.view sink.old) (K.view sink.new))) }
     ensures err { IfErr result (λ fault. ForTyped (S.view source.old).left
-        (λ typed. HasBrokenOff fault (game program.now dice.now) typed limits.now (S.view source.new).left (K.view sink.old) (K.view sink.new))) }
+        (λ typed. HasBrokenOff fault (game program.now dice.now) typed limits.now (S.view source.old) (S.view source.new)
+        (K.view sink.old) (K.view sink.new))) }
     ensures read { IsErrOf result RunFault.Read → Rose (S.view source.old).faults (S.view source.new).faults }
     ensures later { (S.view source.old).faults ≤ (S.view source.new).faults }
 {
@@ -82,8 +84,8 @@ fn write_lack<K: Sink>(
     requires lacks { LacksAtStart program.now limits.now.keep lack }
     ensures shows { IfOk result (λ outcome. (typed : List ℕ) → (told : Option (List ℕ)) → IsLeft told typed →
         HasShown (game program.now dice.now) typed limits.now outcome told (K.view sink.old) (K.view sink.new)) }
-    ensures err { IfErr result (λ fault. (typed : List ℕ) → (told : Option (List ℕ)) → IsLeft told typed →
-        HasBrokenOff fault (game program.now dice.now) typed limits.now told (K.view sink.old) (K.view sink.new)) }
+    ensures err { IfErr result (λ fault. (typed : List ℕ) → (i : SourceView) → IsLeft i.left typed →
+        HasBrokenOff fault (game program.now dice.now) typed limits.now i i (K.view sink.old) (K.view sink.new)) }
     ensures reads { IsErrOf result RunFault.Read → ⊥ }
 {
     let mut spacer = Spacer::new();
@@ -114,7 +116,8 @@ pub fn interpret<S: Source, K: Sink>(
         (λ typed. HasShown (game program.now dice.now) typed limits.now outcome (left_told (S.view source.old) (S.view source.new))
         (K.view sink.old) (K.view sink.new))) }
     ensures err { IfErr result (λ fault. ForTyped (S.view source.old).left
-        (λ typed. HasBrokenOff fault (game program.now dice.now) typed limits.now (S.view source.new).left (K.view sink.old) (K.view sink.new))) }
+        (λ typed. HasBrokenOff fault (game program.now dice.now) typed limits.now (S.view source.old) (S.view source.new)
+        (K.view sink.old) (K.view sink.new))) }
     ensures read { IsErrOf result RunFault.Read → Rose (S.view source.old).faults (S.view source.new).faults }
     ensures later { (S.view source.old).faults ≤ (S.view source.new).faults }
 {

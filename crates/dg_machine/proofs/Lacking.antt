@@ -1,5 +1,5 @@
 -- What a run shows of whose program more starts kept than may be.
-use Rattle.std.proofs.Common.{◌≡◌, ◌<◌, ℕ, inr, List, [], None, refl, sym, subst}
+use Rattle.std.proofs.Common.{◌≡◌, ◌<◌, ℕ, inr, List, [], refl, sym, subst}
 use Rattle.dg_base.specs.Streams.{SourceView}
 use Rattle.dg_base.specs.Written.{SinkView, Wrote, BrokeOff}
 use Rattle.dg_base.specs.declared.program.CoreProgram.{CoreProgram}
@@ -27,11 +27,11 @@ module _ (p : CoreProgram) (dice : List ℕ) (l : Limits) (over : l.keep < kept_
         wrote = subst (Wrote k k') (sym line_alone) wrote;
       })
 
-  pub lack_lost : BrokeOff k k' (line_of KeepLimit) → ForTyped i.left (λ typed. HasLostOutput (game p dice) typed l k k')
+  pub lack_lost : BrokeOff k k' (line_of KeepLimit) → ForTyped i.left (λ typed. HasLostOutput (game p dice) typed l (left_told i i) k k')
   lack_lost broke =
-      for_typed i.left (λ typed. HasLostOutput (game p dice) typed l k k') (λ typed is.
+      for_typed i.left (λ typed. HasLostOutput (game p dice) typed l (left_told i i) k k') (λ typed is.
       record {
         bytes = closed [] (line_of KeepLimit);
-        may_write = whole (record { ending = KeepLimit; goals = 0 }) None (inr (start_shows p l dice typed None tt over));
+        may_write = whole (record { ending = KeepLimit; goals = 0 }) (inr (start_shows p l dice typed (left_told i i) (as_told i i typed is) over));
         broke = subst (BrokeOff k k') (sym line_alone) broke;
       })

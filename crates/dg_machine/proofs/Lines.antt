@@ -1,7 +1,6 @@
 -- What a goal that reads a line comes to.
-use Rattle.std.proofs.Common.{◌≡◌, ℕ, zero, suc, ◌+◌, ◌<◌, ◌≤◌, ◌≢◌, List, [], ◌∷◌, ◌++◌, Bool, true, false, Option, Some, None, refl, sym, ap, ◌∙◌, subst, arith, length, get_or, map, nat_lt, inl, inr, Result, Ok, Err, IfOk, IfErr, OnErr}
+use Rattle.std.proofs.Common.{◌≡◌, ℕ, zero, suc, ◌+◌, ◌<◌, ◌≤◌, ◌≢◌, List, [], ◌∷◌, ◌++◌, Bool, true, false, Option, Some, None, refl, sym, ap, ◌∙◌, subst, arith, length, get_or, map, inr, Result, Ok, Err, IfOk, IfErr, OnErr}
 use Rattle.std.specs.Prelude.{not, encode_utf8_all, if◌then◌else◌}
-use Rattle.std.specs.Borrow.{Bor}
 use Rattle.std.specs.Io.KnownBytes.{IsAtEnd, Keeps}
 use Rattle.std.proofs.lemmas.Bool.{lt-ltb, le-ltb}
 use Rattle.dg_base.specs.Causes.{Rose}
@@ -18,10 +17,10 @@ use Rattle.dg_base.specs.declared.run.Fault.TheVariants.{Write}
 use Rattle.dg_base.specs.declared.run.Limits.{Limits}
 use Rattle.dg_meaning.specs.Cells.{cells}
 use Rattle.dg_meaning.specs.Copies.{copy_cells}
-use Rattle.dg_meaning.specs.Engines.{told_behind, left_told}
+use Rattle.dg_meaning.specs.Engines.{told_behind}
 use Rattle.dg_meaning.proofs.Engines.{as_told}
 use Rattle.dg_meaning.specs.Moves.{more_heap, gives, takes_line, printed, spelled}
-use Rattle.dg_meaning.specs.Path.{Act, Registers}
+use Rattle.dg_meaning.specs.Path.{Registers}
 use Rattle.dg_meaning.specs.Render.{render}
 use Rattle.dg_meaning.specs.Shows.{IsLeft}
 use Rattle.dg_meaning.specs.Values.{Value, Nil, leaf, value_of}
@@ -36,14 +35,12 @@ use Rattle.dg_unify.specs.declared.bindings.Ref.{Ref}
 use Rattle.dg_mid.specs.declared.code.Code.{Code}
 use Rattle.dg_mid.specs.declared.code.Op.{Op}
 use Rattle.dg_mid.specs.declared.code.Op.TheVariants as op
-use Rattle.dg_mid.specs.declared.code.Action.{Action}
 use Rattle.dg_mid.specs.declared.code.Action.TheVariants as action
-use Rattle.dg_mid.specs.Actions.{terms_of, act_at, registers_of, world_of, said_by}
-use Rattle.dg_mid.specs.Heights.{MidOrdered}
+use Rattle.dg_mid.specs.Actions.{act_at, registers_of, world_of, said_by}
 use Rattle.dg_mid.specs.Left.{overfills, reads_in, reads, left_behind}
 use Rattle.dg_mid.specs.Reads.{outside_of}
 use Rattle.dg_mid.specs.State.{Mid, Status, vars_of, Runs as RunsOf, Enters as EntersOf, Resumes as ResumesOf, Fails as FailsOf, Ended as EndedOf}
-use Rattle.dg_mid.specs.Step.{Setting, setting, charged, more, done, does, runs, step, said, said_in, said_to, followed, at_goal}
+use Rattle.dg_mid.specs.Step.{Setting, setting, charged, more, done, does, runs, step, said, said_in, said_to, followed}
 use Rattle.dg_outside.specs.declared.outside.Outside.{Outside}
 use Rattle.dg_spacing.specs.declared.spacer.Spacer.{Spacer}
 use Rattle.dg_machine.specs.declared.memory.Memory.{Memory}
@@ -52,10 +49,10 @@ use Rattle.dg_machine.specs.declared.now.Now.TheVariants.{Runs, Enters, Resumes,
 use Rattle.dg_machine.specs.declared.tables.Tables.{Tables}
 use Rattle.dg_machine.specs.Built.{OpsBuilt}
 use Rattle.dg_machine.specs.Layout.{Holds, HasPut, Lacks, Roomy}
-use Rattle.dg_machine.specs.inside.Reading.{LeftBehind, Gave, line_behind}
+use Rattle.dg_machine.specs.inside.Reading.{line_behind}
 use Rattle.dg_machine.specs.Refs.{RefsAt}
-use Rattle.dg_machine.specs.inside.Running.{HasText, GoalDone, ReadsGoal, LosesLine, LosesText, BreaksGoal}
-use Rattle.dg_machine.specs.Standing.{CodeIs, Stands, Around, HasOutside}
+use Rattle.dg_machine.specs.inside.Running.{HasText, ReadsGoal, LosesLine, LosesText, BreaksGoal}
+use Rattle.dg_machine.specs.Standing.{CodeIs, Stands, HasOutside}
 use Rattle.dg_machine.specs.Tables.{IsOf}
 use Rattle.dg_machine.specs.Wording.{Gives}
 use Rattle.dg_machine.proofs.Compares.{act_led}
@@ -166,6 +163,21 @@ module _ (tb : Tables) (code : Code) (old : Memory) (ops : List Op) (t : Term) (
       text = λ start ps text. text;
     }
 
+    -- the sink failed at its newline
+    newline_lost : (s : Spacer) (k k' : SinkView) (i i' : SourceView) (spelling : List ℕ) → Took i.left i'.left (IsLine spelling) → i.faults ≤ i'.faults → ((start : SinkView) (ps : List Print) → HasText s start k ps → BrokeOff start k' (render ps)) → LosesText tb code old ops s k k' i i'
+    newline_lost s k k' i i' spelling took later broke = record {
+      taken = took.taken;
+      left = took.gave;
+      later = later;
+      loses = λ bytes is g is_of l m at held typed start ps text.
+          let line : IsLine spelling m.outside.typed bytes = subst (λ b. IsLine spelling b bytes) (sym typed) (took.holds bytes is) in
+          (inr (broke start ps text), ap (λ b. if b then behind_first m.outside.typed else m.outside.typed) (will_read g is_of l m at held) ∙ line.behind);
+    }
+
+    pub line_breaks : (s s' : Spacer) (k k' : SinkView) (i i' : SourceView) (spelling : List ℕ) (r : Result Now Fault) → Took i.left i'.left (IsLine spelling) → i.faults ≤ i'.faults → IfErr r (λ fault. (fault ≡ Write) × ((start : SinkView) (ps : List Print) → HasText s start k ps → BrokeOff start k' (render ps))) → IfErr r (λ fault. BreaksGoal fault tb code old ops s s' k k' i i')
+    line_breaks s s' k k' i i' spelling (Ok now) took later h = tt
+    line_breaks s s' k k' i i' spelling (Err fault) took later h = subst (λ f. BreaksGoal f tb code old ops s s' k k' i i') (sym h.0) (newline_lost s k k' i i' spelling took later h.1)
+
     -- a line is read
     module _ (new : Memory) (now : Now) (into : Ref) (spelling : List ℕ) (arg : (vs : List Value) → RefsAt (meaning_of mid.arena) mid.args.items vs → (meaning_of mid.arena).value into ≡ Some (get_or vs 0 (leaf Nil)))
         (given : (letters : List ℕ) → IsShort letters → spelling ≡ encode_utf8_all letters → Gives code (spelled_list tb.words.items (spellings_of letters)) mid into rest new now) where
@@ -200,14 +212,6 @@ module _ (tb : Tables) (code : Code) (old : Memory) (ops : List Op) (t : Term) (
               ap (λ b. if b then behind_first m.outside.typed else m.outside.typed) (will_read g is_of l m at held) ∙ line.behind,
             );
       }
-
--- the sink failed at its newline
-pub newline_lost : (tb : Tables) (code : Code) (old : Memory) (ops : List Op) (s : Spacer) (k k' : SinkView) → ((start : SinkView) (ps : List Print) → HasText s start k ps → BrokeOff start k' (render ps)) → LosesText tb code old ops s k k'
-newline_lost tb code old ops s k k' broke g is_of l m at held start ps text = inr (broke start ps text)
-
-pub line_breaks : (tb : Tables) (code : Code) (old : Memory) (ops : List Op) (s s' : Spacer) (k k' : SinkView) (i i' : SourceView) (r : Result Now Fault) → i.faults ≤ i'.faults → IfErr r (λ fault. (fault ≡ Write) × ((start : SinkView) (ps : List Print) → HasText s start k ps → BrokeOff start k' (render ps))) → IfErr r (λ fault. BreaksGoal fault tb code old ops s s' k k' i i')
-line_breaks tb code old ops s s' k k' i i' (Ok now) later h = tt
-line_breaks tb code old ops s s' k k' i i' (Err fault) later h = subst (λ f. BreaksGoal f tb code old ops s s' k k' i i') (sym h.0) (newline_lost tb code old ops s k k' h.1, later)
 
 -- what holds of what was given holds of what comes of it
 pub line_same : (P : Now → Type 0) (Q : Type 0) (now : Now) (r : Result Now Fault) → IfOk r (λ after. after ≡ now) → IfOk r (λ after. Q) → (Q → P now) → IfOk r P

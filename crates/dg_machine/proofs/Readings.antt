@@ -1,5 +1,5 @@
 -- What is taken of typed bytes.
-use Rattle.std.proofs.Common.{◌≡◌, ℕ, List, [], ◌∷◌, ◌++◌, Bool, true, false, Option, Some, None, refl, sym, ap, ◌∙◌, subst, arith, length, append_assoc, length-append}
+use Rattle.std.proofs.Common.{◌≡◌, ℕ, List, [], ◌∷◌, ◌++◌, Bool, true, false, Option, Some, None, refl, sym, ap, ◌∙◌, subst, arith, inl, length, append_assoc, length-append}
 use Rattle.std.specs.Prelude.{if◌then◌else◌}
 use Rattle.dg_base.specs.Streams.{SourceView}
 use Rattle.dg_base.specs.Written.{SinkView}
@@ -20,7 +20,7 @@ use Rattle.dg_machine.specs.declared.now.Now.{Now}
 use Rattle.dg_machine.specs.declared.memory.Memory.{Memory}
 use Rattle.dg_machine.specs.declared.tables.Tables.{Tables}
 use Rattle.dg_machine.specs.inside.Reading.{IsEnd, LeftBehind, Gave, ReadsNone, NoLine}
-use Rattle.dg_machine.specs.inside.Running.{DoesGoal, ReadsGoal}
+use Rattle.dg_machine.specs.inside.Running.{DoesGoal, LosesGoal, LosesText, ReadsGoal}
 
 -- ## Steps that read nothing
 
@@ -59,6 +59,14 @@ unfolding gave_nothing
 goes_unread t code old out ops new out' after s s' k k' i none does = record {
   gave = gave_nothing i after;
   does = λ rest h g is_of l m o e at held w typed. (does g is_of l m o e at held w, left_as (setting g code l) (RunsOf m) m.outside.typed (line_reads (setting g code l) m m.ops (subst NoLine (sym at.0) none)) ∙ typed);
+}
+
+pub loses_unread : (t : Tables) (code : Code) (old : Memory) (ops : List Op) (s : Spacer) (k k' : SinkView) (i : SourceView) → NoLine ops → LosesGoal t code old ops s k k' → LosesText t code old ops s k k' i i
+loses_unread t code old ops s k k' i none loses = record {
+  taken = [];
+  left = λ rest h. h;
+  later = omega arith;
+  loses = λ rest h g is_of l m at held typed start ps text. (inl (loses g is_of l m at held start ps text), left_as (setting g code l) (RunsOf m) m.outside.typed (line_reads (setting g code l) m m.ops (subst NoLine (sym at.0) none)) ∙ typed);
 }
 
 -- bytes that may be left

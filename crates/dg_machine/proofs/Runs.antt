@@ -11,11 +11,11 @@ use Rattle.dg_meaning.specs.World.{Game, World, Print, prints}
 use Rattle.dg_meaning.specs.Render.{render, render_from, nothing_met, met_from}
 use Rattle.dg_texts.proofs.Texts.{render_append}
 use Rattle.dg_meaning.specs.Words.{behind_first}
-use Rattle.std.specs.Prelude.{if◌then◌else◌}
+use Rattle.std.specs.Prelude.{if◌then◌else◌, ◌⊎◌}
 use Rattle.dg_meaning.specs.Growth.{ending_line}
-use Rattle.dg_meaning.specs.Transcript.{Run, run, transcript, text_of, closing, line_of, input_fault_line}
-use Rattle.dg_meaning.specs.Shows.{IsLeft, Shows, ShowsInputFault, HasGiven, whole, without_input}
-use Rattle.dg_meaning.specs.OneRun.{Grows}
+use Rattle.dg_meaning.specs.Transcript.{Run, run, text_of, line_of, input_fault_line}
+use Rattle.dg_meaning.specs.Shows.{IsLeft, Shows, ShowsInputFault, HasGiven, in_part, whole, without_input}
+use Rattle.dg_meaning.specs.OneRun.{EndsWith, Grows}
 use Rattle.dg_meaning.proofs.Keeps.{stands_happened}
 use Rattle.dg_meaning.proofs.Dropping.{prints_append}
 use Rattle.std.specs.Borrow.{Bor}
@@ -31,9 +31,9 @@ use Rattle.dg_mid.specs.Reads.{At, RunsAt}
 use Rattle.dg_mid.specs.Left.{reads, left_behind}
 use Rattle.dg_mid.specs.Runs.{after, left_after, closed_text}
 use Rattle.dg_mid.proofs.Whole.{is_at}
-use Rattle.dg_mid.proofs.Shown.{shows_all, shows_faults}
+use Rattle.dg_mid.proofs.Shown.{shows_all, shows_faults, until_left}
 use Rattle.dg_mid.proofs.Outsides.{Leads}
-use Rattle.dg_mid.proofs.Typed.{typed_stays}
+use Rattle.dg_mid.proofs.Typed.{typed_stays, left_at}
 use Rattle.dg_mid.proofs.Heights.{all_ordered}
 use Rattle.dg_spacing.specs.declared.spacer.Spacer.{Spacer}
 use Rattle.dg_spacing.specs.Spacer.{StandsFor}
@@ -48,11 +48,10 @@ use Rattle.dg_machine.proofs.Seeks.{all_seek}
 use Rattle.dg_machine.specs.Built.{IsBuilt}
 use Rattle.dg_machine.specs.declared.tables.Tables.{Tables}
 use Rattle.dg_machine.specs.Tables.{IsOf}
-use Rattle.dg_machine.specs.inside.Running.{rests, MarkDone, DoesMarks, ReadsGoal, LosesText, LosesLine, HasText, HasSettled, Settles, IsAt, IsLost, IsUnread, EndsSo, HasEnded, IsLostWithin, IsUnreadWithin}
+use Rattle.dg_machine.specs.inside.Running.{rests, MarkDone, DoesMarks, ReadsGoal, LosesText, LosesLine, BreaksAt, HasText, HasSettled, Settles, IsAt, IsLost, IsUnread, EndsSo, HasEnded, IsLostWithin, IsUnreadWithin}
 use Rattle.dg_machine.specs.inside.Reading.{LeftBehind}
 use Rattle.dg_machine.proofs.Readings.{mark_leaves}
 use Rattle.dg_meaning.specs.Engines.{HasShown, HasLostInput, HasLostOutput}
-use Rattle.dg_meaning.proofs.Engines.{may_write}
 
 -- what was printed up to here is the beginning of the whole text
 prints_begin : (w : World) (x : Run) (ps : List Print) → Grows w x.world → prints w.events ≡ ps → (text : List ℕ) × (text_of x.world.events ≡ render ps ++ text)
@@ -146,20 +145,24 @@ module _ (code : Code) (g : Game) (l : Limits) (typed : List ℕ) where
       }
 
   -- the output was lost at the next goal
-  pub lost_goal : (tb : Tables) → IsOf g.program tb → (old : Memory) (out : Outside) (ops : Bor (List Op)) (s : Spacer) (k k' : SinkView) (goals : ℕ) (start : SinkView) (left : List ℕ) → at_goal ops.now ≡ true → LosesText tb code old ops.now s k k' → IsAt code g l typed old out (Runs ops) goals s start k left → IsLost code g l typed (suc goals) start k'
-  lost_goal tb is_of old out ops s k k' goals start left e loses h =
+  pub lost_goal : (tb : Tables) → IsOf g.program tb → (old : Memory) (out : Outside) (ops : Bor (List Op)) (s : Spacer) (k k' : SinkView) (i i' : SourceView) (goals : ℕ) (start : SinkView) (rest : List ℕ) → at_goal ops.now ≡ true →
+      (loses : LosesText tb code old ops.now s k k' i i') → IsLeft i'.left rest → IsAt code g l typed old out (Runs ops) goals s start k (loses.taken ++ rest) → IsLost code g l typed goals start k' rest
+  lost_goal tb is_of old out ops s k k' i i' goals start rest e loses is h =
       let at = goal_at old ops (after set typed h.steps).now h.stands in
-      let taken : takes_goal (after set typed h.steps).now ≡ true = ap takes_goal at.is ∙ ap at_goal at.code_is.0 ∙ e in
-      elim (loses g is_of l at.mid at.code_is at.held start (after set typed h.steps).prints h.text) [
-        | inl lost ↦ record {
-          steps = suc h.steps;
-          behind = lost.behind;
-          goes = ap (step set) at.is ∙ lost.goes;
-          goals_are = let x = ap (λ b. one_if b + (after set typed h.steps).goals) taken in omega (arith, x, h.goals_is);
-          broke = subst (λ x. BrokeOff start k' (render (followed (after set typed h.steps).prints (said set x)))) (sym at.is) lost.broke;
-        }
-        | inr broke ↦ record { steps = h.steps; behind = at.mid; goes = at.is; goals_are = omega (arith, h.goals_is); broke = broke }
-      ]
+      let bytes = typed_at h.steps at.mid at.is in
+      let ps = (after set typed h.steps).prints in
+      let both = loses.loses rest is g is_of l at.mid at.code_is at.held (bytes ∙ h.left_is) start ps h.text in
+      let broke : BreaksAt code g l typed h.steps start k' ⊎ BreaksAt code g l typed (suc h.steps) start k' = elim both.0 [
+        | inl lost ↦ inr (record { mid = lost.behind; is = ap (step set) at.is ∙ lost.goes; broke = subst (λ x. BrokeOff start k' (render (followed ps (said set x)))) (sym at.is) lost.broke })
+        | inr broke ↦ inl (record { mid = at.mid; is = at.is; broke = broke })
+      ] in
+      record {
+        steps = h.steps;
+        takes = ap takes_goal at.is ∙ ap at_goal at.code_is.0 ∙ e;
+        goals_is = h.goals_is;
+        broke = broke;
+        left_is = ap (λ x. left_behind set x (left_after set typed h.steps)) at.is ∙ ap (left_behind set (RunsOf at.mid)) (sym bytes) ∙ both.1;
+      }
 
   -- the input was lost there
   pub unread_goal : (tb : Tables) → IsOf g.program tb → (old : Memory) (out : Outside) (ops : Bor (List Op)) (s s' : Spacer) (k k' : SinkView) (i i' : SourceView) (goals : ℕ) (start : SinkView) (left : List ℕ) → LosesLine tb code old ops.now s s' k k' i i' → IsAt code g l typed old out (Runs ops) goals s start k left → IsUnread code g l typed goals s' start k' left
@@ -217,12 +220,12 @@ module _ (code : Code) (g : Game) (l : Limits) (codes : Codes g.program code) (t
         wrote = wrote_on start k k' (render ps) (ending_line ps (line_of e)) h.text.wrote (close ps h.text.stands);
       }
 
-  pub closing_lost : (e : Ending) (left : ℕ) (r : Memory) (s : Spacer) (start k k' : SinkView) (rest : List ℕ) → HasEnded code g l typed (l.steps - left) e left r s start k rest → left ≤ l.steps → ((ps : List Print) → StandsFor s ps → BrokeOff k k' (ending_line ps (line_of e))) → HasLostOutput g typed l start k'
-  closing_lost e left r s start k k' rest h le close =
+  pub closing_lost : (e : Ending) (left : ℕ) (r : Memory) (s : Spacer) (start k k' : SinkView) (rest : List ℕ) (told : Option (List ℕ)) → IsLeft told rest → HasEnded code g l typed (l.steps - left) e left r s start k rest → left ≤ l.steps → ((ps : List Print) → StandsFor s ps → BrokeOff k k' (ending_line ps (line_of e))) → HasLostOutput g typed l told start k'
+  closing_lost e left r s start k k' rest told is h le close =
       let ps = (after the_set typed h.steps).prints in
       record {
         bytes = closed_text ps (line_of e);
-        may_write = whole (record { ending = e; goals = l.steps - left }) _ (ended_shows e left h.steps h.ends h.goals_is le);
+        may_write = whole (record { ending = e; goals = l.steps - left }) (shows_told g typed l _ _ (left_after the_set typed h.steps) told (subst (IsLeft told) (sym h.left_is) is) (ended_shows e left h.steps h.ends h.goals_is le));
         broke = broke_later start k k' (render ps) (ending_line ps (line_of e)) h.text.wrote (close ps h.text.stands);
       }
 
@@ -249,27 +252,47 @@ module _ (code : Code) (g : Game) (l : Limits) (codes : Codes g.program code) (t
         wrote = wrote_on start k k' (render ps) (ending_line ps input_fault_line) h.unread.text.wrote (close ps h.unread.text.stands);
       }
 
-  pub fault_lost : (r : Memory) (s : Spacer) (start k k' : SinkView) (taken rest : List ℕ) → IsUnreadWithin code g l typed l.steps r s start k (taken ++ rest) → length (behind_first (taken ++ rest)) ≤ length rest → ((ps : List Print) → StandsFor s ps → BrokeOff k k' (ending_line ps input_fault_line)) → HasLostOutput g typed l start k'
-  fault_lost r s start k k' taken rest h short close =
+  pub fault_lost : (r : Memory) (s : Spacer) (start k k' : SinkView) (taken rest : List ℕ) (told : Option (List ℕ)) → IsLeft told rest → IsUnreadWithin code g l typed l.steps r s start k (taken ++ rest) → length (behind_first (taken ++ rest)) ≤ length rest → ((ps : List Print) → StandsFor s ps → BrokeOff k k' (ending_line ps input_fault_line)) → HasLostOutput g typed l told start k'
+  fault_lost r s start k k' taken rest told is h short close =
       let ps = (after the_set typed h.unread.steps).prints in
       record {
         bytes = closed_text ps input_fault_line;
-        may_write = without_input (Some rest) (fault_shows r s start k taken rest h short);
+        may_write = without_input (fault_told (closed_text ps input_fault_line) rest told is (fault_shows r s start k taken rest h short));
         broke = broke_later start k k' (render ps) (ending_line ps input_fault_line) h.unread.text.wrote (close ps h.unread.text.stands);
       }
 
-  pub text_lost : (r : Memory) (start k : SinkView) → IsLostWithin code g l typed l.steps r start k → HasLostOutput g typed l start k
-  text_lost r start k h =
+  -- the text up to a goal begins with that of what was printed where the code went on
+  part_broke : (steps more goals : ℕ) (start k : SinkView) → (after the_set typed steps).goals + more ≡ goals → BreaksAt code g l typed steps start k → BrokeOff start k (text_of (run g typed goals).world.events)
+  part_broke steps more goals start k all x =
+      let ps = (after the_set typed steps).prints in
+      let c = (is_at g code l codes typed steps).comes more in
+      let at : RunsAt code x.mid ps g more c.world (run g typed goals) = subst (λ n. RunsAt code x.mid ps g more c.world (run g typed n)) all (subst (λ now. At the_set now ps g more c.world (run g typed ((after the_set typed steps).goals + more))) x.is c.at) in
+      let begins = prints_begin c.world (run g typed goals) ps (stands_happened g at.lives at.ways _ more c.world (run g typed goals) at.stands) at.mirrors.printed_is in
+      subst (BrokeOff start k) (sym begins.1) (broke_first start k (render ps) begins.0 x.broke)
+
+  pub text_lost : (r : Memory) (start k : SinkView) (rest : List ℕ) (told : Option (List ℕ)) → IsLeft told rest → IsLostWithin code g l typed l.steps r start k rest → HasLostOutput g typed l told start k
+  text_lost r start k rest told is h =
       let x = h.lost in
-      let ps = (after the_set typed x.steps).prints in
-      let rest = l.steps - (after the_set typed x.steps).goals in
-      let all : (after the_set typed x.steps).goals + rest ≡ l.steps = omega (arith, x.goals_are, h.within) in
-      let c = (is_at g code l codes typed x.steps).comes rest in
-      let at : RunsAt code x.behind ps g rest c.world (run g typed l.steps) = subst (λ n. RunsAt code x.behind ps g rest c.world (run g typed n)) all (subst (λ now. At the_set now ps g rest c.world (run g typed ((after the_set typed x.steps).goals + rest))) x.goes c.at) in
-      let begins = prints_begin c.world (run g typed l.steps) ps (stands_happened g at.lives at.ways _ rest c.world (run g typed l.steps) at.stands) at.mirrors.printed_is in
+      let one : (after the_set typed (suc x.steps)).goals ≡ suc h.goals = ap (λ b. one_if b + (after the_set typed x.steps).goals) x.takes ∙ omega (arith, x.goals_is) in
+      let before : (after the_set typed x.steps).goals + 1 ≡ suc h.goals = omega (arith, x.goals_is) in
+      let behind : (after the_set typed (suc x.steps)).goals + 0 ≡ suc h.goals = omega (arith, one) in
       record {
-        bytes = transcript g typed l.steps;
-        may_write = may_write g typed l;
-        broke = broke_first start k (text_of (run g typed l.steps).world.events) (closing (run g typed l.steps).world.events (line_of (run g typed l.steps).ending))
-            (subst (BrokeOff start k) (sym begins.1) (broke_first start k (render ps) begins.0 x.broke));
+        bytes = text_of (run g typed (suc h.goals)).world.events;
+        may_write = in_part
+            (record {
+              goals = suc h.goals;
+              within = omega (arith, h.within);
+              text = refl;
+              input =
+                  record {
+                    rest = rest;
+                    left_is = is;
+                    since = subst (λ n. EndsWith (run g typed (n - 1)).world.typed rest) one (subst (EndsWith (run g typed ((after the_set typed (suc x.steps)).goals - 1)).world.typed) x.left_is (left_at g code l codes typed (suc x.steps)).since);
+                    until = subst (λ n. EndsWith rest (run g typed n).world.typed) one (subst (λ (xs : List ℕ). EndsWith xs (run g typed (after the_set typed (suc x.steps)).goals).world.typed) x.left_is (until_left g code l codes typed (suc x.steps)));
+                  };
+            });
+        broke = elim x.broke [
+          | inl here ↦ part_broke x.steps 1 (suc h.goals) start k before here
+          | inr there ↦ part_broke (suc x.steps) 0 (suc h.goals) start k behind there
+        ];
       }

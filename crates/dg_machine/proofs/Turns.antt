@@ -169,12 +169,12 @@ module _ (code : Code) (g : Game) (l : Limits) (typed : List ℕ) where
       ended_in r e n left s start k rest at.steps (after set typed at.steps).now refl at.goals_is at.text at.left_is at.stands
 
   -- the output was lost at the next goal, within the budget
-  lost : (r new : Memory) (out : Outside) (now : Now) (ops : Bor (List Op)) (n budget : ℕ) (s : Spacer) (start k k' : SinkView) (left : List ℕ) → ((l : Limits) (m : Mid) → Holds code l r m → Roomy l new) → now ≡ Runs ops → suc n ≤ budget → (IsAt code g l typed r out (Runs ops) n s start k left → IsLost code g l typed (suc n) start k') → IsAt code g l typed r out now (n + 0) s start k left →
-      IsLostWithin code g l typed budget new start k'
-  lost r new out now ops n budget s start k k' left room is le loses h =
+  lost : (r new : Memory) (out : Outside) (now : Now) (ops : Bor (List Op)) (n budget : ℕ) (s : Spacer) (start k k' : SinkView) (left rest : List ℕ) → ((l : Limits) (m : Mid) → Holds code l r m → Roomy l new) → now ≡ Runs ops → suc n ≤ budget → (IsAt code g l typed r out (Runs ops) n s start k left → IsLost code g l typed n start k' rest) → IsAt code g l typed r out now (n + 0) s start k left →
+      IsLostWithin code g l typed budget new start k' rest
+  lost r new out now ops n budget s start k k' left rest room is le loses h =
       let here = subst (λ x. IsAt code g l typed r out x n s start k left) is (no_more r out now n s start k left h) in
       let at = goal_at code g l typed r ops (after set typed here.steps).now here.stands in
-      record { goals = suc n; within = le; lost = loses here; roomy = room l at.mid at.held }
+      record { goals = n; within = omega (arith, le); lost = loses here; roomy = room l at.mid at.held }
 
   -- or the input
   not_read : (r new : Memory) (out : Outside) (now : Now) (ops : Bor (List Op)) (n budget : ℕ) (s s' : Spacer) (start k k' : SinkView) (left : List ℕ) → ((l : Limits) (m : Mid) → Holds code l r m → Roomy l new) → now ≡ Runs ops → suc n ≤ budget → (IsAt code g l typed r out (Runs ops) n s start k left → IsUnread code g l typed n s' start k' left) → IsAt code g l typed r out now (n + 0) s start k left →
@@ -204,7 +204,12 @@ turn_breaks Read tb code old out ops s s' k k' i i' e loses = record {
   failed = loses.failed;
   unread = λ g is_of l typed goals start left at. unread_goal code g l typed tb is_of old out ops s s' k k' i i' goals start left loses at;
 }
-turn_breaks Write tb code old out ops s s' k k' i i' e loses = (λ g is_of l typed goals start left at. lost_goal code g l typed tb is_of old out ops s k k' goals start left e loses.0 at, loses.1)
+turn_breaks Write tb code old out ops s s' k k' i i' e loses = record {
+  taken = loses.taken;
+  left = loses.left;
+  later = loses.later;
+  loses = λ rest h g is_of l typed goals start at. lost_goal code g l typed tb is_of old out ops s k k' i i' goals start rest e loses h at;
+}
 
 -- ## From a start
 
@@ -281,13 +286,16 @@ module _ (tb : Tables) (code : Code) (old : Memory) (out : Outside) (before : No
           fails = λ g is_of l typed start at. not_read code g l typed mid new out1 now ops n budget s1 s2 start k1 k2 bytes room is le (fails.unread g is_of l typed n start bytes) (took.takes bytes left g is_of l typed 0 start at);
         }
     breaks Write budget new ops s2 k2 i2 is le room fails =
-        let rest = some_left i1.left in
-        let left = left_still took.gave.ended i1 rest.0 (λ e. subst IsEnd is (took.gave.over e)) rest.1 in
+        let rest = some_left i2.left in
+        let bytes = fails.taken ++ rest.0 in
+        let left = left_still took.gave.ended i1 bytes (λ e. subst IsEnd is (took.gave.over e)) (fails.left rest.0 rest.1) in
         record {
-          typed = took.gave.taken ++ rest.0;
-          is_typed = took.gave.left rest.0 left;
-          later = let x = took.gave.later in let y = fails.1 in omega (arith, x, y);
-          loses = λ g is_of l typed start at. lost code g l typed mid new out1 now ops n budget s1 start k1 k2 rest.0 room is le (fails.0 g is_of l typed n start rest.0) (took.takes rest.0 left g is_of l typed 0 start at);
+          typed = took.gave.taken ++ bytes;
+          is_typed = took.gave.left bytes left;
+          rest = rest.0;
+          is_rest = rest.1;
+          later = let x = took.gave.later in let y = fails.later in omega (arith, x, y);
+          loses = λ g is_of l typed start at. lost code g l typed mid new out1 now ops n budget s1 start k1 k2 bytes rest.0 room is le (fails.loses rest.0 rest.1 g is_of l typed n start) (took.takes bytes left g is_of l typed 0 start at);
         }
 
 pub end_rests : (now : Now) → IsEnd now → rests now ≡ true

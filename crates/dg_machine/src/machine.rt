@@ -104,7 +104,7 @@ impl Machine {
             self.old.limits (S.view source.new).left (K.view sink.old) (K.view sink.new)) }
         ensures output { IsErrOf result Fault.Write → (p : CoreProgram) → (dice : List ℕ) → Codes p self.old.code → IsOf p self.old.tables →
             StartsOutside p self.old.limits dice outside.old → ForTyped (S.view source.old).left (λ typed. HasLostOutput (game p dice) typed
-            self.old.limits (K.view sink.old) (K.view sink.new)) }
+            self.old.limits (left_told (S.view source.old) (S.view source.new)) (K.view sink.old) (K.view sink.new)) }
         ensures read { IsErrOf result Fault.Read → Rose (S.view source.old).faults (S.view source.new).faults }
         ensures later { (S.view source.old).faults ≤ (S.view source.new).faults }
         ensures code { self.new.code ≡ self.old.code }

@@ -1,5 +1,5 @@
 -- What each engine needs to keep what it promises.
-use Rattle.std.proofs.Common.{◌≡◌, ℕ, ◌-◌, ◌<◌, inl, List, [], Option, Some, None, refl, sym, ap, subst, arith}
+use Rattle.std.proofs.Common.{◌≡◌, ℕ, ◌<◌, List, [], Option, Some, None, refl, sym, ap, subst, arith}
 use Rattle.dg_base.specs.declared.program.CoreProgram.{CoreProgram}
 use Rattle.dg_base.specs.declared.run.Ending.TheVariants.{KeepLimit}
 use Rattle.dg_base.specs.declared.run.Limits.{Limits}
@@ -9,11 +9,10 @@ use Rattle.dg_meaning.specs.Facts.{kinds_of, kept_size, start_facts}
 use Rattle.dg_meaning.specs.OneRun.{Begins, EndsWith}
 use Rattle.dg_meaning.specs.Peaks.{Keep}
 use Rattle.dg_meaning.specs.Search.{search}
-use Rattle.dg_meaning.specs.Shows.{IsLeft, LeftBetween, ShowsLimit, ShowsNoMemory, MayWrite, whole}
-use Rattle.dg_meaning.specs.Transcript.{run, start_world, line_of, no_memory_line, closed, transcript}
+use Rattle.dg_meaning.specs.Shows.{IsLeft, LeftBetween, ShowsLimit, ShowsNoMemory}
+use Rattle.dg_meaning.specs.Transcript.{run, start_world, line_of, no_memory_line, closed}
 use Rattle.dg_meaning.specs.World.{Game, World}
 use Rattle.dg_meaning.proofs.Limits.{later_run, limit_covers}
-use Rattle.dg_meaning.proofs.Search.{run_within}
 
 -- ## Typed bytes
 
@@ -38,15 +37,6 @@ for_given (Some t) typed P is p = subst P (sym is) p
 pub for_typed : (told : Option (List ℕ)) (P : List ℕ → Type 0) → ((typed : List ℕ) → IsLeft told typed → P typed) → ForTyped told P
 for_typed None P f = ([], f [] tt)
 for_typed (Some typed) P f = f typed refl
-
--- ## Texts
-
--- the whole text of a run may be written
-pub may_write : (g : Game) (typed : List ℕ) (limits : Limits) → MayWrite g typed limits (transcript g typed limits.steps)
-may_write g typed limits =
-    let r = run g typed limits.steps in
-    whole (record { ending = r.ending; goals = limits.steps - r.left }) None
-    (inl (record { text = refl; ending = refl; goals = omega (arith, run_within g typed limits.steps); left_is = tt }))
 
 -- nothing is taken before the first goal
 pub nothing_taken : (g : Game) (typed : List ℕ) → (run g typed 0).world ≡ start_world g typed

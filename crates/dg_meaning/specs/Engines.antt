@@ -40,9 +40,9 @@ pub record HasLostInput (g : Game) (typed : List ℕ) (limits : Limits) (left : 
   pub wrote : Wrote old new bytes
 
 -- The sink failed within a text that may be written: its count rose, it took a front of that text, and the text is longer than a room that it told.
-pub record HasLostOutput (g : Game) (typed : List ℕ) (limits : Limits) (old new : SinkView) : Type 0 where
+pub record HasLostOutput (g : Game) (typed : List ℕ) (limits : Limits) (left : Option (List ℕ)) (old new : SinkView) : Type 0 where
   pub bytes : List ℕ
-  pub may_write : MayWrite g typed limits bytes
+  pub may_write : MayWrite g typed limits bytes left
   pub broke : BrokeOff old new bytes
 
 -- Memory ran out, and the sink took the text up to there with its closing.
@@ -51,8 +51,8 @@ pub record HasLostMemory (g : Game) (typed : List ℕ) (limits : Limits) (left :
   pub shows : ShowsNoMemory g typed limits bytes left
   pub wrote : Wrote old new bytes
 
--- What stands after each fault.
-abbrev pub HasBrokenOff : RunFault → Game → List ℕ → Limits → Option (List ℕ) → SinkView → SinkView → Type 0
-HasBrokenOff Read g typed limits left old new = HasLostInput g typed limits left old new
-HasBrokenOff Write g typed limits left old new = HasLostOutput g typed limits old new
-HasBrokenOff OutOfMemory g typed limits left old new = HasLostMemory g typed limits left old new
+-- What stands after each fault, of a source and a sink.
+abbrev pub HasBrokenOff : RunFault → Game → List ℕ → Limits → SourceView → SourceView → SinkView → SinkView → Type 0
+HasBrokenOff Read g typed limits i i' old new = HasLostInput g typed limits i'.left old new
+HasBrokenOff Write g typed limits i i' old new = HasLostOutput g typed limits (left_told i i') old new
+HasBrokenOff OutOfMemory g typed limits i i' old new = HasLostMemory g typed limits i'.left old new

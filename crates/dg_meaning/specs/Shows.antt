@@ -4,7 +4,7 @@ use Rattle.dg_base.specs.declared.run.Ending.TheVariants.{InputEnded, StepLimit}
 use Rattle.dg_base.specs.declared.run.Limits.{Limits}
 use Rattle.dg_base.specs.declared.run.Outcome.{Outcome}
 use Rattle.dg_meaning.specs.World.{Game, Event}
-use Rattle.dg_meaning.specs.Transcript.{run, transcript, closed, line_of, no_memory_line, input_fault_line}
+use Rattle.dg_meaning.specs.Transcript.{run, transcript, text_of, closed, line_of, no_memory_line, input_fault_line}
 use Rattle.dg_meaning.specs.OneRun.{Begins, EndsWith}
 use Rattle.dg_meaning.specs.Peaks.{Area, peak, limit_of, limit_ending, IsWithin}
 
@@ -77,8 +77,16 @@ pub record ShowsInputFault (g : Game) (typed : List ℕ) (limits : Limits) (byte
   pub reads : ((run g typed (goals + 1)).ending ≡ InputEnded) ⊎ ((given ≤ taken_by g typed (goals + 1)) ×
       (taken_by g typed goals < taken_by g typed (goals + 1)))
 
--- A text that a run may be about to write: what shows it, or what is written where it was broken off.
-pub data MayWrite (g : Game) (typed : List ℕ) (limits : Limits) (bytes : List ℕ) : Type 0 where
-  whole : (outcome : Outcome) → (left : Option (List ℕ)) → Shows g typed limits bytes outcome left → MayWrite g typed limits bytes
-  without_memory : (left : Option (List ℕ)) → ShowsNoMemory g typed limits bytes left → MayWrite g typed limits bytes
-  without_input : (left : Option (List ℕ)) → ShowsInputFault g typed limits bytes left → MayWrite g typed limits bytes
+-- What the run prints up to a goal. Of the input no less is left than that goal leaves, and no more than those before it.
+pub record ShowsPart (g : Game) (typed : List ℕ) (limits : Limits) (bytes : List ℕ) (left : Option (List ℕ)) : Type 0 where
+  pub goals : ℕ
+  pub within : goals ≤ limits.steps
+  pub text : bytes ≡ text_of (run g typed goals).world.events
+  pub input : LeftBetween g typed (goals - 1) goals left
+
+-- A text that a run may be writing whose input has left this: what it prints up to a goal, what shows it, or what is written where it was broken off.
+pub data MayWrite (g : Game) (typed : List ℕ) (limits : Limits) (bytes : List ℕ) (left : Option (List ℕ)) : Type 0 where
+  in_part : ShowsPart g typed limits bytes left → MayWrite g typed limits bytes left
+  whole : (outcome : Outcome) → Shows g typed limits bytes outcome left → MayWrite g typed limits bytes left
+  without_memory : ShowsNoMemory g typed limits bytes left → MayWrite g typed limits bytes left
+  without_input : ShowsInputFault g typed limits bytes left → MayWrite g typed limits bytes left

@@ -18,11 +18,12 @@ use Rattle.dg_meaning.proofs.Dropping.{prints_append}
 use Rattle.dg_meaning.proofs.OneRun.{begins_same}
 use Rattle.dg_meaning.proofs.Limits.{later_run, limit_covers}
 use Rattle.dg_mid.specs.declared.code.Code.{Code}
-use Rattle.dg_mid.specs.State.{Ended}
+use Rattle.dg_mid.specs.State.{Outside, Status, Runs, Enters, Resumes, Fails, Ended}
 use Rattle.dg_mid.specs.Step.{Setting, setting}
 use Rattle.dg_mid.specs.Codes.{Codes}
-use Rattle.dg_mid.specs.Reads.{At, HasEnded, MeetsLimit}
+use Rattle.dg_mid.specs.Reads.{At, Comes, HasEnded, MeetsLimit}
 use Rattle.dg_mid.specs.Runs.{Point, after, left_after, IsAt, closed_text, ShowsAll, ShowsFaults}
+use Rattle.dg_mid.proofs.Taking.{at_grows}
 use Rattle.dg_mid.proofs.Whole.{AtLimit, is_at}
 use Rattle.dg_mid.proofs.Outsides.{Leads}
 use Rattle.dg_mid.proofs.Typed.{EndLeft, left_at, stops_there, Reading, reading_at, reads_goal, left_within, line_shorter}
@@ -187,3 +188,33 @@ module _ (g : Game) (code : Code) (limits : Limits) (codes : Codes g.program cod
         no_more = omega (arith, count, more);
         reads = reads_so p.goals left rest (length typed - length rest) (omega (arith, first, more)) here first (reading_at g code limits codes typed p left e h l.left) taken;
       }
+
+  -- ## The output fails
+
+  -- where a run of code is, no less is left than the run with a budget of the goals taken leaves
+  pub until_left : (k : ℕ) → EndsWith (left_after set typed k) (run g typed (after set typed k).goals).world.typed
+  until_left k =
+      let p = after set typed k in
+      let same : p.goals + 0 ≡ p.goals = omega arith in
+      subst (λ n. EndsWith (left_after set typed k) (run g typed n).world.typed) same
+      (by_now p.now (left_after set typed k) p.goals p.paid p.prints (left_at g code limits codes typed k).left ((is_at g code limits codes typed k).comes 0))
+    where
+      all : (goals : ℕ) (rest : List ℕ) → EndsWith rest (run g typed goals).world.typed → EndsWith rest (run g typed (goals + 0)).world.typed
+      all goals rest h = let same : goals ≡ goals + 0 = omega arith in subst (λ n. EndsWith rest (run g typed n).world.typed) same h
+
+      by_end : (e : Ending) (rest : List ℕ) (goals : ℕ) → EndLeft g code limits codes typed goals rest e → EndsWith rest (run g typed (goals + 0)).world.typed
+      by_end ending.HeapLimit rest goals h = all goals rest h
+      by_end ending.TrailLimit rest goals h = all goals rest h
+      by_end ending.AuxLimit rest goals h = all goals rest h
+      by_end ending.KeepLimit rest goals h = all goals rest h
+      by_end e rest goals h = record { taken = []; is = sym (h 0) }
+
+      grown : (now : Status) (rest : List ℕ) (goals paid : ℕ) (ps : List Print) (c : Comes paid ps set now g 0 (run g typed (goals + 0))) → c.world.typed ≡ rest → EndsWith rest (run g typed (goals + 0)).world.typed
+      grown now rest goals paid ps c is = subst (λ l. EndsWith l (run g typed (goals + 0)).world.typed) is (at_grows set now ps g 0 c.world (run g typed (goals + 0)) c.at).typed
+
+      by_now : (now : Status) (rest : List ℕ) (goals paid : ℕ) (ps : List Print) → Leads (λ o. o.typed ≡ rest) (EndLeft g code limits codes typed goals rest) now → Comes paid ps set now g 0 (run g typed (goals + 0)) → EndsWith rest (run g typed (goals + 0)).world.typed
+      by_now (Runs m) rest goals paid ps is c = grown (Runs m) rest goals paid ps c (ap (λ (o : Outside). o.typed) c.at.mirrors.outside_is ∙ is)
+      by_now (Enters call m) rest goals paid ps is c = grown (Enters call m) rest goals paid ps c (ap (λ (o : Outside). o.typed) c.at.mirrors.outside_is ∙ is)
+      by_now (Resumes way m) rest goals paid ps is c = grown (Resumes way m) rest goals paid ps c (ap (λ (o : Outside). o.typed) c.at.mirrors.outside_is ∙ is)
+      by_now (Fails m) rest goals paid ps is c = grown (Fails m) rest goals paid ps c (ap (λ (o : Outside). o.typed) c.at.outside ∙ is)
+      by_now (Ended e) rest goals paid ps h c = by_end e rest goals h

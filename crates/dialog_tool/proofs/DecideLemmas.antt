@@ -116,12 +116,12 @@ made_so one c n status result text q h p (reports r k output outcome left shows 
     here : Comes status result → (result ≡ 0) ⊎ Comes 3 result
     here (inl s) = ended outcome.ending (s ∙ e)
     here (inr other) = inr (inr other)
-made_so one c n status result text q h p (overflows r k output may long e d) = inr (subst (λ (s : ℕ). Comes s result) e (printed c status text result p))
+made_so one c n status result text q h p (overflows r k output left may long e d) = inr (subst (λ (s : ℕ). Comes s result) e (printed c status text result p))
 made_so one c n status result text q h p (refuses r k e d) = no_program one (made_source n) q r h k
 
 made_badly : IsOne → (c : Call) (n status result : ℕ) (text : List ℕ) (r : Refusal) → Compiles (made_source n) (Err r) → Prints c status text result → Makes c.dice n status text → Comes 1 result
 made_badly one c n status result text r h p (reports q k output outcome left shows e d) = no_program one (made_source n) q r k h
-made_badly one c n status result text r h p (overflows q k output may long e d) = no_program one (made_source n) q r k h
+made_badly one c n status result text r h p (overflows q k output left may long e d) = no_program one (made_source n) q r k h
 made_badly one c n status result text r h p (refuses q k e d) = subst (λ (s : ℕ). Comes s result) e (printed c status text result p)
 
 -- ## Stories

@@ -56,7 +56,7 @@ made_whole n p dice source before output text outcome left room faults room' fau
     (e ∙ ap (λ (l : List ℕ). made_report l output outcome) same ∙ ap (λ (l : List ℕ). made_report (made_source n) l outcome) bytes)
 
 -- a run that its sink broke off may write more than there is room for
-pub made_long : (n : ℕ) (p : Core) (dice before text : List ℕ) (room faults status : ℕ) (new : SinkView) → Compiles (made_source n) (Ok p) → room ≡ most_output
-    → HasLostOutput (game p dice) [] made_limits (telling before room faults) new → text ≡ too_long_line → status ≡ 3 → Makes dice n status text
-made_long n p dice before text room faults status new is all lost e s =
-    overflows p is lost.bytes lost.may_write (subst (λ (r : ℕ). r < length lost.bytes) all lost.broke.over) s e
+pub made_long : (n : ℕ) (p : Core) (dice before text : List ℕ) (left : Option (List ℕ)) (room faults status : ℕ) (new : SinkView) → Compiles (made_source n) (Ok p) → room ≡ most_output
+    → HasLostOutput (game p dice) [] made_limits left (telling before room faults) new → text ≡ too_long_line → status ≡ 3 → Makes dice n status text
+made_long n p dice before text left room faults status new is all lost e s =
+    overflows p is lost.bytes left lost.may_write (subst (λ (r : ℕ). r < length lost.bytes) all lost.broke.over) s e

@@ -82,7 +82,8 @@ pub data RunsSource (c : Call) (o : Outside) (t : Task) (p : Core) (result : ℕ
       → HasShown (game_of c t p) o.typed (limits_of t) outcome (left_told c.input c.input_after) c.out c.out_after → RunsSource c o t p result
   input_lost : result ≡ 5 → Rose c.input.faults c.input_after.faults
       → HasLostInput (game_of c t p) o.typed (limits_of t) c.input_after.left c.out c.out_after → RunsSource c o t p result
-  out_lost : result ≡ 5 → HasLostOutput (game_of c t p) o.typed (limits_of t) c.out c.out_after → RunsSource c o t p result
+  out_lost : result ≡ 5
+      → HasLostOutput (game_of c t p) o.typed (limits_of t) (left_told c.input c.input_after) c.out c.out_after → RunsSource c o t p result
 
 -- The predicates of a program are listed, at 0: out took the report, by which those of the set are single.
 pub record Lists (c : Call) (p : Core) (result : ℕ) : Type 0 where
@@ -98,8 +99,8 @@ pub data Makes (dice : List ℕ) (n : ℕ) (status : ℕ) (text : List ℕ) : Ty
   reports : (p : Core) → Compiles (made_source n) (Ok p) → (output : List ℕ) (outcome : Outcome) (left : Option (List ℕ))
       → Shows (game p dice) [] made_limits output outcome left
       → status ≡ status_of outcome.ending → text ≡ made_report (made_source n) output outcome → Makes dice n status text
-  overflows : (p : Core) → Compiles (made_source n) (Ok p) → (output : List ℕ) → MayWrite (game p dice) [] made_limits output → most_output < length output
-      → status ≡ 3 → text ≡ too_long_line → Makes dice n status text
+  overflows : (p : Core) → Compiles (made_source n) (Ok p) → (output : List ℕ) (left : Option (List ℕ))
+      → MayWrite (game p dice) [] made_limits output left → most_output < length output → status ≡ 3 → text ≡ too_long_line → Makes dice n status text
   refuses : (r : Refusal) → Compiles (made_source n) (Err r) → status ≡ 1 → text ≡ refusal_line (codes "make") r → Makes dice n status text
 
 -- The source of a number is made and run, at 0, 1 and 3: out took the whole text that it comes to.

@@ -134,12 +134,6 @@ pub record HasPart (s : Spacer) (now : SinkView) (told : Option (List ℕ)) (w :
   pub text : HasText s start now (prints moment.events)
   pub left : IsLeft told moment.typed
 
--- The sink failed within the run's text, or memory ran out.
-abbrev pub IsBroken : RunFault → Spacer → SinkView → Option (List ℕ) → World → Run → SinkView → Type 0
-IsBroken Read s now told w run start = ⊥
-IsBroken Write s now told w run start = BrokeOff start now (text_of run.world.events)
-IsBroken OutOfMemory s now told w run start = HasPart s now told w run start
-
 -- A run ended at its budget, with this world.
 pub record IsLimited (w : World) (run : Run) : Type 0 where
   pub ending : run.ending ≡ StepLimit
@@ -167,10 +161,25 @@ pub record LosesInput (old : Engine) (s s' : Spacer) (before now : SinkView) (fr
       TakesMore (length taken) (length more) w run
   pub writes : Writes s s' before now added
 
+-- The output failed at the goal behind some others, within what is printed up to that goal: it leaves no more than what is left here, and the others
+-- no less.
+pub record LosesOutput (old : Engine) (s : Spacer) (before now : SinkView) (from to : SourceView) : Type 0 where
+  pub goals : ℕ
+  pub below : goals < old.left
+  pub taken : List ℕ
+  pub gave : Gave from to false taken
+  pub breaks : (g : Game) (w : World) (run : Run) (start : SinkView) → Awaits to false taken w → StandsAt old g (suc goals) w run →
+      HasText s start before (prints w.events) → BrokeOff start now (text_of run.world.events)
+  pub until : (g : Game) (w : World) (run : Run) (awaits : Awaits to false taken w) → StandsAt old g (suc goals) w run →
+      EndsWith awaits.rest run.world.typed
+  pub since : (g : Game) (w : World) (run : Run) (awaits : Awaits to false taken w) → StandsAt old g goals w run →
+      EndsWith run.world.typed awaits.rest
+
 -- The run was broken off: the input failed, or the sink within the run's text, or memory ran out.
 abbrev pub Broken : RunFault → Engine → Spacer → Spacer → SinkView → SinkView → SourceView → SourceView → Type 0
 Broken Read old s s' before now from to = LosesInput old s s' before now from to
-Broken fault old s s' before now from to = Reaches old s before from to (IsBroken fault s' now to.left)
+Broken Write old s s' before now from to = LosesOutput old s before now from to
+Broken OutOfMemory old s s' before now from to = Reaches old s before from to (HasPart s' now to.left)
 
 -- The goal at hand was done, or the run has ended so.
 abbrev pub DoesGoal : Option Ending → Engine → Engine → Spacer → Spacer → SinkView → SinkView → SourceView → SourceView → Type 0

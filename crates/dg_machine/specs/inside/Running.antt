@@ -100,11 +100,14 @@ LosesGoal t code old ops s k k' =
     (g : Game) → IsOf g.program t → (l : Limits) (m : Mid) → CodeIs ops m → Holds code l old m → (start : SinkView) (ps : List Print) →
     HasText s start k ps → GoalLost g code l k k' m start ps
 
--- The sink failed within what an instruction prints, or had printed.
-abbrev pub LosesText : Tables → Code → Memory → List Op → Spacer → SinkView → SinkView → Type 0
-LosesText t code old ops s k k' =
-    (g : Game) → IsOf g.program t → (l : Limits) (m : Mid) → CodeIs ops m → Holds code l old m → (start : SinkView) (ps : List Print) →
-    HasText s start k ps → GoalLost g code l k k' m start ps ⊎ BrokeOff start k' (render ps)
+-- The sink failed within what an instruction prints, or had printed. The source gave these bytes, and what it has left is left behind the instruction.
+pub record LosesText (t : Tables) (code : Code) (old : Memory) (ops : List Op) (s : Spacer) (k k' : SinkView) (i i' : SourceView) : Type 0 where
+  pub taken : List ℕ
+  pub left : (rest : List ℕ) → IsLeft i'.left rest → IsLeft i.left (taken ++ rest)
+  pub later : i.faults ≤ i'.faults
+  pub loses : (rest : List ℕ) → IsLeft i'.left rest → (g : Game) → IsOf g.program t → (l : Limits) (m : Mid) → CodeIs ops m →
+      Holds code l old m → m.outside.typed ≡ taken ++ rest → (start : SinkView) (ps : List Print) → HasText s start k ps →
+      (GoalLost g code l k k' m start ps ⊎ BrokeOff start k' (render ps)) × (left_behind (setting g code l) (RunsOf m) m.outside.typed ≡ rest)
 
 -- The source failed while an instruction read its line.
 pub record LosesLine (t : Tables) (code : Code) (old : Memory) (ops : List Op) (s s' : Spacer) (k k' : SinkView) (i i' : SourceView) : Type 0 where
@@ -117,7 +120,7 @@ pub record LosesLine (t : Tables) (code : Code) (old : Memory) (ops : List Op) (
 abbrev pub BreaksGoal : Fault → Tables → Code → Memory → List Op → Spacer → Spacer → SinkView → SinkView → SourceView → SourceView →
     Type 0
 BreaksGoal Read t code old ops s s' k k' i i' = LosesLine t code old ops s s' k k' i i'
-BreaksGoal Write t code old ops s s' k k' i i' = LosesText t code old ops s k k' × (i.faults ≤ i'.faults)
+BreaksGoal Write t code old ops s s' k k' i i' = LosesText t code old ops s k k' i i'
 
 -- ## Whole runs
 
@@ -139,18 +142,28 @@ pub record Takes (t : Tables) (code : Code) (n : ℕ) (old : Memory) (out : Outs
       (start : SinkView) → IsAt code g l typed old out before goals s start k (gave.taken ++ rest) →
       IsAt code g l typed new out' now (n + goals) s' start k' rest
 
--- The output was lost within so many goals: what broke off is within the text of what was printed up to some step, behind which the code goes on.
-pub record IsLost (code : Code) (g : Game) (l : Limits) (typed : List ℕ) (goals : ℕ) (start k : SinkView) : Type 0 where
-  pub steps : ℕ
-  pub behind : Mid
-  pub goes : (after (setting g code l) typed steps).now ≡ RunsOf behind
-  pub goals_are : (after (setting g code l) typed steps).goals ≤ goals
+-- The sink failed within the text of what was printed up to a step, behind which the code goes on.
+pub record BreaksAt (code : Code) (g : Game) (l : Limits) (typed : List ℕ) (steps : ℕ) (start k : SinkView) : Type 0 where
+  pub mid : Mid
+  pub is : (after (setting g code l) typed steps).now ≡ RunsOf mid
   pub broke : BrokeOff start k (render (after (setting g code l) typed steps).prints)
 
--- Wherever the machine was, the next goal has lost the output.
-abbrev pub Loses : Tables → Code → Memory → Outside → Now → Spacer → SinkView → SinkView → Type 0
-Loses t code old out before s k k' = (g : Game) → IsOf g.program t → (l : Limits) (typed : List ℕ) (goals : ℕ) (start : SinkView) (left : List ℕ) →
-    IsAt code g l typed old out before goals s start k left → IsLost code g l typed (suc goals) start k'
+-- The output was lost at the goal behind so many, in front of its step or behind it, and these bytes are left.
+pub record IsLost (code : Code) (g : Game) (l : Limits) (typed : List ℕ) (goals : ℕ) (start k : SinkView) (left : List ℕ) : Type 0 where
+  pub steps : ℕ
+  pub takes : takes_goal (after (setting g code l) typed steps).now ≡ true
+  pub goals_is : (after (setting g code l) typed steps).goals ≡ goals
+  pub broke : BreaksAt code g l typed steps start k ⊎ BreaksAt code g l typed (suc steps) start k
+  pub left_is : left_after (setting g code l) typed (suc steps) ≡ left
+
+-- Wherever the machine was, the next goal has lost the output, and what the source gave was taken.
+pub record Loses (t : Tables) (code : Code) (old : Memory) (out : Outside) (before : Now) (s : Spacer) (k : SinkView) (i : SourceView)
+    (k' : SinkView) (i' : SourceView) : Type 0 where
+  pub taken : List ℕ
+  pub left : (rest : List ℕ) → IsLeft i'.left rest → IsLeft i.left (taken ++ rest)
+  pub later : i.faults ≤ i'.faults
+  pub loses : (rest : List ℕ) → IsLeft i'.left rest → (g : Game) → IsOf g.program t → (l : Limits) (typed : List ℕ) (goals : ℕ)
+      (start : SinkView) → IsAt code g l typed old out before goals s start k (taken ++ rest) → IsLost code g l typed goals start k' rest
 
 -- The input was lost at the goal behind so many: what was printed up to there was written.
 pub record IsUnread (code : Code) (g : Game) (l : Limits) (typed : List ℕ) (goals : ℕ) (s : Spacer) (start k : SinkView) (left : List ℕ) : Type 0 where
@@ -171,7 +184,7 @@ pub record FailsToRead (t : Tables) (code : Code) (old : Memory) (out : Outside)
 abbrev pub BreaksTurn : Fault → Tables → Code → Memory → Outside → Now → Spacer → SinkView → SourceView → Spacer → SinkView →
     SourceView → Type 0
 BreaksTurn Read t code old out before s k i s' k' i' = FailsToRead t code old out before s k i s' k' i'
-BreaksTurn Write t code old out before s k i s' k' i' = Loses t code old out before s k k' × (i.faults ≤ i'.faults)
+BreaksTurn Write t code old out before s k i s' k' i' = Loses t code old out before s k i k' i'
 
 -- How a run has ended: as its code does, or at a goal for which no budget is left.
 abbrev pub EndsSo : Ending → ℕ → Status → Type 0
@@ -199,20 +212,23 @@ pub record Finishes (t : Tables) (code : Code) (old : Memory) (out : Outside) (b
   pub ends : (g : Game) → IsOf g.program t → (l : Limits) (bytes : List ℕ) (start : SinkView) →
       IsAt code g l bytes old out before 0 s start k typed → HasEnded code g l bytes (budget - left) e left new s' start k' rest
 
--- Or within its budget it has lost the output.
-pub record IsLostWithin (code : Code) (g : Game) (l : Limits) (typed : List ℕ) (budget : ℕ) (r : Memory) (start k : SinkView) : Type 0 where
+-- Or within its budget it has lost the output, and this is left.
+pub record IsLostWithin (code : Code) (g : Game) (l : Limits) (typed : List ℕ) (budget : ℕ) (r : Memory) (start k : SinkView)
+    (left : List ℕ) : Type 0 where
   pub goals : ℕ
-  pub within : goals ≤ budget
-  pub lost : IsLost code g l typed goals start k
+  pub within : goals < budget
+  pub lost : IsLost code g l typed goals start k left
   pub roomy : Roomy l r
 
 pub record LosesRun (t : Tables) (code : Code) (old : Memory) (out : Outside) (before : Now) (budget : ℕ) (s : Spacer) (k : SinkView)
     (i : SourceView) (new : Memory) (k' : SinkView) (i' : SourceView) : Type 0 where
   pub typed : List ℕ
   pub is_typed : IsLeft i.left typed
+  pub rest : List ℕ
+  pub is_rest : IsLeft i'.left rest
   pub later : i.faults ≤ i'.faults
   pub loses : (g : Game) → IsOf g.program t → (l : Limits) (bytes : List ℕ) (start : SinkView) →
-      IsAt code g l bytes old out before 0 s start k typed → IsLostWithin code g l bytes budget new start k'
+      IsAt code g l bytes old out before 0 s start k typed → IsLostWithin code g l bytes budget new start k' rest
 
 -- Or it has lost the input, and this is left.
 pub record IsUnreadWithin (code : Code) (g : Game) (l : Limits) (typed : List ℕ) (budget : ℕ) (r : Memory) (s : Spacer) (start k : SinkView)

@@ -15,9 +15,10 @@ returns-in-Err-clause-shows g c =
 
 pub returns-in-Err-clause-err : goal.returns-in-Err-clause-err
 returns-in-Err-clause-err g c =
-    let told = (g.S.Source.view c.args.source.now).left in
-    let P : RunFault → List ℕ → Type 0 = λ fault typed. HasBrokenOff fault (game c.args.program.now c.args.dice.now) typed c.args.limits.now told (g.K.Sink.view c.args.sink.now) (g.K.Sink.view c.write_lack.new.sink) in
-    if_err_map c.write_lack.result _ (λ fault. ForTyped told (P fault)) (λ fault h. for_typed told (P fault) (λ typed is. h typed told is)) c.write_lack.ensures.err
+    let i = g.S.Source.view c.args.source.now in
+    let told = i.left in
+    let P : RunFault → List ℕ → Type 0 = λ fault typed. HasBrokenOff fault (game c.args.program.now c.args.dice.now) typed c.args.limits.now i i (g.K.Sink.view c.args.sink.now) (g.K.Sink.view c.write_lack.new.sink) in
+    if_err_map c.write_lack.result _ (λ fault. ForTyped told (P fault)) (λ fault h. for_typed told (P fault) (λ typed is. h typed i is)) c.write_lack.ensures.err
 
 pub new-engine-requires-clause-built : goal.new-engine-requires-clause-built
 new-engine-requires-clause-built g c = c.programs_are_built.ensures c.args.program.now c.requires.sound

@@ -17,7 +17,7 @@ returns-in-Ok-clause-ok g c =
 pub returns-in-Err-clause-err : goal.returns-in-Err-clause-err
 returns-in-Err-clause-err g c =
     one_lost c.take_goal.result.now (Piece c.as_slice.result.now) c.args.engine.now c.take_goal.new.self c.args.spacer.now c.event.new.self _ _ _ c.take_goal.ensures.taken (word_prints c.take_goal.result.now c.in-Text.name c.as_slice.result.now c.take_goal.new.self c.in-Text.is c.as_slice.ensures)
-    c.in-Err.ensures.err
+    c.requires.goal c.in-Err.ensures.err
 
 pub returns-in-Ok-event-clause-ok : goal.returns-in-Ok-event-clause-ok
 returns-in-Ok-event-clause-ok g c =
@@ -27,7 +27,7 @@ returns-in-Ok-event-clause-ok g c =
 pub returns-in-Err-event-clause-err : goal.returns-in-Err-event-clause-err
 returns-in-Err-event-clause-err g c =
     one_lost c.take_goal.result.now (print_of c.event_of.result) c.args.engine.now c.take_goal.new.self c.args.spacer.now c.event-in-Gap.new.self _ _ _ c.take_goal.ensures.taken (gap_prints c.take_goal.result.now c.in-Gap.kind (print_of c.event_of.result) c.take_goal.new.self c.in-Gap.is c.event_of.ensures)
-    c.in-Err-event.ensures.err
+    c.requires.goal c.in-Err-event.ensures.err
 
 pub returns-in-Err-write_printed-clause-ok : goal.returns-in-Err-write_printed-clause-ok
 returns-in-Err-write_printed-clause-ok g c =
@@ -47,7 +47,7 @@ returns-in-Ok-print-clause-ok g c =
     (subst (λ ps. AddsAll ps c.args.spacer.now c.print.new.spacer (g.K.Sink.view c.args.sink.now) (g.K.Sink.view c.print.new.sink)) (pieces_still mid new stays value) c.in-Ok-print.ensures.printed)
 
 pub returns-in-Err-print-clause-err : goal.returns-in-Err-print-clause-err
-returns-in-Err-print-clause-err g c = value_lost c.take_goal.result.now c.in-Print.term c.in-Ok-write_printed.value c.args.engine.now c.take_goal.new.self c.write_printed.new.self c.args.spacer.now c.print.new.spacer _ _ _ c.take_goal.ensures.taken c.in-Print.is c.in-Ok-write_printed.ensures.written c.in-Err-print.ensures.printed
+returns-in-Err-print-clause-err g c = value_lost c.take_goal.result.now c.in-Print.term c.in-Ok-write_printed.value c.args.engine.now c.take_goal.new.self c.write_printed.new.self c.args.spacer.now c.print.new.spacer _ _ _ c.take_goal.ensures.taken c.in-Print.is c.in-Ok-write_printed.ensures.written c.requires.goal c.in-Err-print.ensures.printed
 
 pub returns-in-Quit-clause-ok : goal.returns-in-Quit-clause-ok
 returns-in-Quit-clause-ok g c = goal_quits c.take_goal.result.now c.args.engine.now c.take_goal.new.self c.args.spacer.now _ _ c.take_goal.ensures.taken c.in-Quit.is

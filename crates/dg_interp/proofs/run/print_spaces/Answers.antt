@@ -50,4 +50,4 @@ returns-in-Err-event-clause-err g c = λ old source some taken.
     let mid = c.args.engine.now in
     let e = c.spaces.new.self in
     let wrote : TellsSpaces c.args.term.now (Some c.in-Ok-Some.count) mid e = subst (λ o. TellsSpaces c.args.term.now o mid e) c.in-Ok-Some.field-0-is c.in-Ok-Some.ensures.told in
-    told_lost (GapN c.args.term.now) (SpacesOf c.in-Ok-Some.count) old mid e c.args.spacer.now c.event.new.self _ _ source taken wrote c.in-Err-event.ensures.err
+    told_lost (GapN c.args.term.now) (SpacesOf c.in-Ok-Some.count) old mid e c.args.spacer.now c.event.new.self _ _ source taken wrote some c.in-Err-event.ensures.err

@@ -1,10 +1,10 @@
-use Rattle.std.proofs.Common.{arith, ◌∷◌, [], ◌≡◌, List, ℕ, Ok, refl, sym, ap, subst, ◌∙◌}
+use Rattle.std.proofs.Common.{arith, ◌∷◌, [], List, Ok, refl, sym, subst, ◌∙◌}
 use Rattle.dg_base.specs.Written.{SinkView}
 use Rattle.dg_meaning.specs.Cells.{cells}
 use Rattle.dg_meaning.specs.Values.{value_of}
 use Rattle.dg_meaning.specs.World.{Print, Game}
 use Rattle.dg_mid.specs.Actions.{world_of}
-use Rattle.dg_mid.specs.State.{Mid, vars_of}
+use Rattle.dg_mid.specs.State.{vars_of}
 use Rattle.dg_mid.specs.Step.{more, followed}
 use Rattle.dg_texts.specs.Spelling.{IsShort, SpellsSome}
 use Rattle.dg_words.specs.Letters.{IsLine, ReadsLine}
@@ -82,7 +82,8 @@ returns-in-Ok-true-clause-err g c code =
     let i = g.S.Source.view c.args.source.now in
     let i' = g.S.Source.view c.read.new.source in
     let k = g.K.Sink.view c.args.sink.now in
-    line_breaks tb code c.args.memory.now c.args.ops.now c.args.spacer.now c.print_line.new.spacer k (g.K.Sink.view c.print_line.new.sink) i i' c.print_line.result c.in-Ok-true.ensures.cause.later c.print_line.ensures.err
+    let took : Took i.left i'.left (IsLine c.read.new.self) = subst (λ b. ReadsLine (Ok b) c.read.new.self i.left i'.left) c.in-Ok-true.field-0-test c.in-Ok-true.ensures.read in
+    line_breaks tb code c.args.memory.now c.args.ops.now c.args.term.now c.args.rest.now c.requires.whole c.put_one.new.self (λ l m p is_of h. c.in-Ok.ensures code l m p is_of h) c.args.spacer.now c.print_line.new.spacer k (g.K.Sink.view c.print_line.new.sink) i i' c.read.new.self c.print_line.result took c.in-Ok-true.ensures.cause.later c.print_line.ensures.err
 
 pub returns-in-Ok-true-clause-roomy : goal.returns-in-Ok-true-clause-roomy
 returns-in-Ok-true-clause-roomy g c =

@@ -1,11 +1,11 @@
-use Rattle.std.proofs.Common.{◌∷◌, ◌-◌, inl, arith, take, drop, length, refl, ap, ◌∙◌, subst}
+use Rattle.std.proofs.Common.{◌∷◌, ◌-◌, take, drop, length, refl, ap, ◌∙◌, subst}
 use Rattle.dg_base.specs.declared.run.Limits.{Limits}
 use Rattle.dg_mid.specs.State.{Mid}
 use Rattle.dg_machine.specs.Built.{OpsBuilt}
 use Rattle.dg_machine.specs.Layout.{Holds, Roomy}
 use Rattle.dg_machine.proofs.Lines.{err_at}
 use Rattle.dg_machine.proofs.Leaving.{split_list}
-use Rattle.dg_machine.proofs.Readings.{goes_unread, none_first}
+use Rattle.dg_machine.proofs.Readings.{goes_unread, loses_unread, none_first}
 use Rattle.dg_machine.proofs.Selects.{keeps_sites}
 use Rattle.dg_machine.proofs.steps.next_goal.Goals as goal
 
@@ -46,4 +46,7 @@ returns-in-Ok-clause-ok g c =
     (none_first all c.op-item.result (take (length all - 1) (drop 1 all)) (split_list all c.op-item.result c.in-len1-up.len_at_least c.op-item.is) c.in-None.ensures) c.in-Ok.ensures.ok
 
 pub returns-in-Err-clause-err : goal.returns-in-Err-clause-err
-returns-in-Err-clause-err g c = (λ game is_of l m at h start ps text. inl (c.in-Err.ensures.err game is_of l m at h start ps text), omega arith)
+returns-in-Err-clause-err g c =
+    let all = c.args.ops.now in
+    loses_unread c.args.tables.now c.args.code.now c.args.memory.now c.args.ops.now c.args.spacer.now (g.K.Sink.view c.args.sink.now) (g.K.Sink.view c.goal_step.new.sink) (g.S.Source.view c.args.source.now)
+    (none_first all c.op-item.result (take (length all - 1) (drop 1 all)) (split_list all c.op-item.result c.in-len1-up.len_at_least c.op-item.is) c.in-None.ensures) c.in-Err.ensures.err
