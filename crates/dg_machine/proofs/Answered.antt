@@ -51,8 +51,10 @@ use Rattle.dg_machine.specs.Tables.{IsOf}
 use Rattle.dg_machine.specs.declared.tables.Tables.{Tables}
 use Rattle.dg_machine.specs.Layout.{Holds, Lacks}
 use Rattle.dg_machine.specs.Refs.{RefsAt, Keeps}
+use Rattle.dg_machine.specs.Measure.{with_way}
 use Rattle.dg_machine.specs.Standing.{CodeIs, Stands, Around}
 use Rattle.dg_machine.specs.inside.Writing.{Overflows, SpareFits}
+use Rattle.dg_machine.proofs.Leads.{way_held}
 use Rattle.dg_machine.proofs.Opens.{on_arena, registers_held, registers_roomy, roomy, roomy_on}
 use Rattle.dg_machine.proofs.Unifying.{done_unifies}
 
@@ -209,10 +211,10 @@ module _ (code : Code) (g : Game) (l : Limits) (m : Mid) (place : Option ℕ) (v
     sought_other s = asks_so (walk m.state.subst u) refl ∙ ap (λ x. seeks (setting g code l) (find_of place vs many next) x m) (other_fails g place (walk m.state.subst u) u us (registers_of m) looked s)
 
 -- all objects are tried
-pub tries_all : (code : Code) (g : Game) (l : Limits) (m : Mid) (t : Tables) (k : Search) (end : ℕ) (vs : List Value) (r : Memory) → IsOf g.program t → end ≡ length t.objects.items → RefsAt (meaning_of r.arena) r.args.items vs → Holds code l r m → Stands code l r (Resumes (Tries k 0 end)) (ResumesOf (TriesOf (find_of k.place vs k.many k.next) (numbers 0 g.program.objects)) m)
+pub tries_all : (code : Code) (g : Game) (l : Limits) (m : Mid) (t : Tables) (k : Search) (end : ℕ) (vs : List Value) (r : Memory) → IsOf g.program t → end ≡ length t.objects.items → RefsAt (meaning_of r.arena) r.args.items vs → Holds code l r m → Stands code l (with_way r (Tries k 0 end)) Resumes (ResumesOf (TriesOf (find_of k.place vs k.many k.next) (numbers 0 g.program.objects)) m)
 tries_all code g l m t k end vs r is_of count at h =
     let all : end - 0 ≡ length g.program.objects = let n = ap length is_of.objects in omega (arith, n, count) in
-    ((record { place = refl; args = at; many = refl; next = refl }, numbers_counted 0 g.program.objects ∙ ap (counted 0) (sym all)), h)
+    ((record { place = refl; args = at; many = refl; next = refl }, numbers_counted 0 g.program.objects ∙ ap (counted 0) (sym all)), way_held code l r m (Tries k 0 end) h)
 
 -- ## Places
 

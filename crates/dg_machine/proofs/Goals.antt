@@ -54,6 +54,7 @@ use Rattle.dg_machine.specs.declared.tables.Tables.{Tables}
 use Rattle.dg_machine.specs.Tables.{IsOf}
 use Rattle.dg_machine.specs.Built.{OpBuilt, OpsBuilt, IsBuilt, IsQuiet, IsQuietOp}
 use Rattle.dg_machine.specs.Layout.{HasRoom, HasPut, Holds, Roomy}
+use Rattle.dg_machine.specs.Measure.{with_way}
 use Rattle.dg_machine.specs.Standing.{CodeIs, Stands, Falls, DoesOp, DoesMark, Asks, AsksLast, EntersRule, IsThere, GoesOn, KeepsOne, FailsTo, LeavesAround, HasStatus, Around, HasOutside, StandsWith}
 use Rattle.dg_machine.specs.inside.Reading.{ReadsNone}
 use Rattle.dg_machine.specs.inside.Running.{rests, DoesMarks, HasText, GoalDone, GoalLost}
@@ -156,13 +157,13 @@ marks_none tb code r out ops lt g is_of l (RunsOf m) o sk t h w =
     }
 marks_none tb code r out ops lt g is_of l s o sk t h w = absurd h
 
-pub marks_enter : (tb : Tables) (code : Code) (old new : Memory) (out : Outside) (now : Now) (k : Call) (ops : Bor (List Op)) → EntersRule tb code old k ops new now → DoesMarks tb code old out (Enters k ops) new out now
-marks_enter tb code old new out now k ops enters g is_of l (EntersOf c m) o sk t h w = let done = enters g is_of l m c h.0 h.1 h.2 in record { stands = done.stands; outside = enter_outside out g l code c m w; falls = λ over. done.falls; quiet = refl }
-marks_enter tb code old new out now k ops enters g is_of l s o sk t h w = absurd h
+pub marks_enter : (tb : Tables) (code : Code) (old new : Memory) (out : Outside) (now : Now) (ops : Bor (List Op)) → EntersRule tb code old old.call ops new now → DoesMarks tb code old out (Enters ops) new out now
+marks_enter tb code old new out now ops enters g is_of l (EntersOf c m) o sk t h w = let done = enters g is_of l m c h.0 h.1 h.2 in record { stands = done.stands; outside = enter_outside out g l code c m w; falls = λ over. done.falls; quiet = refl }
+marks_enter tb code old new out now ops enters g is_of l s o sk t h w = absurd h
 
-pub marks_resume : (tb : Tables) (code : Code) (old new : Memory) (out out' : Outside) (now : Now) (way : Way) → GoesOn code old out way new now out' → DoesMarks tb code old out (Resumes way) new out' now
-marks_resume tb code old new out out' now way goes g is_of l (ResumesOf on m) o sk t h w = let gone = goes g l m on sk.0 h.0 h.1 w in record { stands = gone.done.stands; outside = gone.outside; falls = λ over. gone.done.falls; quiet = refl }
-marks_resume tb code old new out out' now way goes g is_of l s o sk t h w = absurd h
+pub marks_resume : (tb : Tables) (code : Code) (old new : Memory) (out out' : Outside) (now : Now) → GoesOn code old out old.way new now out' → DoesMarks tb code old out Resumes new out' now
+marks_resume tb code old new out out' now goes g is_of l (ResumesOf on m) o sk t h w = let gone = goes g l m on sk.0 h.0 h.1 w in record { stands = gone.done.stands; outside = gone.outside; falls = λ over. gone.done.falls; quiet = refl }
+marks_resume tb code old new out out' now goes g is_of l s o sk t h w = absurd h
 
 pub marks_fail : (tb : Tables) (code : Code) (old new : Memory) (out out' : Outside) (now : Now) → FailsTo code old out new now out' → DoesMarks tb code old out Fails new out' now
 marks_fail tb code old new out out' now fails g is_of l (FailsOf m) o sk t h w = let failed = fails g l m h w in record { stands = failed.done.stands; outside = failed.outside; falls = λ over. failed.done.falls; quiet = refl }
@@ -200,8 +201,8 @@ pub record IsHeld (code : Code) (r : Memory) : Type 0 where
 
 held_in : (code : Code) (l : Limits) (r : Memory) (now : Now) (s : Status) → rests now ≡ false → Stands code l r now s → IsHeld code r
 held_in code l r (Runs ops) (RunsOf m) e h = record { limits = l; mid = m; held = h.1 }
-held_in code l r (Enters k ops) (EntersOf c m) e h = record { limits = l; mid = m; held = h.2 }
-held_in code l r (Resumes way) (ResumesOf on m) e h = record { limits = l; mid = m; held = h.1 }
+held_in code l r (Enters ops) (EntersOf c m) e h = record { limits = l; mid = m; held = h.2 }
+held_in code l r Resumes (ResumesOf on m) e h = record { limits = l; mid = m; held = h.1 }
 held_in code l r (Leaves height ops) (RunsOf m) e h = record { limits = l; mid = record m { inner = h.1.around }; held = h.1.held }
 held_in code l r Misses (FailsOf m) e h = record { limits = l; mid = record m { inner = h.around }; held = h.held }
 held_in code l r Fails (FailsOf m) e h = record { limits = l; mid = m; held = h }
@@ -214,7 +215,7 @@ held_of code r now s e = held_in code s.limits r now s.status e s.stands
 pub room_of : (code : Code) (r : Memory) (now : Now) → HasStatus code r now → rests now ≡ false → HasRoom r
 room_of code r now s e = (held_of code r now s e).held.0.room
 
-there_in : (code : Code) (l : Limits) (r : Memory) (way : Way) (s : Status) → Stands code l r (Resumes way) s → IsThere code r way
+there_in : (code : Code) (l : Limits) (r : Memory) (way : Way) (s : Status) → Stands code l (with_way r way) Resumes s → IsThere code r way
 there_in code l r (Goes b) s h = tt
 there_in code l r (Takes b) (ResumesOf (TakesOf b' into) m) h = (h.0.1, into, h.0.2)
 there_in code l r (Takes b) (ResumesOf on m) h = absurd h.0
@@ -226,8 +227,8 @@ there_in code l r (Tries k from end) (ResumesOf on m) h = absurd h.0
 there_in code l r (Tries k from end) s h = absurd h
 there_in code l r (Calls k pred left) s h = absurd h
 
-pub there_of : (code : Code) (r : Memory) (now : Now) (way : Way) → HasStatus code r now → now ≡ Resumes way → IsThere code r way
-there_of code r now way s is = there_in code s.limits r way s.status (subst (λ n. Stands code s.limits r n s.status) is s.stands)
+pub there_of : (code : Code) (r : Memory) (now : Now) → HasStatus code r now → now ≡ Resumes → IsThere code r r.way
+there_of code r now s is = there_in code s.limits r r.way s.status (subst (λ n. Stands code s.limits r n s.status) is s.stands)
 
 pub are_there : (code : Code) (r : Memory) (way : Way) (k : Search) (from end : ℕ) → way ≡ Tries k from end → IsThere code r way → AreRefs (meaning_of r.arena) r.args.items
 are_there code r way k from end is h = subst (IsThere code r) is h
@@ -240,12 +241,12 @@ pub record MayEnter (r : Memory) (ops : List Op) : Type 0 where
   pub built : OpsBuilt ops
   pub args : AreRefs (meaning_of r.arena) r.args.items
 
-entering_in : (code : Code) (l : Limits) (r : Memory) (k : Call) (ops : Bor (List Op)) (s : Status) → Stands code l r (Enters k ops) s → MayEnter r ops.now
-entering_in code l r k ops (EntersOf c m) h = record { built = h.0.1; args = (c.args, h.1.args) }
-entering_in code l r k ops s h = absurd h
+entering_in : (code : Code) (l : Limits) (r : Memory) (ops : Bor (List Op)) (s : Status) → Stands code l r (Enters ops) s → MayEnter r ops.now
+entering_in code l r ops (EntersOf c m) h = record { built = h.0.1; args = (c.args, h.1.args) }
+entering_in code l r ops s h = absurd h
 
-pub entering_of : (code : Code) (r : Memory) (now : Now) (k : Call) (ops : Bor (List Op)) → HasStatus code r now → now ≡ Enters k ops → MayEnter r ops.now
-entering_of code r now k ops s is = entering_in code s.limits r k ops s.status (subst (λ n. Stands code s.limits r n s.status) is s.stands)
+pub entering_of : (code : Code) (r : Memory) (now : Now) (ops : Bor (List Op)) → HasStatus code r now → now ≡ Enters ops → MayEnter r ops.now
+entering_of code r now ops s is = entering_in code s.limits r ops s.status (subst (λ n. Stands code s.limits r n s.status) is s.stands)
 
 pub built_first : (all : List Op) (x : Op) (rest : List Op) → all ≡ x ∷ rest → OpsBuilt all → OpBuilt x
 built_first all x rest is h = let parts : OpsBuilt (x ∷ rest) = subst OpsBuilt is h in parts.0

@@ -17,11 +17,12 @@ use Rattle.dg_machine.specs.declared.now.Inner.{Inner}
 use Rattle.dg_machine.specs.declared.now.Way.{Way}
 use Rattle.dg_machine.specs.declared.now.Now.{Now}
 use Rattle.dg_machine.specs.declared.now.Now.TheVariants.{Runs, Fails, Ended as EndedNow}
+use Rattle.dg_machine.specs.declared.now.Call.{Call}
 use Rattle.dg_machine.specs.declared.memory.Memory.{Memory}
 use Rattle.dg_machine.specs.Layout.{Holds, HasRoom, Lacks, Took, Opened, heap_in}
 use Rattle.dg_machine.specs.Links.{named, below}
 use Rattle.dg_machine.specs.Stops.{tags_of}
-use Rattle.dg_machine.specs.Measure.{choices_left}
+use Rattle.dg_machine.specs.Measure.{choices_left, with_way}
 use Rattle.dg_machine.specs.Standing.{CodeIs, Stands, Falls}
 use Rattle.dg_machine.proofs.Opens.{fits}
 use Rattle.dg_machine.proofs.Hands.{some_frame, no_frame, some_inner, no_inner, cut_held, cut_room, agree_none, cut_left, at_most_one}
@@ -138,3 +139,10 @@ module _ (code : Code) (l : Limits) (m : Mid) (r new : Memory) (ops : Bor (List 
 
 pub few_took : (old new : Memory) → HasRoom old → Took 10 old new → 10 * length new.inners.items + 10 ≤ heap_in new
 few_took old new room t = let heap = t.heap in let inners = ap (λ (r : Memory). length r.inners.items) t.others in let few = room.inners_few in omega (arith, heap, inners, few)
+
+-- memory holds the same with another way or another call at hand
+pub way_held : (code : Code) (l : Limits) (r : Memory) (m : Mid) (way : Way) → Holds code l r m → Holds code l (with_way r way) m
+way_held code l r m way h = (record { saves = h.0.saves; stand = h.0.stand; state_is = h.0.state_is; limits = h.0.limits; frames_are = h.0.frames_are; inner_are = h.0.inner_are; stop_is = h.0.stop_is; choices_are = h.0.choices_are; room = record { frames_fit = h.0.room.frames_fit; inners_fit = h.0.room.inners_fit; choices_fit = h.0.room.choices_fit; stops_fit = h.0.room.stops_fit; frames_few = h.0.room.frames_few; inners_few = h.0.room.inners_few; choices_few = h.0.room.choices_few; stops_few = h.0.room.stops_few; refs = h.0.room.refs } }, h.1)
+
+pub call_held : (code : Code) (l : Limits) (r : Memory) (m : Mid) (k : Call) → Holds code l r m → Holds code l (record r { call = k }) m
+call_held code l r m k h = (record { saves = h.0.saves; stand = h.0.stand; state_is = h.0.state_is; limits = h.0.limits; frames_are = h.0.frames_are; inner_are = h.0.inner_are; stop_is = h.0.stop_is; choices_are = h.0.choices_are; room = record { frames_fit = h.0.room.frames_fit; inners_fit = h.0.room.inners_fit; choices_fit = h.0.room.choices_fit; stops_fit = h.0.room.stops_fit; frames_few = h.0.room.frames_few; inners_few = h.0.room.inners_few; choices_few = h.0.room.choices_few; stops_few = h.0.room.stops_few; refs = h.0.room.refs } }, h.1)

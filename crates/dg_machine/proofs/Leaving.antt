@@ -22,7 +22,7 @@ use Rattle.dg_mid.specs.declared.code.Code.{Code}
 use Rattle.dg_mid.specs.declared.code.RuleCode.{RuleCode}
 use Rattle.dg_mid.specs.Code.{block_at, rules_at, selected}
 use Rattle.dg_mid.specs.State.{Mid, Frame as FrameOf, Call as CallOf, Choice as ChoiceOf, Way as WayOf, Target, Goes as GoesOf, Calls as CallsOf, Status, Runs as RunsOf, Enters as EntersOf, Fails as FailsOf, Ended as EndedOf}
-use Rattle.dg_mid.specs.Step.{Setting, setting, cut_to, bound, unified, trail_more, inside, passed, at_rule, begins, enters as enters_of, first_of, if_agreed, enter, entered, returns, returned, resumed, goes_on, goes_back, call_of, asks, asks_last, last, calls as calls_of}
+use Rattle.dg_mid.specs.Step.{Setting, setting, back_at, cut_to, bound, unified, trail_more, inside, passed, at_rule, begins, enters as enters_of, first_of, if_agreed, enter, entered, returns, returned, resumed, goes_on, goes_back, call_of, asks, asks_last, last, calls as calls_of}
 use Rattle.dg_mid.specs.Heights.{AgreeAll, FramesNamed, MidOrdered}
 use Rattle.dg_mid.specs.Potential.{Tidy, begins_goto}
 use Rattle.dg_machine.specs.declared.now.Frame.{Frame}
@@ -40,14 +40,14 @@ use Rattle.dg_machine.specs.Built.{AreArguments, OpBuilt, OpsBuilt, IsBuilt}
 use Rattle.dg_machine.specs.Refs.{RefsAt}
 use Rattle.dg_machine.specs.Passing.{codes_from, IsFirst}
 use Rattle.dg_machine.specs.Layout.{Holds, Roomy, Lacks, CallAt, RulesAt, WayAt, Opened, WentBack, Matched, Unmatched, headed_state, in_frame, last_rules, heap_in}
-use Rattle.dg_machine.specs.Measure.{way_left, choices_left}
+use Rattle.dg_machine.specs.Measure.{way_left, choices_left, with_way}
 use Rattle.dg_unify.specs.declared.bindings.Ref.{Ref}
 use Rattle.dg_machine.specs.Standing.{CodeIs, Stands, Falls, EntersWith, EntersIn, CallBegins, CallsRules}
 use Rattle.dg_machine.proofs.Kept.{call_kept}
 use Rattle.dg_machine.proofs.Opens.{left_more}
 use Rattle.dg_machine.proofs.PassedRules.{codes_selected, EndsIn, ends_on, selected_end, last_end, next_end, AreLast, are_last, no_longer}
 use Rattle.dg_machine.proofs.Hands.{some_frame, no_frame, no_jump, few, at_most_one}
-use Rattle.dg_machine.proofs.Leads.{was_cut, charged_led, charged_within, charged_stands, full_stands, height_now}
+use Rattle.dg_machine.proofs.Leads.{was_cut, charged_led, charged_within, charged_stands, full_stands, height_now, way_held, call_held}
 
 -- ## The answer of a rule
 
@@ -131,12 +131,12 @@ module _ (code : Code) (g : Game) (l : Limits) (m : Mid) (k : Call) (pred left :
   calls_none c = record { stands = h; falls = omega arith }
 
   -- the only rule that is left is entered
-  pub enters_last : (c : CallOf) (rule : RuleCode) (rules : List RuleCode) → length rules ≡ 0 → CallAt s_b r.args.items k c → block.now ≡ block_at code rule.block → CallBegins code l r k pred 1 r (Enters k block) (enters_of set_b c rule rules m)
-  enters_last c rule [] none at is = record { stands = (block_is code rule.block block.now (passed (at_rule set_b rule m)) built is refl, at, h); falls = omega arith }
+  pub enters_last : (c : CallOf) (rule : RuleCode) (rules : List RuleCode) → length rules ≡ 0 → CallAt s_b r.args.items k c → block.now ≡ block_at code rule.block → CallBegins code l r k pred 1 (record r { call = k }) (Enters block) (enters_of set_b c rule rules m)
+  enters_last c rule [] none at is = record { stands = (block_is code rule.block block.now (passed (at_rule set_b rule m)) built is refl, at, call_held code l r (passed (at_rule set_b rule m)) k h); falls = omega arith }
   enters_last c rule (q ∷ qs) none at is = absurd (omega (arith, none))
 
   -- the first of several is entered
-  pub enters_first : (c : CallOf) (rule : RuleCode) (rules : List RuleCode) (n : ℕ) → 1 ≤ length rules → n ≡ length c.args → CallAt s_b r.args.items k c → block.now ≡ block_at code rule.block → Holds code l new (inside (CallsOf c rules) n m) → Opened (Calls k pred left) n r new → CallBegins code l r k pred (suc left) new (Enters k block) (enters_of set_b c rule rules m)
+  pub enters_first : (c : CallOf) (rule : RuleCode) (rules : List RuleCode) (n : ℕ) → 1 ≤ length rules → n ≡ length c.args → CallAt s_b r.args.items k c → block.now ≡ block_at code rule.block → Holds code l new (inside (CallsOf c rules) n m) → Opened (Calls k pred left) n r new → CallBegins code l r k pred (suc left) (record new { call = k }) (Enters block) (enters_of set_b c rule rules m)
   enters_first c rule [] n some count at is held o = absurd (omega (arith, some))
   enters_first c rule (q ∷ qs) n some count at is held o =
       let held' : Holds code l new (inside (CallsOf c (q ∷ qs)) (length c.args) m) = subst (λ i. Holds code l new (inside (CallsOf c (q ∷ qs)) i m)) count held in
@@ -144,8 +144,8 @@ module _ (code : Code) (g : Game) (l : Limits) (m : Mid) (k : Call) (pred left :
       let left_now : choices_left new.choices.items ≡ choices_left r.choices.items + suc left = ap choices_left o.choices ∙ left_more r.choices.items o.choice ∙ ap (λ w. choices_left r.choices.items + way_left w) o.goes in
       let here : CallAt (meaning_of new.arena) new.args.items k c = subst (λ v. CallAt (meaning_of new.arena) v k c) (sym (ap (λ v. v.items) o.args)) (call_kept s_b (meaning_of new.arena) r.args.items k c o.values at) in
       record {
-        stands = charged_stands code g l (10 + length c.args) m (record m' { ops = block_at code rule.block }) (EntersOf c (record m' { ops = block_at code rule.block })) new (Enters k block) held' refl
-            (block_is code rule.block block.now (record m' { ops = block_at code rule.block }) built is refl, here, held');
+        stands = charged_stands code g l (10 + length c.args) m (record m' { ops = block_at code rule.block }) (EntersOf c (record m' { ops = block_at code rule.block })) (record new { call = k }) (Enters block) (call_held code l new m' k held') refl
+            (block_is code rule.block block.now (record m' { ops = block_at code rule.block }) built is refl, here, call_held code l new (record m' { ops = block_at code rule.block }) k held');
         falls = omega (arith, left_now);
       }
 
@@ -198,26 +198,26 @@ module _ (code : Code) (g : Game) (l : Limits) (m : Mid) (k : Call) (c : CallOf)
   abbrev next_c : Status
   next_c = RunsOf (in_frame c made (bound u_c made_mid))
 
-  pub enters_full : Lacks cells_c l m.state.heap new → Falls code l r (Enters k ops) new (Ended ending.HeapLimit) (enter set_c c vars head m)
+  pub enters_full : Lacks cells_c l m.state.heap new → Falls code l r (Enters ops) new (Ended ending.HeapLimit) (enter set_c c vars head m)
   enters_full over = record { stands = full_stands code g l cells_c m (unified set_c u_c made_mid next_c) r new h over; falls = omega arith }
 
   -- what the unification leads to is stood for, where its cells were taken
   led_to : (now : Now) → m.state.heap + cells_c ≤ l.heap → Stands code l new now (unified set_c u_c made_mid next_c) → Stands code l new now (enter set_c c vars head m)
   led_to now within stands = charged_within code g l cells_c m (unified set_c u_c made_mid next_c) new now within stands
 
-  pub enters_unmatched : m.state.heap + cells_c ≤ l.heap → Unmatched l u_c made_mid new → Falls code l r (Enters k ops) new (Ended ending.TrailLimit) (enter set_c c vars head m)
+  pub enters_unmatched : m.state.heap + cells_c ≤ l.heap → Unmatched l u_c made_mid new → Falls code l r (Enters ops) new (Ended ending.TrailLimit) (enter set_c c vars head m)
   enters_unmatched within x = record {
     stands = led_to (Ended ending.TrailLimit) within (subst (Stands code l new (Ended ending.TrailLimit)) (sym (unified_off set_c u_c made_mid next_c x.over)) (refl, x.roomy));
     falls = omega arith;
   }
 
-  pub enters_clash : (b : Bool) → b ≡ false → m.state.heap + cells_c ≤ l.heap → Matched code l u_c made_mid new b → new.choices ≡ r.choices → Falls code l r (Enters k ops) new Fails (enter set_c c vars head m)
+  pub enters_clash : (b : Bool) → b ≡ false → m.state.heap + cells_c ≤ l.heap → Matched code l u_c made_mid new b → new.choices ≡ r.choices → Falls code l r (Enters ops) new Fails (enter set_c c vars head m)
   enters_clash b e within x same =
       let left_now : choices_left new.choices.items ≡ choices_left r.choices.items = ap (λ v. choices_left v.items) same in
       let failed : unified set_c u_c made_mid next_c ≡ FailsOf (bound u_c made_mid) = unified_on set_c u_c made_mid next_c x.fits ∙ ap (λ a. if_agreed a (bound u_c made_mid) next_c) (sym x.agrees ∙ e) in
       record { stands = led_to Fails within (subst (Stands code l new Fails) (sym failed) x.held); falls = omega (arith, left_now) }
 
-  pub enters : (last : Memory) (b : Bool) → b ≡ true → m.state.heap + cells_c ≤ l.heap → Matched code l u_c made_mid last b → Holds code l new (in_frame c made (bound u_c made_mid)) → new.choices ≡ r.choices → Falls code l r (Enters k ops) new (Runs rest) (enter set_c c vars head m)
+  pub enters : (last : Memory) (b : Bool) → b ≡ true → m.state.heap + cells_c ≤ l.heap → Matched code l u_c made_mid last b → Holds code l new (in_frame c made (bound u_c made_mid)) → new.choices ≡ r.choices → Falls code l r (Enters ops) new (Runs rest) (enter set_c c vars head m)
   enters last b agree within x here same =
       let bounds = few code l new (in_frame c made (bound u_c made_mid)) here in
       let frame = bounds.frame in
@@ -248,17 +248,17 @@ module _ (code : Code) (g : Game) (l : Limits) (b : ℕ) (m : Mid) (r new : Memo
   set_d = setting g code l
 
   -- it goes on with all of the block
-  pub goes_as_is : resumed set_d ops.now m ≡ RunsOf (passed (record m { ops = ops.now })) → Falls code l r (Resumes (Goes b)) r (Runs ops) (resumed set_d (block_at code b) m)
+  pub goes_as_is : resumed set_d ops.now m ≡ RunsOf (passed (record m { ops = ops.now })) → Falls code l (with_way r (Goes b)) Resumes r (Runs ops) (resumed set_d (block_at code b) m)
   goes_as_is same =
       let none = no_jump ops.now (no_jump_at code b ops.now tidy is) in
       let bounds = few code l r m h in
       let frame = bounds.frame in
       let inner = bounds.inner in
-      subst (λ xs. Falls code l r (Resumes (Goes b)) r (Runs ops) (resumed set_d xs m)) is
-      (subst (Falls code l r (Resumes (Goes b)) r (Runs ops)) (sym same) (record { stands = ((refl, subst OpsBuilt (sym is) (built.blocks b)), h); falls = omega (arith, none, frame, inner) }))
+      subst (λ xs. Falls code l (with_way r (Goes b)) Resumes r (Runs ops) (resumed set_d xs m)) is
+      (subst (Falls code l (with_way r (Goes b)) Resumes r (Runs ops)) (sym same) (record { stands = ((refl, subst OpsBuilt (sym is) (built.blocks b)), h); falls = omega (arith, none, frame, inner) }))
 
   -- it is kept with an earlier block
-  pub goes_kept : (alt : ℕ) (rest : Bor (List Op)) → ops.now ≡ op.Retry alt ∷ rest.now → Holds code l new (inside (GoesOf alt) 0 (record m { ops = rest.now })) → Opened (Goes alt) 0 r new → Falls code l r (Resumes (Goes b)) new (Runs rest) (resumed set_d (block_at code b) m)
+  pub goes_kept : (alt : ℕ) (rest : Bor (List Op)) → ops.now ≡ op.Retry alt ∷ rest.now → Holds code l new (inside (GoesOf alt) 0 (record m { ops = rest.now })) → Opened (Goes alt) 0 r new → Falls code l (with_way r (Goes b)) Resumes new (Runs rest) (resumed set_d (block_at code b) m)
   goes_kept alt rest kept held o =
       let block : block_at code b ≡ op.Retry alt ∷ rest.now = sym is ∙ kept in
       let earlier = tidy.earlier b alt rest.now block in
@@ -269,16 +269,16 @@ module _ (code : Code) (g : Game) (l : Limits) (b : ℕ) (m : Mid) (r new : Memo
       let jumps = at_most_one rest.now in
       let m' = inside (GoesOf alt) 0 (record m { ops = rest.now }) in
       let all_built : OpsBuilt (op.Retry alt ∷ rest.now) = subst OpsBuilt block (built.blocks b) in
-      subst (λ xs. Falls code l r (Resumes (Goes b)) new (Runs rest) (resumed set_d xs m)) (sym block)
+      subst (λ xs. Falls code l (with_way r (Goes b)) Resumes new (Runs rest) (resumed set_d xs m)) (sym block)
       (record {
         stands = charged_stands code g l 10 (record m { ops = rest.now }) m' (RunsOf m') new (Runs rest) held refl ((refl, all_built.1), held);
         falls = omega (arith, left_now, earlier, frame, inner, jumps);
       })
 
-  pub goes_full : (alt : ℕ) (rest : List Op) → ops.now ≡ op.Retry alt ∷ rest → Lacks 10 l m.state.heap new → Falls code l r (Resumes (Goes b)) new (Ended ending.HeapLimit) (resumed set_d (block_at code b) m)
+  pub goes_full : (alt : ℕ) (rest : List Op) → ops.now ≡ op.Retry alt ∷ rest → Lacks 10 l m.state.heap new → Falls code l (with_way r (Goes b)) Resumes new (Ended ending.HeapLimit) (resumed set_d (block_at code b) m)
   goes_full alt rest kept over =
       let block : block_at code b ≡ op.Retry alt ∷ rest = sym is ∙ kept in
-      subst (λ xs. Falls code l r (Resumes (Goes b)) new (Ended ending.HeapLimit) (resumed set_d xs m)) (sym block)
+      subst (λ xs. Falls code l (with_way r (Goes b)) Resumes new (Ended ending.HeapLimit) (resumed set_d xs m)) (sym block)
       (record { stands = full_stands code g l 10 (record m { ops = rest }) (RunsOf (inside (GoesOf alt) 0 (record m { ops = rest }))) r new h over; falls = omega arith })
 
 -- ## Failing
@@ -287,9 +287,9 @@ pub failed_all : (code : Code) (l : Limits) (m : Mid) (r new : Memory) → Holds
 failed_all code l m r new h [] w roomy = record { stands = (refl, roomy); falls = omega arith }
 failed_all code l m r new h (c ∷ cs) w roomy = absurd w
 
-pub failed_to : (code : Code) (l : Limits) (m : Mid) (way : Way) (r new : Memory) → (cs : List ChoiceOf) → WentBack code l (Some way) new m cs → choices_left r.choices.items ≡ choices_left new.choices.items + way_left way → Falls code l r Fails new (Resumes way) (goes_back cs m)
+pub failed_to : (code : Code) (l : Limits) (m : Mid) (way : Way) (r new : Memory) → (cs : List ChoiceOf) → WentBack code l (Some way) new m cs → choices_left r.choices.items ≡ choices_left new.choices.items + way_left way → Falls code l r Fails (with_way new way) Resumes (goes_back cs m)
 failed_to code l m way r new [] w left = absurd w
-failed_to code l m way r new (c ∷ cs) w left = record { stands = w; falls = omega (arith, left) }
+failed_to code l m way r new (c ∷ cs) w left = record { stands = (w.0, way_held code l new (back_at c cs m) way w.1); falls = omega (arith, left) }
 
 -- ## Last queries
 
@@ -396,12 +396,12 @@ further_begins code g l m r new c k pred left n rules rule now h at f enters =
 
 -- ## Ways
 
-pub go_calls : (code : Code) (g : Game) (l : Limits) (m : Mid) (k : Call) (pred left : ℕ) (r new : Memory) (now : Now) (on : WayOf) → WayAt code (meaning_of r.arena) r.args.items (Calls k pred left) on → CallsRules code r k pred left new now → Holds code l r m → Falls code l r (Resumes (Calls k pred left)) new now (goes_on (setting g code l) on m)
+pub go_calls : (code : Code) (g : Game) (l : Limits) (m : Mid) (k : Call) (pred left : ℕ) (r new : Memory) (now : Now) (on : WayOf) → WayAt code (meaning_of r.arena) r.args.items (Calls k pred left) on → CallsRules code r k pred left new now → Holds code l r m → Falls code l (with_way r (Calls k pred left)) Resumes new now (goes_on (setting g code l) on m)
 go_calls code g l m k pred left r new now (CallsOf c rules) at calls h = let x = calls g l m c rules h at in record { stands = x.stands; falls = x.falls }
 go_calls code g l m k pred left r new now on at calls h = absurd at
 
-pub go_goes : (code : Code) (g : Game) (l : Limits) (m : Mid) (b : ℕ) (r new : Memory) (now : Now) (on : WayOf) → WayAt code (meaning_of r.arena) r.args.items (Goes b) on → Falls code l r (Resumes (Goes b)) new now (goes_on (setting g code l) (GoesOf b) m) → Falls code l r (Resumes (Goes b)) new now (goes_on (setting g code l) on m)
-go_goes code g l m b r new now (GoesOf b') at falls = subst (λ k. Falls code l r (Resumes (Goes b)) new now (goes_on (setting g code l) (GoesOf k) m)) (sym at) falls
+pub go_goes : (code : Code) (g : Game) (l : Limits) (m : Mid) (b : ℕ) (r new : Memory) (now : Now) (on : WayOf) → WayAt code (meaning_of r.arena) r.args.items (Goes b) on → Falls code l (with_way r (Goes b)) Resumes new now (goes_on (setting g code l) (GoesOf b) m) → Falls code l (with_way r (Goes b)) Resumes new now (goes_on (setting g code l) on m)
+go_goes code g l m b r new now (GoesOf b') at falls = subst (λ k. Falls code l (with_way r (Goes b)) Resumes new now (goes_on (setting g code l) (GoesOf k) m)) (sym at) falls
 go_goes code g l m b r new now on at falls = absurd at
 
 -- ## The first of a rule
@@ -420,9 +420,9 @@ entering_is all x rest vars head is enter built =
 
 -- what is said of the first of a rule is said of its entering
 pub rule_entered : (tb : Tables) (code : Code) (g : Game) → IsOf g.program tb → (l : Limits) (m : Mid) (k : Call) (c : CallOf) (vars : ℕ) (head : List Term) (r new : Memory) (now : Now) (ops : Bor (List Op)) (rest : List Op) → EntersAt ops.now rest vars head → m.ops ≡ ops.now → CallAt (meaning_of r.arena) r.args.items k c → Holds code l r m →
-    EntersIn tb code r k vars head rest new now → Falls code l r (Enters k ops) new now (entered (setting g code l) c m.ops m)
+    EntersIn tb code r k vars head rest new now → Falls code l r (Enters ops) new now (entered (setting g code l) c m.ops m)
 rule_entered tb code g is_of l m k c vars head r new now ops rest e at call h does =
-    subst (λ xs. Falls code l r (Enters k ops) new now (entered (setting g code l) c xs m)) (sym (at ∙ e.is)) (does g is_of l (record m { ops = rest }) c ops (refl, e.built) call h)
+    subst (λ xs. Falls code l r (Enters ops) new now (entered (setting g code l) c xs m)) (sym (at ∙ e.is)) (does g is_of l (record m { ops = rest }) c ops (refl, e.built) call h)
 
 -- ## The answer of a rule that cuts
 

@@ -65,8 +65,8 @@ use Rattle.dg_machine.proofs.Readings.{gave_nothing}
 pub line_on : (now : Now) → ((e : Ending) → now ≡ Ended e → ⊥) → line_behind now ≡ GapOf Line ∷ []
 line_on (Ended e) goes = absurd (goes e refl)
 line_on (Runs ops) goes = refl
-line_on (Enters k ops) goes = refl
-line_on (Resumes way) goes = refl
+line_on (Enters ops) goes = refl
+line_on Resumes goes = refl
 line_on (Leaves height ops) goes = refl
 line_on Misses goes = refl
 line_on Fails goes = refl
@@ -86,8 +86,8 @@ nothing_left false = refl
 -- what stands behind a line that was read
 said_line : (code : Code) (l : Limits) (r : Memory) (now : Now) (s : Status) → Stands code l r now s → said_to (GapOf Line ∷ []) s ≡ line_behind now
 said_line code l r (Runs ops) (RunsOf m) h = refl
-said_line code l r (Enters k ops) (EntersOf c m) h = refl
-said_line code l r (Resumes way) (ResumesOf on m) h = refl
+said_line code l r (Enters ops) (EntersOf c m) h = refl
+said_line code l r Resumes (ResumesOf on m) h = refl
 said_line code l r (Leaves height ops) (RunsOf m) h = refl
 said_line code l r Misses (FailsOf m) h = refl
 said_line code l r Fails (FailsOf m) h = refl
@@ -231,8 +231,8 @@ short_line spelling old new took = by_left new (λ rest is. took.holds rest is) 
 -- a machine that stands for something has room
 pub stands_roomy : (code : Code) (l : Limits) (r : Memory) (now : Now) (s : Status) → Stands code l r now s → Roomy l r
 stands_roomy code l r (Runs ops) (RunsOf m) h = roomy code l m r h.1
-stands_roomy code l r (Enters k ops) (EntersOf c m) h = roomy code l m r h.2
-stands_roomy code l r (Resumes way) (ResumesOf on m) h = roomy code l m r h.1
+stands_roomy code l r (Enters ops) (EntersOf c m) h = roomy code l m r h.2
+stands_roomy code l r Resumes (ResumesOf on m) h = roomy code l m r h.1
 stands_roomy code l r (Leaves height ops) (RunsOf m) h = roomy code l (record m { inner = h.1.around }) r h.1.held
 stands_roomy code l r Misses (FailsOf m) h = roomy code l (record m { inner = h.around }) r h.held
 stands_roomy code l r Fails (FailsOf m) h = roomy code l m r h

@@ -25,7 +25,7 @@ use Rattle.dg_machine.specs.declared.now.Now.TheVariants.{Ended, Resumes}
 use Rattle.dg_machine.specs.declared.now.Way.TheVariants.{Takes}
 use Rattle.dg_machine.specs.Layout.{Holds, Lacks}
 use Rattle.dg_machine.specs.Finding.{copied_in, HasCopied}
-use Rattle.dg_machine.specs.Measure.{choices_left}
+use Rattle.dg_machine.specs.Measure.{choices_left, with_way}
 use Rattle.dg_machine.specs.Standing.{Around, Stands, FallsWith}
 use Rattle.dg_machine.proofs.Gatherings.{gathered_held}
 use Rattle.dg_machine.proofs.Leads.{charged_led, charged_off}
@@ -65,10 +65,10 @@ module _ (code : Code) (g : Game) (l : Limits) (m : Mid) (r : Memory) (out : Out
   takes_cells into = done_copies code g l into listed rest_m looked refl
 
   -- the heap has too little room for it
-  pub list_none : (b : ℕ) (into : Value) (new : Memory) (out' : Outside) → Lacks (copy_cells listed) l m.state.heap new → FallsWith code g l r (Resumes (Takes b)) new (Ended HeapLimit) out' (takes_newest (setting g code l) InList into m.gathered m)
+  pub list_none : (b : ℕ) (into : Value) (new : Memory) (out' : Outside) → Lacks (copy_cells listed) l m.state.heap new → FallsWith code g l (with_way r (Takes b)) Resumes new (Ended HeapLimit) out' (takes_newest (setting g code l) InList into m.gathered m)
   list_none b into new out' lacks =
       let over = charged_off (setting g code l) (copy_cells listed) rest_m (next into) (fits code l m r h) lacks.over in
-      subst (FallsWith code g l r (Resumes (Takes b)) new (Ended HeapLimit) out') (sym (takes_list into ∙ takes_cells into ∙ over))
+      subst (FallsWith code g l (with_way r (Takes b)) Resumes new (Ended HeapLimit) out') (sym (takes_list into ∙ takes_cells into ∙ over))
       (record { done = record { stands = (refl, lacks.roomy); falls = omega arith }; outside = tt })
 
   -- it is unified, where the gathering was dropped
@@ -77,12 +77,12 @@ module _ (code : Code) (g : Game) (l : Limits) (m : Mid) (r : Memory) (out : Out
     list_held mid list made = gathered_held code l (copied_in listed m) newest.others mid height made.held (many code g l m r out out' cells height first count closes h w)
 
     pub list_some : (b : ℕ) (into : Value) (mid new : Memory) (now : Now) → Holds code l mid (copied_in listed rest_m) → GoesLate now → choices_left new.choices.items ≡ choices_left r.choices.items → Stands code l new now (next into) →
-        FallsWith code g l r (Resumes (Takes b)) new now out' (takes_newest (setting g code l) InList into m.gathered m)
+        FallsWith code g l (with_way r (Takes b)) Resumes new now out' (takes_newest (setting g code l) InList into m.gathered m)
     list_some b into mid new now held late same stands =
         let set = setting g code l in
         let led = charged_led code g l (copy_cells listed) rest_m (copied_in listed rest_m) (next into) mid new now held refl stands in
         let there : Stands code l new now (took_list into) = subst (Stands code l new now) (sym (takes_cells into)) led in
-        subst (FallsWith code g l r (Resumes (Takes b)) new now out') (sym (takes_list into)) (record {
+        subst (FallsWith code g l (with_way r (Takes b)) Resumes new now out') (sym (takes_list into)) (record {
           done = record { stands = there; falls = late_falls code l b r new now (took_list into) late there same };
           outside = has_outside out' g l rest_m (took_list into) (has_unifies rest_m.outside rest_m.gathered set (behind_copy listed (registers_of rest_m)) ((into, copy_of listed (registers_of rest_m)) ∷ []) looked rest_m refl refl) (left_around code g l m r out out' cells height first count closes h w);
         })

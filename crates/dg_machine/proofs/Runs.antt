@@ -68,8 +68,8 @@ pub record IsMark (s : Status) : Type 0 where
 
 pub at_mark : (code : Code) (l : Limits) (r : Memory) (now : Now) (s : Status) → rests now ≡ false → Stands code l r now s → IsMark s
 at_mark code l r (Runs ops) (RunsOf m) e h = record { no_goal = ap at_goal h.0.0 ∙ e; goes_on = λ o. o }
-at_mark code l r (Enters k ops) (EntersOf c m) e h = record { no_goal = refl; goes_on = λ o. o }
-at_mark code l r (Resumes way) (ResumesOf on m) e h = record { no_goal = refl; goes_on = λ o. o }
+at_mark code l r (Enters ops) (EntersOf c m) e h = record { no_goal = refl; goes_on = λ o. o }
+at_mark code l r Resumes (ResumesOf on m) e h = record { no_goal = refl; goes_on = λ o. o }
 at_mark code l r (Leaves height ops) (RunsOf m) e h = record { no_goal = ap at_goal h.0.0; goes_on = λ o. o }
 at_mark code l r Misses (FailsOf m) e h = record { no_goal = refl; goes_on = λ o. o }
 at_mark code l r Fails (FailsOf m) e h = record { no_goal = refl; goes_on = λ o. o }

@@ -27,7 +27,7 @@ use Rattle.dg_machine.specs.declared.now.Now.{Now}
 use Rattle.dg_machine.specs.declared.now.Now.TheVariants.{Runs, Fails, Ended, Resumes}
 use Rattle.dg_machine.specs.declared.now.Way.TheVariants.{Takes}
 use Rattle.dg_machine.specs.declared.memory.Memory.{Memory}
-use Rattle.dg_machine.specs.Measure.{left_of, choices_left}
+use Rattle.dg_machine.specs.Measure.{left_of, choices_left, with_way}
 use Rattle.dg_arena.specs.declared.arena.Arena.{Arena}
 use Rattle.dg_machine.specs.Refs.{Stays}
 use Rattle.dg_machine.specs.Built.{IsBuilt}
@@ -48,7 +48,7 @@ GoesLate Fails = Unit {0}
 GoesLate (Ended e) = Unit {0}
 GoesLate now = ⊥
 
-pub late_falls : (code : Code) (l : Limits) (b : ℕ) (old new : Memory) (now : Now) (s : Status) → GoesLate now → Stands code l new now s → choices_left new.choices.items ≡ choices_left old.choices.items → left_of new now < left_of old (Resumes (Takes b))
+pub late_falls : (code : Code) (l : Limits) (b : ℕ) (old new : Memory) (now : Now) (s : Status) → GoesLate now → Stands code l new now s → choices_left new.choices.items ≡ choices_left old.choices.items → left_of new now < left_of (with_way old (Takes b)) Resumes
 late_falls code l b old new (Runs ops) (RunsOf m) late h same =
     let bounds = few code l new m h.1 in
     let frame = bounds.frame in
@@ -92,9 +92,9 @@ some_row [] cells h = cc
 some_row (row ∷ rows) cells h = omega arith
 
 -- where none is open it fails
-pub takes_none : (code : Code) (g : Game) (l : Limits) (m : Mid) (whole : Gathered) (into : Value) (b : ℕ) (r : Memory) (out : Outside) → out.gathered.rows ≡ [] → Holds code l r m → Around out g l m → FallsWith code g l r (Resumes (Takes b)) r Fails out (takes_newest (setting g code l) whole into m.gathered m)
+pub takes_none : (code : Code) (g : Game) (l : Limits) (m : Mid) (whole : Gathered) (into : Value) (b : ℕ) (r : Memory) (out : Outside) → out.gathered.rows ≡ [] → Holds code l r m → Around out g l m → FallsWith code g l (with_way r (Takes b)) Resumes r Fails out (takes_newest (setting g code l) whole into m.gathered m)
 takes_none code g l m whole into b r out none h w =
-    subst (λ gs. FallsWith code g l r (Resumes (Takes b)) r Fails out (takes_newest (setting g code l) whole into gs m)) (sym (none_in out.gathered.rows m.gathered none w.0.1.0))
+    subst (λ gs. FallsWith code g l (with_way r (Takes b)) Resumes r Fails out (takes_newest (setting g code l) whole into gs m)) (sym (none_in out.gathered.rows m.gathered none w.0.1.0))
     (record { done = record { stands = h; falls = omega arith }; outside = w })
 
 -- the newest is dropped
@@ -138,20 +138,20 @@ module _ (code : Code) (g : Game) (l : Limits) (m : Mid) (r : Memory) (out out' 
   total_is o sums = sums x.newest.values x.cells_are x.formed
 
   module _ (b : ℕ) (into : Value) where
-    pub sum_none : None ≡ total x.newest.values → FallsWith code g l r (Resumes (Takes b)) (record r { gathered = height }) Fails out' (takes_newest (setting g code l) Sum into m.gathered m)
+    pub sum_none : None ≡ total x.newest.values → FallsWith code g l (with_way r (Takes b)) Resumes (record r { gathered = height }) Fails out' (takes_newest (setting g code l) Sum into m.gathered m)
     sum_none none =
-        subst (FallsWith code g l r (Resumes (Takes b)) (record r { gathered = height }) Fails out') (sym (takes_is Sum into ∙ gives_none (setting g code l) into left_m summed refl (total x.newest.values) none))
+        subst (FallsWith code g l (with_way r (Takes b)) Resumes (record r { gathered = height }) Fails out') (sym (takes_is Sum into ∙ gives_none (setting g code l) into left_m summed refl (total x.newest.values) none))
         (record { done = record { stands = left_held; falls = omega arith }; outside = left_around })
 
     pub sum_some : (n : ℕ) (new : Memory) (now : Now) → Some n ≡ total x.newest.values → GoesLate now → choices_left new.choices.items ≡ choices_left r.choices.items →
-        Stands code l new now (unified (setting g code l) (unify left_m.state.subst into (leaf (Num n))) left_m (RunsOf (bound (unify left_m.state.subst into (leaf (Num n))) left_m))) → FallsWith code g l r (Resumes (Takes b)) new now out' (takes_newest (setting g code l) Sum into m.gathered m)
+        Stands code l new now (unified (setting g code l) (unify left_m.state.subst into (leaf (Num n))) left_m (RunsOf (bound (unify left_m.state.subst into (leaf (Num n))) left_m))) → FallsWith code g l (with_way r (Takes b)) Resumes new now out' (takes_newest (setting g code l) Sum into m.gathered m)
     sum_some n new now some late same stands =
         let set = setting g code l in
         let u = unify left_m.state.subst into (leaf (Num n)) in
         let s = done set (gives_number (Some n) into (registers_of left_m) summed) left_m in
         let is : s ≡ unified set u left_m (RunsOf (bound u left_m)) = gives_some set into left_m summed refl (Some n) n refl in
         let there : Stands code l new now s = subst (Stands code l new now) (sym is) stands in
-        subst (FallsWith code g l r (Resumes (Takes b)) new now out') (sym (takes_is Sum into ∙ ap (λ o. done set (gives_number o into (registers_of left_m) summed) left_m) (sym some))) (record {
+        subst (FallsWith code g l (with_way r (Takes b)) Resumes new now out') (sym (takes_is Sum into ∙ ap (λ o. done set (gives_number o into (registers_of left_m) summed) left_m) (sym some))) (record {
           done = record { stands = there; falls = late_falls code l b r new now s late there same };
           outside = has_outside out' g l left_m s (has_unifies left_m.outside left_m.gathered set (registers_of left_m) ((into, leaf (Num n)) ∷ []) summed left_m refl refl) left_around;
         })
@@ -159,7 +159,7 @@ module _ (code : Code) (g : Game) (l : Limits) (m : Mid) (r : Memory) (out out' 
 -- ## The choice goes on
 
 pub goes_takes : (code : Code) (g : Game) (l : Limits) (m : Mid) (b : ℕ) (r new : Memory) (now : Now) (out out' : Outside) (ops : List Op) (on : WayOf) → WayAt code (meaning_of r.arena) r.args.items (Takes b) on → IsBuilt code → ops ≡ block_at code b → TakesOut code b r out ops new now out' → Holds code l r m → Around out g l m →
-    FallsWith code g l r (Resumes (Takes b)) new now out' (goes_on (setting g code l) on m)
+    FallsWith code g l (with_way r (Takes b)) Resumes new now out' (goes_on (setting g code l) on m)
 goes_takes code g l m b r new now out out' ops (TakesOf b' into) at built is out_of h w =
-    subst (λ xs. FallsWith code g l r (Resumes (Takes b)) new now out' (takes (setting g code l) into xs m)) (is ∙ ap (block_at code) (sym at.0)) (out_of g l m into built is (refl, at.1, at.2) h w)
+    subst (λ xs. FallsWith code g l (with_way r (Takes b)) Resumes new now out' (takes (setting g code l) into xs m)) (is ∙ ap (block_at code) (sym at.0)) (out_of g l m into built is (refl, at.1, at.2) h w)
 goes_takes code g l m b r new now out out' ops on at built is out_of h w = absurd at

@@ -43,7 +43,7 @@ use Rattle.dg_machine.specs.declared.now.Way.TheVariants.{Tries}
 use Rattle.dg_machine.specs.Finding.{landed, IsLight, MissesIn, LandsAt, Tried, TriesFirst}
 use Rattle.dg_machine.specs.Layout.{WayAt, Holds, Lacks, Matched, Unmatched}
 use Rattle.dg_machine.specs.Links.{below}
-use Rattle.dg_machine.specs.Measure.{lap, left_of, choices_left, way_left}
+use Rattle.dg_machine.specs.Measure.{lap, left_of, choices_left, way_left, with_way}
 use Rattle.dg_machine.specs.Refs.{RefsAt}
 use Rattle.dg_machine.specs.Seeking.{WaySeeks}
 use Rattle.dg_machine.specs.Standing.{Stands, Falls, Around, HoldsAround}
@@ -56,7 +56,7 @@ use Rattle.dg_machine.proofs.Unifying.{done_unifies}
 
 -- a choice of objects goes on
 pub go_tries : (code : Code) (g : Game) (l : Limits) (m : Mid) (out : Outside) (k : Search) (from end : ℕ) (r new : Memory) (now : Now) (on : WayOf) → WaySeeks g code on → Around out g l m → WayAt code (meaning_of r.arena) r.args.items (Tries k from end) on →
-    TriesFirst code out r k from end new now → Holds code l r m → Falls code l r (Resumes (Tries k from end)) new now (goes_on (setting g code l) on m)
+    TriesFirst code out r k from end new now → Holds code l r m → Falls code l (with_way r (Tries k from end)) Resumes new now (goes_on (setting g code l) on m)
 go_tries code g l m out k from end r new now (TriesOf f objects) seeks around at tried h = tried g l m f objects seeks around at.0 at.1 h
 go_tries code g l m out k from end r new now on seeks around at tried h = absurd at
 
@@ -192,8 +192,8 @@ light_in r new (Leaves height ops) c f i few_f few_i light = omega (arith, c, f,
 light_in r new Misses c f i few_f few_i light = omega (arith, c)
 light_in r new Fails c f i few_f few_i light = omega (arith, c)
 light_in r new (Ended e) c f i few_f few_i light = omega (arith, c)
-light_in r new (Enters k ops) c f i few_f few_i light = absurd light
-light_in r new (Resumes way) c f i few_f few_i light = absurd light
+light_in r new (Enters ops) c f i few_f few_i light = absurd light
+light_in r new Resumes c f i few_f few_i light = absurd light
 
 -- what is next is little, where no choice goes on
 pub light_left : (code : Code) (l : Limits) (r new : Memory) (m : Mid) (now : Now) → Holds code l r m → new ≡ record r { arena = new.arena } → IsLight now → left_of new now < lap * (choices_left r.choices.items + 1)
@@ -205,17 +205,17 @@ light_left code l r new m now h same light =
 
 module _ (code : Code) (g : Game) (l : Limits) (m : Mid) (k : Search) (from end : ℕ) (f : FindOf) (objects : List ℕ) (r : Memory) (h : Holds code l r m) (is : objects ≡ counted from (end - from)) where
   -- none is left
-  pub first_none : end ≤ from → Falls code l r (Resumes (Tries k from end)) r Fails (tries (setting g code l) f objects m)
-  first_none le = subst (λ os. Falls code l r (Resumes (Tries k from end)) r Fails (tries (setting g code l) f os m)) (sym (is ∙ counted_none from end le)) (record { stands = h; falls = omega arith })
+  pub first_none : end ≤ from → Falls code l (with_way r (Tries k from end)) Resumes r Fails (tries (setting g code l) f objects m)
+  first_none le = subst (λ os. Falls code l (with_way r (Tries k from end)) Resumes r Fails (tries (setting g code l) f os m)) (sym (is ∙ counted_none from end le)) (record { stands = h; falls = omega arith })
 
   others_are : from < end → objects ≡ from ∷ counted (from + 1) (end - (from + 1))
   others_are lt = is ∙ counted_first from end lt
 
   -- it is the last one
-  pub first_last : (new : Memory) (now : Now) → from < end → end ≤ from + 1 → Tried code l r new now (done (setting g code l) (found_at [] f from (trying (setting g code l) f [] m)) (trying (setting g code l) f [] m)) → Falls code l r (Resumes (Tries k from end)) new now (tries (setting g code l) f objects m)
+  pub first_last : (new : Memory) (now : Now) → from < end → end ≤ from + 1 → Tried code l r new now (done (setting g code l) (found_at [] f from (trying (setting g code l) f [] m)) (trying (setting g code l) f [] m)) → Falls code l (with_way r (Tries k from end)) Resumes new now (tries (setting g code l) f objects m)
   first_last new now lt le t =
       let falls = t.falls in
-      subst (λ os. Falls code l r (Resumes (Tries k from end)) new now (tries (setting g code l) f os m)) (sym (others_are lt ∙ ap (λ os. from ∷ os) (counted_none (from + 1) end le)))
+      subst (λ os. Falls code l (with_way r (Tries k from end)) Resumes new now (tries (setting g code l) f os m)) (sym (others_are lt ∙ ap (λ os. from ∷ os) (counted_none (from + 1) end le)))
       (record { stands = t.stands; falls = omega (arith, falls, lt) })
 
   -- others are left
@@ -235,22 +235,22 @@ module _ (code : Code) (g : Game) (l : Limits) (m : Mid) (k : Search) (from end 
     parts : (trying (setting g code l) f rest m ≡ landed code f (place_of m) (inside (TriesOf f rest) (length f.args) m)) × (trying_cells f rest ≡ 10 + length f.args)
     parts = let made = some_left lt in tries_some rest made.0 made.1 made.2
 
-    pub first_full : (new : Memory) → Lacks (10 + length f.args) l m.state.heap new → Falls code l r (Resumes (Tries k from end)) new (Ended ending.HeapLimit) (tries (setting g code l) f objects m)
+    pub first_full : (new : Memory) → Lacks (10 + length f.args) l m.state.heap new → Falls code l (with_way r (Tries k from end)) Resumes new (Ended ending.HeapLimit) (tries (setting g code l) f objects m)
     first_full new over =
         let m' = trying (setting g code l) f rest m in
-        subst (λ os. Falls code l r (Resumes (Tries k from end)) new (Ended ending.HeapLimit) (tries (setting g code l) f os m)) (sym (others_are (omega (arith, lt))))
+        subst (λ os. Falls code l (with_way r (Tries k from end)) Resumes new (Ended ending.HeapLimit) (tries (setting g code l) f os m)) (sym (others_are (omega (arith, lt))))
         (record {
           stands = full_stands code g l (trying_cells f rest) m (done (setting g code l) (found_at [] f from m') m') r new h (subst (λ n. Lacks n l m.state.heap new) (sym parts.1) over);
           falls = omega arith;
         })
 
     pub first_others : (mid new : Memory) (now : Now) → Holds code l mid (inside on (length f.args) m) → choices_left mid.choices.items ≡ choices_left r.choices.items + way_left (Tries k (from + 1) end) →
-        Tried code l mid new now (done (setting g code l) (found_at [] f from (landed code f (place_of m) (inside on (length f.args) m))) (landed code f (place_of m) (inside on (length f.args) m))) → Falls code l r (Resumes (Tries k from end)) new now (tries (setting g code l) f objects m)
+        Tried code l mid new now (done (setting g code l) (found_at [] f from (landed code f (place_of m) (inside on (length f.args) m))) (landed code f (place_of m) (inside on (length f.args) m))) → Falls code l (with_way r (Tries k from end)) Resumes new now (tries (setting g code l) f objects m)
     first_others mid new now held left t =
         let m1 = landed code f (place_of m) (inside on (length f.args) m) in
         let stands : Stands code l new now (done (setting g code l) (found_at [] f from (trying (setting g code l) f rest m)) (trying (setting g code l) f rest m)) = subst (λ x. Stands code l new now (done (setting g code l) (found_at [] f from x) x)) (sym parts.0) t.stands in
         let falls = t.falls in
-        subst (λ os. Falls code l r (Resumes (Tries k from end)) new now (tries (setting g code l) f os m)) (sym (others_are (omega (arith, lt))))
+        subst (λ os. Falls code l (with_way r (Tries k from end)) Resumes new now (tries (setting g code l) f os m)) (sym (others_are (omega (arith, lt))))
         (record {
           stands = charged_led code g l (trying_cells f rest) m (inside on (length f.args) m) _ mid new now held (ap (λ n. m.state.heap + n) (sym parts.1)) stands;
           falls = omega (arith, falls, left, lt);

@@ -22,7 +22,6 @@ use Rattle.dg_mid.specs.Left.{left_behind}
 use Rattle.dg_mid.specs.Runs.{after, left_after}
 use Rattle.dg_mid.proofs.Heights.{all_ordered}
 use Rattle.dg_spacing.specs.declared.spacer.Spacer.{Spacer}
-use Rattle.dg_machine.specs.declared.now.Call.{Call}
 use Rattle.dg_machine.specs.declared.now.Now.{Now}
 use Rattle.dg_machine.specs.declared.now.Now.TheVariants.{Runs, Enters, Resumes, Leaves, Misses, Fails, Ended}
 use Rattle.dg_machine.specs.declared.memory.Memory.{Memory}
@@ -53,9 +52,9 @@ pub held_at : (tb : Tables) (code : Code) (r : Memory) (ops : Bor (List Op)) →
 held_at tb code r ops s = let at = goal_at code s.game s.limits s.typed r ops (after (setting s.game code s.limits) s.typed s.steps).now s.stands in (s.limits, at.mid, at.held)
 
 -- a quick step enters a rule, or code is at hand
-pub not_quick : (now : Now) → IsQuick now → ((k : Call) (ops : Bor (List Op)) → now ≡ Enters k ops → ⊥) → ((ops : Bor (List Op)) → now ≡ Runs ops → ⊥) → ⊥
+pub not_quick : (now : Now) → IsQuick now → ((ops : Bor (List Op)) → now ≡ Enters ops → ⊥) → ((ops : Bor (List Op)) → now ≡ Runs ops → ⊥) → ⊥
 not_quick (Runs ops) quick e r = r ops refl
-not_quick (Enters k ops) quick e r = e k ops refl
+not_quick (Enters ops) quick e r = e ops refl
 not_quick now quick e r = quick
 
 quiet_unread : (x : Op) → IsQuietOp x → ReadsNone x
@@ -153,8 +152,8 @@ module _ (code : Code) (g : Game) (l : Limits) (typed : List ℕ) where
       let at = goal_at code g l typed r ops (after set typed h.steps).now h.stands in
       record { steps = h.steps; ends = inr (refl, none, ap takes_goal at.is ∙ ap at_goal at.code_is.0 ∙ e); goals_is = h.goals_is; text = h.text; left_is = h.left_is; roomy = roomy code l at.mid r at.held }
   limited_at r out (Ended x) goals left s start k rest e other none h = absurd (other x refl)
-  limited_at r out (Enters c ops) goals left s start k rest e other none h = absurd (cc)
-  limited_at r out (Resumes way) goals left s start k rest e other none h = absurd (cc)
+  limited_at r out (Enters ops) goals left s start k rest e other none h = absurd (cc)
+  limited_at r out Resumes goals left s start k rest e other none h = absurd (cc)
   limited_at r out (Leaves height ops) goals left s start k rest e other none h = absurd (cc)
   limited_at r out Misses goals left s start k rest e other none h = absurd (cc)
   limited_at r out Fails goals left s start k rest e other none h = absurd (cc)
@@ -305,8 +304,8 @@ end_rests now h = absurd h
 pub rests_else : (now : Now) → rests now ≡ true → ((ops : Bor (List Op)) → now ≡ Runs ops → ⊥) → ((e : Ending) → now ≡ Ended e → ⊥) → ⊥
 rests_else (Runs ops) e r x = r ops refl
 rests_else (Ended y) e r x = x y refl
-rests_else (Enters c ops) e r x = absurd (cc)
-rests_else (Resumes way) e r x = absurd (cc)
+rests_else (Enters ops) e r x = absurd (cc)
+rests_else Resumes e r x = absurd (cc)
 rests_else (Leaves height ops) e r x = absurd (cc)
 rests_else Misses e r x = absurd (cc)
 rests_else Fails e r x = absurd (cc)

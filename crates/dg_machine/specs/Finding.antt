@@ -26,7 +26,7 @@ use Rattle.dg_machine.specs.declared.now.Way.TheVariants.{Tries}
 use Rattle.dg_machine.specs.declared.tables.Tables.{Tables}
 use Rattle.dg_machine.specs.Built.{LeavesFirst, OpBuilt}
 use Rattle.dg_machine.specs.Layout.{FindAt, Holds}
-use Rattle.dg_machine.specs.Measure.{lap, left_of, choices_left}
+use Rattle.dg_machine.specs.Measure.{lap, left_of, choices_left, with_way}
 use Rattle.dg_machine.specs.Refs.{RefsAt}
 use Rattle.dg_machine.specs.Seeking.{WaySeeks}
 use Rattle.dg_machine.specs.Standing.{CodeIs, Stands, Falls, Around}
@@ -91,8 +91,8 @@ landed code f p m = record m { ops = block_at code f.next; inner = inner_for f.m
 
 -- Neither a rule is entered next, nor does a choice go on.
 abbrev pub IsLight : Now → Type 0
-IsLight (Enters k ops) = ⊥
-IsLight (Resumes way) = ⊥
+IsLight (Enters ops) = ⊥
+IsLight Resumes = ⊥
 IsLight now = Unit {0}
 
 -- It fails where an object was tried.
@@ -121,4 +121,4 @@ abbrev pub TriesFirst : Code → Outside → Memory → Search → ℕ → ℕ �
 TriesFirst code out old k from end new after = (g : Game) (l : Limits) (m : Mid) (f : FindOf) (objects : List ℕ) →
     WaySeeks g code (TriesOf f objects) → Around out g l m → FindAt (meaning_of old.arena) old.args.items k f →
     objects ≡ counted from (end - from) → Holds code l old m →
-    Falls code l old (Resumes (Tries k from end)) new after (tries (setting g code l) f objects m)
+    Falls code l (with_way old (Tries k from end)) Resumes new after (tries (setting g code l) f objects m)

@@ -29,11 +29,15 @@ choices_left (k ∷ ks) = way_left k.way + choices_left ks
 abbrev pub lap : ℕ
 lap = 1000000000000000000000000000000
 
+-- Memory with this way at hand.
+abbrev pub with_way : Memory → Way → Memory
+with_way r way = record r { way = way }
+
 -- A number that falls at each step that takes no goal: by choices, then by frames, then by inner constructs, then by jumps.
 abbrev pub left_of : Memory → Now → ℕ
 left_of r (Runs ops) = lap * choices_left r.choices.items + 1000000000000 * r.frame + 2 * r.inner + 2 + jumping ops.now
-left_of r (Enters k ops) = lap * choices_left r.choices.items + 500000000000000000000000000000
-left_of r (Resumes way) = lap * (choices_left r.choices.items + way_left way)
+left_of r (Enters ops) = lap * choices_left r.choices.items + 500000000000000000000000000000
+left_of r Resumes = lap * (choices_left r.choices.items + way_left r.way)
 left_of r (Leaves height ops) = lap * choices_left r.choices.items + 1000000000000 * r.frame + 2 * r.inner + 4
 left_of r Misses = lap * choices_left r.choices.items + 1
 left_of r Fails = lap * choices_left r.choices.items + 1

@@ -43,7 +43,7 @@ use Rattle.dg_machine.specs.declared.now.Now.TheVariants.{Runs, Enters, Resumes,
 use Rattle.dg_machine.specs.declared.memory.Memory.{Memory}
 use Rattle.dg_machine.specs.Refs.{RefsAt, AreRefs}
 use Rattle.dg_machine.specs.Layout.{CallAt, RulesAt, WayAt, Roomy, Holds}
-use Rattle.dg_machine.specs.Measure.{left_of}
+use Rattle.dg_machine.specs.Measure.{left_of, with_way}
 use Rattle.dg_machine.specs.declared.tables.Tables.{Tables}
 use Rattle.dg_machine.specs.Tables.{IsOf}
 use Rattle.dg_machine.specs.Built.{OpBuilt, OpsBuilt, IsBuilt}
@@ -73,8 +73,8 @@ LeadsOut ops m = (m.ops ≡ op.Commit ∷ ops) × OpsBuilt ops
 -- What is done next is what a status is in, and memory holds it; where the run has ended it has room still.
 abbrev pub Stands : Code → Limits → Memory → Now → Status → Type 0
 Stands code l r (Runs ops) (RunsOf m) = CodeIs ops.now m × Holds code l r m
-Stands code l r (Enters k ops) (EntersOf c m) = CodeIs ops.now m × CallAt (meaning_of r.arena) r.args.items k c × Holds code l r m
-Stands code l r (Resumes way) (ResumesOf way' m) = WayAt code (meaning_of r.arena) r.args.items way way' × Holds code l r m
+Stands code l r (Enters ops) (EntersOf c m) = CodeIs ops.now m × CallAt (meaning_of r.arena) r.args.items r.call c × Holds code l r m
+Stands code l r Resumes (ResumesOf way' m) = WayAt code (meaning_of r.arena) r.args.items r.way way' × Holds code l r m
 Stands code l r (Leaves height ops) (RunsOf m) = LeadsOut ops.now m × (x : HoldsAround code l r m) × (x.innermost.height ≡ height)
 Stands code l r Misses (FailsOf m) = HoldsAround code l r m
 Stands code l r Fails (FailsOf m) = Holds code l r m
@@ -142,7 +142,7 @@ DoesMark code old ops x rest new after = (g : Game) (l : Limits) (m : Mid) → M
 -- number that falls has fallen.
 pub record CallBegins (code : Code) (l : Limits) (old : Memory) (k : Call) (pred left : ℕ) (new : Memory) (after : Now) (s : Status) : Type 0 where
   pub stands : Stands code l new after s
-  pub falls : left_of new after < left_of old (Resumes (Calls k pred left))
+  pub falls : left_of new after < left_of (with_way old (Calls k pred left)) Resumes
 
 abbrev pub CallsRules : Code → Memory → Call → ℕ → ℕ → Memory → Now → Type 0
 CallsRules code old k pred left new after = (g : Game) (l : Limits) (m : Mid) (c : CallOf) (rules : List RuleCode) → Holds code l old m →
@@ -167,12 +167,12 @@ AsksLast code old pred many new after = (g : Game) (l : Limits) (m : Mid) (vs : 
 -- A call enters a rule.
 abbrev pub EntersRule : Tables → Code → Memory → Call → Bor (List Op) → Memory → Now → Type 0
 EntersRule t code old k ops new after = (g : Game) → IsOf g.program t → (l : Limits) (m : Mid) (c : CallOf) → CodeIs ops.now m →
-    CallAt (meaning_of old.arena) old.args.items k c → Holds code l old m → Falls code l old (Enters k ops) new after (entered (setting g code l) c m.ops m)
+    CallAt (meaning_of old.arena) old.args.items k c → Holds code l old m → Falls code l old (Enters ops) new after (entered (setting g code l) c m.ops m)
 
 -- A call enters a rule of so many variables and this head, with these instructions behind it.
 abbrev pub EntersIn : Tables → Code → Memory → Call → ℕ → List Term → List Op → Memory → Now → Type 0
 EntersIn t code old k vars head rest new after = (g : Game) → IsOf g.program t → (l : Limits) (m : Mid) (c : CallOf) (ops : Bor (List Op)) → CodeIs rest m →
-    CallAt (meaning_of old.arena) old.args.items k c → Holds code l old m → Falls code l old (Enters k ops) new after (enter (setting g code l) c vars head m)
+    CallAt (meaning_of old.arena) old.args.items k c → Holds code l old m → Falls code l old (Enters ops) new after (enter (setting g code l) c vars head m)
 
 -- The rules that a choice goes on with are there, and the arguments at hand.
 abbrev pub IsThere : Code → Memory → Way → Type 0
@@ -184,25 +184,25 @@ IsThere code r (Tries k from end) = AreRefs (meaning_of r.arena) r.args.items
 -- A choice goes on at a block, with a number of an earlier block where that begins with it.
 abbrev pub GoesOnAt : Code → ℕ → Memory → Bor (List Op) → Memory → Now → Type 0
 GoesOnAt code b old ops new after = (g : Game) (l : Limits) (m : Mid) → Tidy code → IsBuilt code → ops.now ≡ block_at code b → Holds code l old m →
-    Falls code l old (Resumes (Goes b)) new after (goes_on (setting g code l) (GoesOf b) m)
+    Falls code l (with_way old (Goes b)) Resumes new after (goes_on (setting g code l) (GoesOf b) m)
 
 -- The newest gathering is taken out so, for the second value at hand.
 abbrev pub TakesNewest : Code → Gathered → ℕ → Memory → Outside → List Op → Memory → Now → Outside → Type 0
 TakesNewest code whole b old out rest new after out' = (g : Game) (l : Limits) (m : Mid) (v into : Value) → CodeIs rest m → Holds code l old m →
     RefsAt (meaning_of old.arena) old.args.items (v ∷ into ∷ []) → Around out g l m →
-    FallsWith code g l old (Resumes (Takes b)) new after out' (takes_newest (setting g code l) whole into m.gathered m)
+    FallsWith code g l (with_way old (Takes b)) Resumes new after out' (takes_newest (setting g code l) whole into m.gathered m)
 
 -- A gathering is taken out at these instructions.
 abbrev pub TakesOut : Code → ℕ → Memory → Outside → List Op → Memory → Now → Outside → Type 0
 TakesOut code b old out ops new after out' = (g : Game) (l : Limits) (m : Mid) (into : Value) → IsBuilt code → ops ≡ block_at code b →
     WayAt code (meaning_of old.arena) old.args.items (Takes b) (TakesOf b into) → Holds code l old m → Around out g l m →
-    FallsWith code g l old (Resumes (Takes b)) new after out' (takes (setting g code l) into ops m)
+    FallsWith code g l (with_way old (Takes b)) Resumes new after out' (takes (setting g code l) into ops m)
 
 -- A choice goes on.
 abbrev pub GoesOn : Code → Memory → Outside → Way → Memory → Now → Outside → Type 0
 GoesOn code old out way new after out' = (g : Game) (l : Limits) (m : Mid) (on : WayOf) → WaySeeks g code on →
     WayAt code (meaning_of old.arena) old.args.items way on → Holds code l old m → Around out g l m →
-    FallsWith code g l old (Resumes way) new after out' (goes_on (setting g code l) on m)
+    FallsWith code g l (with_way old way) Resumes new after out' (goes_on (setting g code l) on m)
 
 -- A choice opens inside which the first value at hand is gathered, to be taken out for the second.
 abbrev pub GathersFor : Code → Memory → Outside → ℕ → List Op → Memory → Now → Outside → Type 0

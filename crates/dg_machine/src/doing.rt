@@ -76,6 +76,7 @@ fn behind<'p>(did: Did, rest: &'p [Op]) -> Now<'p>
 
 impl Memory {
     /// A choice opens whose other way is a block.
+    #[inline(always)]
     pub fn branch<'p>(&mut self, alt: u32, rest: &'p [Op]) -> Now<'p>
         requires room { HasRoom self.old }
         ensures { (t : TheTables) → (code : TheCode) → DoesOp t code self.old (op.Branch alt) rest.now self.new result }
@@ -87,6 +88,7 @@ impl Memory {
     }
 
     /// The same, and an inner construct begins.
+    #[inline(always)]
     pub fn attempt<'p>(&mut self, alt: u32, rest: &'p [Op]) -> Now<'p>
         requires room { HasRoom self.old }
         ensures { (t : TheTables) → (code : TheCode) → DoesOp t code self.old (op.Try alt) rest.now self.new result }
@@ -102,6 +104,7 @@ impl Memory {
     }
 
     /// An inner construct begins whose first answer is taken.
+    #[inline(always)]
     pub fn once<'p>(&mut self, rest: &'p [Op]) -> Now<'p>
         requires room { HasRoom self.old }
         ensures { (t : TheTables) → (code : TheCode) → DoesOp t code self.old op.Once rest.now self.new result }
@@ -117,6 +120,7 @@ impl Memory {
     }
 
     /// Cuts to where the rule at hand began.
+    #[inline(always)]
     pub fn just<'p>(&mut self, rest: &'p [Op]) -> Now<'p>
         ensures { (t : TheTables) → (code : TheCode) → DoesOp t code self.old (op.Do action.Just) rest.now self.new result }
     {
@@ -133,6 +137,7 @@ impl Memory {
     }
 
     /// Two values are unified.
+    #[inline(always)]
     pub fn equal<'p>(&mut self, tables: &Tables, a: &Term, b: &Term, rest: &'p [Op]) -> Now<'p>
         requires { (code : TheCode) × (l : Limits) × (m : Mid) × Holds code l self.old m }
         ensures { (code : TheCode) → DoesOp tables.now code self.old (op.Do (action.Equal a.now b.now)) rest.now self.new result }
@@ -148,6 +153,7 @@ impl Memory {
     }
 
     /// A value is tested.
+    #[inline(always)]
     pub fn test<'p>(&mut self, tables: &Tables, kind: TestKind, a: &Term, rest: &'p [Op]) -> Now<'p>
         requires { (code : TheCode) × (l : Limits) × (m : Mid) × Holds code l self.old m }
         ensures { (code : TheCode) → DoesOp tables.now code self.old (op.Do (action.Test kind a.now)) rest.now self.new result }
@@ -165,6 +171,7 @@ impl Memory {
     }
 
     /// Two values are compared.
+    #[inline(always)]
     pub fn compare<'p>(
         &mut self,
         tables: &Tables,
@@ -189,6 +196,7 @@ impl Memory {
     }
 
     /// What is calculated of two arguments is unified with a third.
+    #[inline(always)]
     fn calculate<'p>(&mut self, by: ArithOp, rest: &'p [Op]) -> Now<'p>
         requires { (u v w : Value) × RefsAt (meaning_of self.old.arena) self.old.args.items (u ∷ v ∷ w ∷ []) }
         ensures { (code : TheCode) → Calculates code by self.old rest.now self.new result }
@@ -204,6 +212,7 @@ impl Memory {
     }
 
     /// What is calculated of two values is unified with a third.
+    #[inline(always)]
     pub fn arith<'p>(
         &mut self,
         tables: &Tables,
@@ -375,11 +384,15 @@ impl Memory {
     {
         let ops = code_at(code, block);
         if left == 0 {
-            return Now::Enters(call, ops);
+            self.call = call;
+            return Now::Enters(ops);
         }
         let count = self.args.len();
         match self.open(Way::Calls(call, pred, left), count) {
-            Ok(()) => Now::Enters(call, ops),
+            Ok(()) => {
+                self.call = call;
+                Now::Enters(ops)
+            }
             Err(_) => Now::Ended(Ending::HeapLimit),
         }
     }
@@ -684,6 +697,7 @@ impl Memory {
     }
 
     /// A closure is asked.
+    #[inline(always)]
     pub fn query<'p>(
         &mut self,
         tables: &Tables,
@@ -699,11 +713,15 @@ impl Memory {
     {
         match self.put_query(tables, a, b) {
             Err(_) => Now::Ended(Ending::HeapLimit),
-            Ok(()) => self.query_first(code, many, next),
+            Ok(()) => {
+                let now = self.query_first(code, many, next);
+                now
+            }
         }
     }
 
     /// A closure is asked in the last query of a rule.
+    #[inline(always)]
     pub fn query_last<'p>(
         &mut self,
         tables: &Tables,
@@ -718,24 +736,27 @@ impl Memory {
     {
         match self.put_query(tables, a, b) {
             Err(_) => Now::Ended(Ending::HeapLimit),
-            Ok(()) => self.query_last_first(code, many),
+            Ok(()) => {
+                let now = self.query_last_first(code, many);
+                now
+            }
         }
     }
 
     /// A call enters a rule.
     #[inline(always)]
-    pub fn enter_rule<'p>(&mut self, tables: &Tables, call: Call, ops: &'p [Op]) -> Now<'p>
+    pub fn enter_rule<'p>(&mut self, tables: &Tables, ops: &'p [Op]) -> Now<'p>
         requires room { HasRoom self.old }
         requires args { AreRefs (meaning_of self.old.arena) self.old.args.items }
         requires built { OpsBuilt ops.now }
-        ensures { (code : TheCode) → EntersRule tables.now code self.old call ops.entry self.new result }
+        ensures { (code : TheCode) → EntersRule tables.now code self.old self.old.call ops.entry self.new result }
     {
         match ops {
             [] => Now::Fails,
             [op, rest @ ..] => match op {
                 Op::Enter(vars, head) => {
                     let flat = head.flat_cells();
-                    let did = self.enter(tables, call, *vars, head.terms(), flat);
+                    let did = self.enter(tables, self.call, *vars, head.terms(), flat);
                     behind(did, rest)
                 }
                 _ => Now::Fails,
@@ -795,7 +816,8 @@ impl Memory {
             None => Now::Ended(Ending::Failed),
             Some(way) => {
                 outside.close_to(self.gathered);
-                Now::Resumes(way)
+                self.way = way;
+                Now::Resumes
             }
         }
     }

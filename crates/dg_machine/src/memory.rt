@@ -45,7 +45,8 @@ use std::alloc::{AllocError, Global};
 
 /// A store, with areas of frames, of inner constructs, of choices, of stoppable parts and of the Refs that choices keep, the
 /// arguments of a call, the values of a head, a path into a term that is written, which frame and which inner construct are at
-/// hand, which stoppable part is open, and how many gatherings are. A stoppable part is kept as the choice that opened with it.
+/// hand, which stoppable part is open, how many gatherings are, the call that is about to enter a rule, and the way in which a
+/// choice is about to go on. A stoppable part is kept as the choice that opened with it.
 #[derive(Drop)]
 pub struct Memory {
     pub arena: Arena,
@@ -61,6 +62,8 @@ pub struct Memory {
     pub inner: usize,
     pub stop: usize,
     pub gathered: usize,
+    pub call: Call,
+    pub way: Way,
 }
 
 /// Drops the choices that aren't older than a height of the heap.
@@ -112,6 +115,12 @@ impl Memory {
             inner: 0,
             stop: 0,
             gathered: 0,
+            call: Call {
+                next: 0,
+                many: false,
+                cut: 0,
+            },
+            way: Way::Goes(0),
         })
     }
 

@@ -100,14 +100,14 @@ pub enum Side {
     Tail(Ref),
 }
 
-/// What is done next: the code at hand, a rule is entered, what a choice had left goes on, it fails, or the run has ended. Where one
-/// object is wanted and was tried, an inner construct is around that took no cells and isn't kept: it is left, and code goes on, or
-/// it fails.
+/// What is done next: the code at hand, a rule is entered by the call that memory has, what a choice had left goes on in the way
+/// that memory has, it fails, or the run has ended. Where one object is wanted and was tried, an inner construct is around that took
+/// no cells and isn't kept: it is left, and code goes on, or it fails.
 #[derive(Clone, Copy, Drop)]
 pub enum Now<'p> {
     Runs(&'p [Op]),
-    Enters(Call, &'p [Op]),
-    Resumes(Way),
+    Enters(&'p [Op]),
+    Resumes,
     Leaves(u32, &'p [Op]),
     Misses,
     Fails,

@@ -186,7 +186,8 @@ impl Memory {
         match subject_of(first) {
             Subject::Open => {
                 let end = tables.objects.len() as u16;
-                Now::Resumes(Way::Tries(search, 0, end))
+                self.way = Way::Tries(search, 0, end);
+                Now::Resumes
             }
             Subject::Thing(object) => self.read_object(outside, search.place, object, rest),
             Subject::Other => Now::Fails,

@@ -131,13 +131,36 @@ fn mark_step<'p>(
                 op => do_mark(memory, code, ops, op, rest),
             },
         },
-        Now::Enters(call, ops) => memory.enter_rule(tables, call, ops),
-        Now::Resumes(way) => memory.go_on(code, outside, way),
+        Now::Enters(ops) => memory.enter_rule(tables, ops),
+        Now::Resumes => {
+            let way = memory.way;
+            memory.go_on(code, outside, way)
+        }
         Now::Leaves(height, ops) => memory.leave_around(height, ops),
         Now::Misses => memory.fail(outside),
         Now::Fails => memory.fail(outside),
         Now::Ended(ending) => Now::Ended(ending),
     }
+}
+
+/// The same, with a place of its own for what it comes to.
+#[inline(always)]
+fn mark_apart<'p>(
+    memory: &mut Memory,
+    code: &'p Code,
+    tables: &Tables,
+    outside: &mut Outside<'_>,
+    now: Now<'p>,
+) -> Now<'p>
+    requires built { IsBuilt code.now }
+    requires tidy { Tidy code.now }
+    requires some { HasStatus code.now memory.old now }
+    requires mark { rests now ≡ false }
+    ensures done { DoesMarks tables.now code.now memory.old outside.old now.entry memory.new outside.new result }
+    ensures sites { outside.new.sites ≡ outside.old.sites }
+{
+    let next = mark_step(memory, code, tables, outside, now);
+    next
 }
 
 /// Whether a rule is entered, or an inner construct or a rule is left, or code goes on at a block.
@@ -146,7 +169,7 @@ fn is_quick(now: Now<'_>) -> bool
     ensures { result ≡ true → IsQuick now.entry }
 {
     match now {
-        Now::Enters(_, _) => true,
+        Now::Enters(_) => true,
         Now::Runs(ops) => match ops {
             [] => false,
             [op, ..] => matches!(
@@ -169,7 +192,7 @@ fn quick_mark<'p>(memory: &mut Memory, code: &'p Code, tables: &Tables, now: Now
     ensures { (out : TheOutside) → DoesMarks tables.now code.now memory.old out now.entry memory.new out result }
 {
     match now {
-        Now::Enters(call, ops) => memory.enter_rule(tables, call, ops),
+        Now::Enters(ops) => memory.enter_rule(tables, ops),
         Now::Runs(ops) => match ops {
             [] => Now::Fails,
             [op, rest @ ..] => do_mark(memory, code, ops, op, rest),
@@ -192,6 +215,7 @@ fn event_of(kind: GapKind) -> Event<'static>
 }
 
 /// Does an action that prints nothing, and leaves what is outside.
+#[inline(never)]
 fn act<'p>(memory: &mut Memory, tables: &Tables, action: &'p Action, rest: &'p [Op]) -> Now<'p>
     requires some { (code : TheCode) × (l : Limits) × (m : Mid) × Holds code l memory.old m }
     requires built { ActionBuilt action.now }
@@ -209,6 +233,23 @@ fn act<'p>(memory: &mut Memory, tables: &Tables, action: &'p Action, rest: &'p [
         Action::Quit => Now::Ended(Ending::Quit),
         _ => Now::Fails,
     }
+}
+
+/// The same, with a place of its own for what it comes to.
+#[inline(always)]
+fn act_apart<'p>(
+    memory: &mut Memory,
+    tables: &Tables,
+    action: &'p Action,
+    rest: &'p [Op],
+) -> Now<'p>
+    requires some { (code : TheCode) × (l : Limits) × (m : Mid) × Holds code l memory.old m }
+    requires built { ActionBuilt action.now }
+    requires quiet { IsQuiet action.now }
+    ensures { (code : TheCode) → DoesOp tables.now code memory.old (op.Do action.now) rest.now memory.new result }
+{
+    let now = act(memory, tables, action, rest);
+    now
 }
 
 /// Does an instruction that takes a goal, prints nothing, and leaves what is outside.
@@ -229,7 +270,7 @@ fn do_quiet<'p>(
     ensures { DoesOp tables.now code.now memory.old op.now rest.now memory.new result }
 {
     match op {
-        Op::Do(action) => act(memory, tables, action, rest),
+        Op::Do(action) => act_apart(memory, tables, action, rest),
         Op::Ask(pred, terms, many, next) => memory.ask(
             tables,
             code,
@@ -463,7 +504,7 @@ fn settle<'p>(
         if is_quick(now) {
             now = quick_mark(memory, code, tables, now);
         } else {
-            now = mark_step(memory, code, tables, outside, now);
+            now = mark_apart(memory, code, tables, outside, now);
         }
     }
     now

@@ -41,6 +41,7 @@ impl Memory {
     }
 
     /// A stoppable part begins.
+    #[inline(always)]
     pub fn shield<'p>(&mut self, alt: u32, rest: &'p [Op]) -> Now<'p>
         requires room { HasRoom self.old }
         ensures { (t : TheTables) → (code : TheCode) → DoesOp t code self.old (op.Shield alt) rest.now self.new result }

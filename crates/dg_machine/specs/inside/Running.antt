@@ -60,7 +60,7 @@ rests now = false
 -- A rule is entered, or code is at hand whose first instruction leaves what is outside.
 abbrev pub IsQuick : Now → Type 0
 IsQuick (Runs ops) = BeginsQuietly ops.now
-IsQuick (Enters k ops) = Unit {0}
+IsQuick (Enters ops) = Unit {0}
 IsQuick now = ⊥
 
 -- ## Text

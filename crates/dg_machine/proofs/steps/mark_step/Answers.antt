@@ -25,12 +25,12 @@ returns-in-Keep-clause-done c =
 pub returns-in-Enters-clause-done : goal.returns-in-Enters-clause-done
 returns-in-Enters-clause-done c =
     subst (λ n. DoesMarks c.args.tables.now c.args.code.now c.args.memory.now c.args.outside.now n c.enter_rule.new.self c.args.outside.now c.enter_rule.result) (sym c.in-Enters.is)
-    (marks_enter c.args.tables.now c.args.code.now c.args.memory.now c.enter_rule.new.self c.args.outside.now c.enter_rule.result c.in-Enters.call c.in-Enters.ops (c.enter_rule.ensures c.args.code.now))
+    (marks_enter c.args.tables.now c.args.code.now c.args.memory.now c.enter_rule.new.self c.args.outside.now c.enter_rule.result c.in-Enters.ops (c.enter_rule.ensures c.args.code.now))
 
 pub returns-in-Resumes-clause-done : goal.returns-in-Resumes-clause-done
 returns-in-Resumes-clause-done c =
     subst (λ n. DoesMarks c.args.tables.now c.args.code.now c.args.memory.now c.args.outside.now n c.go_on.new.self c.go_on.new.outside c.go_on.result) (sym c.in-Resumes.is)
-    (marks_resume c.args.tables.now c.args.code.now c.args.memory.now c.go_on.new.self c.args.outside.now c.go_on.new.outside c.go_on.result c.in-Resumes.way c.go_on.ensures.goes_on)
+    (marks_resume c.args.tables.now c.args.code.now c.args.memory.now c.go_on.new.self c.args.outside.now c.go_on.new.outside c.go_on.result c.go_on.ensures.goes_on)
 
 pub returns-in-Fails-clause-done : goal.returns-in-Fails-clause-done
 returns-in-Fails-clause-done c =

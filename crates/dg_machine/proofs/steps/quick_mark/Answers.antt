@@ -15,7 +15,7 @@ do_mark-requires-clause-quiet c =
 pub returns-in-Enters : goal.returns-in-Enters
 returns-in-Enters c out =
     subst (λ n. DoesMarks c.args.tables.now c.args.code.now c.args.memory.now out n c.enter_rule.new.self out c.enter_rule.result) (sym c.in-Enters.is)
-    (marks_enter c.args.tables.now c.args.code.now c.args.memory.now c.enter_rule.new.self out c.enter_rule.result c.in-Enters.call c.in-Enters.ops (c.enter_rule.ensures c.args.code.now))
+    (marks_enter c.args.tables.now c.args.code.now c.args.memory.now c.enter_rule.new.self out c.enter_rule.result c.in-Enters.ops (c.enter_rule.ensures c.args.code.now))
 
 pub returns-in-len1-up : goal.returns-in-len1-up
 returns-in-len1-up c out =

@@ -16,6 +16,6 @@ returns-in-Enter c code g is_of l m call at k h =
     let all = c.args.ops.now in
     let rest = take (length all - 1) (drop 1 all) in
     let split = split_list all c.op-item.result c.in-len1-up.len_at_least c.op-item.is in
-    subst (λ n. Falls code l c.args.self.now (Enters c.args.call c.args.ops) c.enter-did.new.self n (entered (setting g code l) call m.ops m)) (sym c.behind.ensures)
-    (rule_entered c.args.tables.now code g is_of l m c.args.call call c.in-Enter.vars c.terms.result.now c.args.self.now c.enter-did.new.self (comes_to c.enter-did.result _) c.args.ops rest
+    subst (λ n. Falls code l c.args.self.now (Enters c.args.ops) c.enter-did.new.self n (entered (setting g code l) call m.ops m)) (sym c.behind.ensures)
+    (rule_entered c.args.tables.now code g is_of l m c.args.self.now.call call c.in-Enter.vars c.terms.result.now c.args.self.now c.enter-did.new.self (comes_to c.enter-did.result _) c.args.ops rest
     (entering_is all c.op-item.result rest c.in-Enter.vars c.terms.result.now split (c.in-Enter.is ∙ ap (op.Enter c.in-Enter.vars) (sym c.terms.ensures)) at.1) at.0 k h (c.enter-did.ensures code _))

@@ -8,6 +8,7 @@ use Rattle.dg_mid.specs.Actions.{registers_of}
 use Rattle.dg_machine.specs.declared.now.Now.TheVariants.{Resumes, Fails}
 use Rattle.dg_machine.specs.declared.now.Way.TheVariants.{Tries}
 use Rattle.dg_machine.specs.Refs.{RefsAt}
+use Rattle.dg_machine.specs.Measure.{with_way}
 use Rattle.dg_machine.specs.Standing.{Stands}
 use Rattle.dg_machine.proofs.Answered.{no_first, first_shows, sought_none, sought_open, sought_thing, sought_other, tries_all}
 use Rattle.dg_machine.proofs.memory.Memory.seek_objects.Goals as goal
@@ -27,7 +28,7 @@ returns-in-Open c code g is_of l m vs may at h refs w =
     let is = subst (IsSubject (walk m.state.subst x.first)) c.in-Open.is (c.subject_of.ensures s (walk m.state.subst x.first) x.shows) in
     let t = c.args.tables.now in
     let count : c.len-end.result ≡ length t.objects.items = let n = c.len-end.ensures in omega (arith, n, t.objects.ok.0) in
-    subst (Stands code l r (Resumes (Tries k 0 c.len-end.result))) (sym (sought_open code g l m k.place vs k.many k.next x.first x.others x.is is))
+    subst (Stands code l (with_way r (Tries k 0 c.len-end.result)) Resumes) (sym (sought_open code g l m k.place vs k.many k.next x.first x.others x.is is))
     (tries_all code g l m t k c.len-end.result vs r is_of count refs h)
 
 pub returns-in-Thing : goal.returns-in-Thing
