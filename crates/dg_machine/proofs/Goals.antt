@@ -215,7 +215,7 @@ held_of code r now s e = held_in code s.limits r now s.status e s.stands
 pub room_of : (code : Code) (r : Memory) (now : Now) → HasStatus code r now → rests now ≡ false → HasRoom r
 room_of code r now s e = (held_of code r now s e).held.0.room
 
-there_in : (code : Code) (l : Limits) (r : Memory) (way : Way) (s : Status) → Stands code l (with_way r way) Resumes s → IsThere code r way
+pub there_in : (code : Code) (l : Limits) (r : Memory) (way : Way) (s : Status) → Stands code l (with_way r way) Resumes s → IsThere code r way
 there_in code l r (Goes b) s h = tt
 there_in code l r (Takes b) (ResumesOf (TakesOf b' into) m) h = (h.0.1, into, h.0.2)
 there_in code l r (Takes b) (ResumesOf on m) h = absurd h.0

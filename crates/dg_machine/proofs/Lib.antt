@@ -45,6 +45,7 @@ pub mod Readings
 pub mod Lines
 pub mod Runs
 pub mod Turns
+pub mod Failing
 pub mod Starts
 pub mod BuiltLemmas
 pub mod Lacking

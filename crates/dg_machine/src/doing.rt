@@ -21,7 +21,7 @@ ghost use Rattle.dg_machine.specs.Layout.{HasRoom, Holds, last_rules};
 ghost use Rattle.dg_machine.specs.Passing.{IsFirst};
 ghost use Rattle.dg_machine.specs.Standing.{DoesOp, DoesMark, CallsRules, EntersWith, Asks, AsksLast, Calculates, EntersBody, IsAsked, QueriesFirst};
 ghost use Rattle.dg_machine.specs.Standing.{comes_to, DoesWith, ThrowsDie, ChangesPlace, LeavesAround};
-ghost use Rattle.dg_machine.specs.Standing.{EntersLastBody, QueriesLast, EntersRule, EntersIn, IsThere, GoesOnAt, GoesOn, FailsTo};
+ghost use Rattle.dg_machine.specs.Standing.{EntersLastBody, QueriesLast, EntersRule, EntersIn};
 
 use crate::closures::body_row;
 use crate::memory::Memory;
@@ -424,6 +424,7 @@ impl Memory {
     }
 
     /// A call enters the first of the last so many rules of a predicate; those that its first argument excludes aren't left.
+    #[inline(always)]
     pub fn call<'p>(&mut self, code: &'p Code, call: Call, pred: u16, left: usize) -> Now<'p>
         requires room { HasRoom self.old }
         requires built { IsBuilt code.now }
@@ -764,61 +765,11 @@ impl Memory {
         }
     }
 
-    /// A choice goes on at a block, and is kept where that begins so.
-    fn go_on_at<'p>(&mut self, ops: &'p [Op]) -> Now<'p>
-        requires room { HasRoom self.old }
-        ensures { (code : TheCode) → (block : ℕ) → GoesOnAt code block self.old ops.entry self.new result }
-    {
-        match ops {
-            [] => Now::Runs(ops),
-            [op, rest @ ..] => match op {
-                Op::Retry(alt) => match self.open(Way::Goes(*alt), 0) {
-                    Ok(()) => Now::Runs(rest),
-                    Err(_) => Now::Ended(Ending::HeapLimit),
-                },
-                _ => Now::Runs(ops),
-            },
-        }
-    }
-
-    /// A choice goes on.
-    pub fn go_on<'p>(&mut self, code: &'p Code, outside: &mut Outside<'_>, way: Way) -> Now<'p>
-        requires room { HasRoom self.old }
-        requires built { IsBuilt code.now }
-        requires tidy { Tidy code.now }
-        requires there { IsThere code.now self.old way }
-        ensures goes_on { GoesOn code.now self.old outside.old way self.new result outside.new }
-        ensures sites { outside.new.sites ≡ outside.old.sites }
-    {
-        match way {
-            Way::Calls(call, pred, left) => self.call(code, call, pred, left),
-            Way::Goes(block) => self.go_on_at(code_at(code, block)),
-            Way::Takes(block) => self.take_out(outside, code_at(code, block)),
-            Way::Tries(search, from, end) => self.try_first(code, outside, search, from, end),
-        }
-    }
-
     /// An inner construct of this height is left that isn't kept.
     pub fn leave_around<'p>(&mut self, height: u32, ops: &'p [Op]) -> Now<'p>
         ensures { (code : TheCode) → LeavesAround code self.old height ops.entry self.new result }
     {
         self.cut(height);
         Now::Runs(ops)
-    }
-
-    /// It fails, and goes back to the newest choice; what was gathered inside that is dropped.
-    pub fn fail<'p>(&mut self, outside: &mut Outside<'_>) -> Now<'p>
-        requires some { (code : TheCode) × (l : Limits) × (m : Mid) × Holds code l self.old m }
-        ensures fails { (code : TheCode) → FailsTo code self.old outside.old self.new result outside.new }
-        ensures sites { outside.new.sites ≡ outside.old.sites }
-    {
-        match self.back() {
-            None => Now::Ended(Ending::Failed),
-            Some(way) => {
-                outside.close_to(self.gathered);
-                self.way = way;
-                Now::Resumes
-            }
-        }
     }
 }

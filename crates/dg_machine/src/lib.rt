@@ -2,6 +2,7 @@
 #![tactic(auto)]
 
 mod built;
+mod choices;
 mod closures;
 mod copies;
 mod doing;

@@ -694,6 +694,7 @@ impl Memory {
     }
 
     /// Goes back to a choice that doesn't stand, with its arguments.
+    #[inline(always)]
     pub fn restore(&mut self, choice: Choice)
         requires some { (code : Code) × (l : Limits) × (c : ChoiceOf) × (cs : List ChoiceOf) × Roomy l self.old × CanRestore code self.old choice c cs }
         ensures back { (code : Code) → (l : Limits) → (m : Mid) → (c : ChoiceOf) → (cs : List ChoiceOf) → Roomy l self.old →
@@ -713,6 +714,7 @@ impl Memory {
     }
 
     /// Goes back to the newest choice, which is gone, with its arguments.
+    #[inline(always)]
     pub fn back(&mut self) -> Option<Way>
         requires some { (code : Code) × (l : Limits) × (m : Mid) × Holds code l self.old m }
         ensures back { (code : Code) → (l : Limits) → (m : Mid) → Holds code l self.old m → WentBack code l result self.new m m.choices }

@@ -1,17 +1,18 @@
 // One step after another.
-ghost use Rattle.std.specs.Prelude.{◌≡◌, ◌∷◌, IfErr, IfOk, OnErr, true, false};
+ghost use Rattle.std.specs.Prelude.{◌≡◌, ◌<◌, ◌∷◌, IfErr, IfOk, OnErr, true, false};
 ghost use Rattle.dg_meaning.specs.World.{GapOf};
 ghost use Rattle.dg_base.specs.Streams.{SourceView};
 ghost use Rattle.dg_base.specs.Written.{SinkView};
 ghost use Rattle.dg_spacing.specs.Gaps.{print_of};
 ghost use Rattle.dg_spacing.specs.declared.spacer.Spacer.{Spacer as TheSpacer};
+ghost use Rattle.dg_machine.specs.declared.tables.Tables.{Tables as TheTables};
 ghost use Rattle.dg_mid.specs.declared.code.Code.{Code as TheCode};
 ghost use Rattle.dg_mid.specs.declared.code.Op.TheVariants as op;
 ghost use Rattle.dg_mid.specs.declared.code.Action.TheVariants as action;
 ghost use Rattle.dg_mid.specs.declared.code.Action.TheVariants.{Stop};
 ghost use Rattle.dg_mid.specs.Step.{at_goal, is_goal as takes_goal};
 ghost use Rattle.dg_mid.specs.Potential.{Tidy};
-ghost use Rattle.dg_machine.specs.declared.now.Now.TheVariants.{Runs};
+ghost use Rattle.dg_machine.specs.declared.now.Now.TheVariants.{Runs, Fails};
 ghost use Rattle.dg_machine.specs.Built.{ActionBuilt, OpBuilt, OpsBuilt, IsBuilt, IsQuiet, IsQuietOp, BeginsQuietly};
 ghost use Rattle.dg_base.specs.declared.run.Limits.{Limits};
 ghost use Rattle.dg_mid.specs.State.{Mid};
@@ -21,7 +22,8 @@ ghost use Rattle.dg_machine.specs.Layout.{HasRoom, Holds, Roomy};
 ghost use Rattle.dg_machine.specs.Standing.{DoesOp, DoesMark, HasStatus, PicksOnce};
 ghost use Rattle.dg_machine.specs.inside.Reading.{IsEnd, ReadsNone, NoLine};
 ghost use Rattle.dg_machine.specs.inside.Running.{rests, DoesMarks, DoesGoal, LosesGoal, ReadsGoal, BreaksGoal, Settles, Takes, BreaksTurn, Finishes, BreaksRun};
-ghost use Rattle.dg_machine.specs.inside.Running.{IsQuick, IsSomewhereWith, IsSomewhereAt, IsSomewhereStill};
+ghost use Rattle.dg_machine.specs.Measure.{left_of};
+ghost use Rattle.dg_machine.specs.inside.Running.{IsQuick, IsFailing, IsSomewhereWith, IsSomewhereAt, IsSomewhereStill};
 
 use crate::doing::code_at;
 use crate::memory::Memory;
@@ -107,7 +109,7 @@ fn do_mark<'p>(
     }
 }
 
-/// Does a step that takes no goal.
+/// Does a step that takes no goal, where it doesn't fail.
 #[inline(never)]
 fn mark_step<'p>(
     memory: &mut Memory,
@@ -120,6 +122,7 @@ fn mark_step<'p>(
     requires tidy { Tidy code.now }
     requires some { HasStatus code.now memory.old now }
     requires mark { rests now ≡ false }
+    requires on { IsFailing now → ⊥ }
     ensures done { DoesMarks tables.now code.now memory.old outside.old now.entry memory.new outside.new result }
     ensures sites { outside.new.sites ≡ outside.old.sites }
 {
@@ -137,9 +140,7 @@ fn mark_step<'p>(
             memory.go_on(code, outside, way)
         }
         Now::Leaves(height, ops) => memory.leave_around(height, ops),
-        Now::Misses => memory.fail(outside),
-        Now::Fails => memory.fail(outside),
-        Now::Ended(ending) => Now::Ended(ending),
+        now => now,
     }
 }
 
@@ -156,10 +157,50 @@ fn mark_apart<'p>(
     requires tidy { Tidy code.now }
     requires some { HasStatus code.now memory.old now }
     requires mark { rests now ≡ false }
+    requires on { IsFailing now → ⊥ }
     ensures done { DoesMarks tables.now code.now memory.old outside.old now.entry memory.new outside.new result }
     ensures sites { outside.new.sites ≡ outside.old.sites }
 {
     let next = mark_step(memory, code, tables, outside, now);
+    next
+}
+
+/// Whether it fails.
+#[inline(always)]
+fn fails(now: Now<'_>) -> bool
+    ensures on { result ≡ false → IsFailing now.entry → ⊥ }
+    ensures fails { result ≡ true → IsFailing now.entry }
+{
+    matches!(now, Now::Misses | Now::Fails)
+}
+
+/// It fails, and the newest choice goes on.
+#[inline(never)]
+fn fail_on<'p>(memory: &mut Memory, code: &'p Code, outside: &mut Outside<'_>) -> Now<'p>
+    requires built { IsBuilt code.now }
+    requires tidy { Tidy code.now }
+    requires some { (t : TheTables) × (now : Now) × IsFailing now × IsSomewhereWith t code.now memory.old outside.old now }
+    ensures comes { (t : TheTables) → (now : Now) → IsFailing now → Settles t code.now memory.old outside.old now memory.new outside.new result }
+    ensures falls { left_of memory.new result < left_of memory.old Fails }
+    ensures sites { outside.new.sites ≡ outside.old.sites }
+{
+    match memory.fail(outside) {
+        None => Now::Ended(Ending::Failed),
+        Some(way) => memory.go_on(code, outside, way),
+    }
+}
+
+/// The same, with a place of its own for what it comes to.
+#[inline(always)]
+fn fail_apart<'p>(memory: &mut Memory, code: &'p Code, outside: &mut Outside<'_>) -> Now<'p>
+    requires built { IsBuilt code.now }
+    requires tidy { Tidy code.now }
+    requires some { (t : TheTables) × (now : Now) × IsFailing now × IsSomewhereWith t code.now memory.old outside.old now }
+    ensures comes { (t : TheTables) → (now : Now) → IsFailing now → Settles t code.now memory.old outside.old now memory.new outside.new result }
+    ensures falls { left_of memory.new result < left_of memory.old Fails }
+    ensures sites { outside.new.sites ≡ outside.old.sites }
+{
+    let next = fail_on(memory, code, outside);
     next
 }
 
@@ -503,6 +544,8 @@ fn settle<'p>(
     'marks: while !rests(now) {
         if is_quick(now) {
             now = quick_mark(memory, code, tables, now);
+        } else if fails(now) {
+            now = fail_apart(memory, code, outside);
         } else {
             now = mark_apart(memory, code, tables, outside, now);
         }

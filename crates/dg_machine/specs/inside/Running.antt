@@ -1,7 +1,8 @@
 -- What a machine, a spacer and a sink come to together. Hold it against the Dialog manual, chapter "Output".
-use Rattle.std.specs.Prelude.{ℕ, ◌+◌, ◌≡◌, ◌<◌, ◌≤◌, ◌-◌, ◌⊎◌, ◌++◌, suc, List, [], length, Bool, true, false}
+use Rattle.std.specs.Prelude.{ℕ, ◌+◌, ◌≡◌, ◌<◌, ◌≤◌, ◌-◌, ◌⊎◌, ◌++◌, suc, List, [], length, Bool, true, false, Option, Some, None}
 use Rattle.dg_base.specs.declared.run.Limits.{Limits}
 use Rattle.dg_base.specs.declared.run.Ending.{Ending}
+use Rattle.dg_base.specs.declared.run.Ending.TheVariants as ending
 use Rattle.dg_base.specs.declared.run.Ending.TheVariants.{StepLimit}
 use Rattle.dg_base.specs.declared.run.Fault.{Fault}
 use Rattle.dg_base.specs.declared.run.Fault.TheVariants.{Read, Write}
@@ -25,7 +26,8 @@ use Rattle.dg_mid.specs.Potential.{IsOver}
 use Rattle.dg_mid.specs.Left.{reads, left_behind}
 use Rattle.dg_mid.specs.Runs.{after, left_after}
 use Rattle.dg_machine.specs.declared.now.Now.{Now}
-use Rattle.dg_machine.specs.declared.now.Now.TheVariants.{Runs, Enters, Ended}
+use Rattle.dg_machine.specs.declared.now.Now.TheVariants.{Runs, Enters, Resumes, Misses, Fails, Ended}
+use Rattle.dg_machine.specs.declared.now.Way.{Way}
 use Rattle.dg_machine.specs.declared.memory.Memory.{Memory}
 use Rattle.dg_machine.specs.declared.tables.Tables.{Tables}
 use Rattle.dg_machine.specs.Tables.{IsOf}
@@ -33,7 +35,7 @@ use Rattle.dg_machine.specs.Built.{BeginsQuietly}
 use Rattle.dg_machine.specs.Layout.{Roomy, Holds}
 use Rattle.dg_machine.specs.Seeking.{StatusSeeks}
 use Rattle.dg_machine.specs.Standing.{CodeIs, Stands, Around, HasOutside}
-use Rattle.dg_machine.specs.Measure.{left_of}
+use Rattle.dg_machine.specs.Measure.{left_of, with_way}
 use Rattle.dg_machine.specs.inside.Reading.{IsEnd, LeftBehind, Gave, Failed}
 
 -- ## Steps
@@ -62,6 +64,21 @@ abbrev pub IsQuick : Now → Type 0
 IsQuick (Runs ops) = BeginsQuietly ops.now
 IsQuick (Enters ops) = Unit {0}
 IsQuick now = ⊥
+
+-- It fails, in an inner construct that isn't kept or not.
+abbrev pub IsFailing : Now → Type 0
+IsFailing Misses = Unit {0}
+IsFailing Fails = Unit {0}
+IsFailing now = ⊥
+
+-- What memory holds and what is done next where a choice is gone back to that goes on so, or where there was none.
+abbrev pub found_in : Option Way → Memory → Memory
+found_in None r = r
+found_in (Some way) r = with_way r way
+
+abbrev pub found_next : Option Way → Now
+found_next None = Ended ending.Failed
+found_next (Some way) = Resumes
 
 -- ## Text
 

@@ -2,17 +2,18 @@ use Rattle.std.proofs.Common.{sym, subst, ap, ◌∙◌, ◌≡◌, ◌∷◌, f
 use Rattle.dg_mid.specs.Step.{at_goal, is_goal}
 use Rattle.dg_machine.specs.inside.Running.{rests, DoesMarks}
 use Rattle.dg_machine.proofs.Leaving.{split_list}
-use Rattle.dg_machine.proofs.Goals.{held_of, marks_run, marks_keep, quiet_mark_op, marks_enter, marks_resume, marks_leave, marks_miss, marks_fail}
+use Rattle.dg_machine.proofs.Goals.{marks_run, marks_keep, quiet_mark_op, marks_enter, marks_resume, marks_leave}
+use Rattle.dg_machine.proofs.Failing.{not_failing}
 use Rattle.dg_machine.proofs.steps.mark_step.Goals as goal
 
-pub returns-in_default-clause-done : goal.returns-in_default-clause-done
-returns-in_default-clause-done c =
+pub returns-in_default-op-clause-done : goal.returns-in_default-op-clause-done
+returns-in_default-op-clause-done c =
     let all = c.in-Runs.ops.now in
     let rest = take (length all - 1) (drop 1 all) in
     let split = split_list all c.op-item.result c.in-len1-up.len_at_least c.op-item.is in
     let mark : is_goal c.op-item.result ≡ false = sym (ap at_goal split) ∙ ap rests (sym c.in-Runs.is) ∙ c.requires.mark in
     subst (λ n. DoesMarks c.args.tables.now c.args.code.now c.args.memory.now c.args.outside.now n c.do_mark.new.memory c.args.outside.now c.do_mark.result) (sym c.in-Runs.is)
-    (marks_run c.args.tables.now c.args.code.now c.args.memory.now c.do_mark.new.memory c.args.outside.now c.do_mark.result c.in-Runs.ops c.op-item.result rest split mark (quiet_mark_op c.op-item.result mark c.in_default.not-Keep) c.do_mark.ensures)
+    (marks_run c.args.tables.now c.args.code.now c.args.memory.now c.do_mark.new.memory c.args.outside.now c.do_mark.result c.in-Runs.ops c.op-item.result rest split mark (quiet_mark_op c.op-item.result mark c.in_default-op.not-Keep) c.do_mark.ensures)
 
 pub returns-in-Keep-clause-done : goal.returns-in-Keep-clause-done
 returns-in-Keep-clause-done c =
@@ -32,20 +33,10 @@ returns-in-Resumes-clause-done c =
     subst (λ n. DoesMarks c.args.tables.now c.args.code.now c.args.memory.now c.args.outside.now n c.go_on.new.self c.go_on.new.outside c.go_on.result) (sym c.in-Resumes.is)
     (marks_resume c.args.tables.now c.args.code.now c.args.memory.now c.go_on.new.self c.args.outside.now c.go_on.new.outside c.go_on.result c.go_on.ensures.goes_on)
 
-pub returns-in-Fails-clause-done : goal.returns-in-Fails-clause-done
-returns-in-Fails-clause-done c =
-    subst (λ n. DoesMarks c.args.tables.now c.args.code.now c.args.memory.now c.args.outside.now n c.fail-in-Fails.new.self c.fail-in-Fails.new.outside c.fail-in-Fails.result) (sym c.in-Fails.is)
-    (marks_fail c.args.tables.now c.args.code.now c.args.memory.now c.fail-in-Fails.new.self c.args.outside.now c.fail-in-Fails.new.outside c.fail-in-Fails.result (c.fail-in-Fails.ensures.fails c.args.code.now))
-
 pub returns-in-Leaves-clause-done : goal.returns-in-Leaves-clause-done
 returns-in-Leaves-clause-done c =
     subst (λ n. DoesMarks c.args.tables.now c.args.code.now c.args.memory.now c.args.outside.now n c.leave_around.new.self c.args.outside.now c.leave_around.result) (sym c.in-Leaves.is)
     (marks_leave c.args.tables.now c.args.code.now c.args.memory.now c.leave_around.new.self c.args.outside.now c.leave_around.result c.in-Leaves.height c.in-Leaves.ops (c.leave_around.ensures c.args.code.now))
 
-pub returns-in-Misses-clause-done : goal.returns-in-Misses-clause-done
-returns-in-Misses-clause-done c =
-    subst (λ n. DoesMarks c.args.tables.now c.args.code.now c.args.memory.now c.args.outside.now n c.fail.new.self c.fail.new.outside c.fail.result) (sym c.in-Misses.is)
-    (marks_miss c.args.tables.now c.args.code.now c.args.memory.now c.fail.new.self c.args.outside.now c.fail.new.outside c.fail.result (c.fail.ensures.fails c.args.code.now))
-
-pub fail-requires : goal.fail-requires
-fail-requires c = let x = held_of c.args.code.now c.args.memory.now c.args.now c.requires.some c.requires.mark in record { some = (c.args.code.now, x.limits, x.mid, x.held) }
+pub returns-in_default-clause-done : goal.returns-in_default-clause-done
+returns-in_default-clause-done c = absurd (not_failing c.args.now c.requires.mark c.requires.on c.in_default.not-Runs c.in_default.not-Enters c.in_default.not-Resumes c.in_default.not-Leaves)
