@@ -2,7 +2,7 @@
 
 ghost use Rattle.std.specs.Prelude.{◌≡◌, ◌<◌, ◌≤◌, List, ◌∷◌, Some, true, false};
 ghost use Rattle.std.specs.Prelude.{IfSome, reverse};
-ghost use Rattle.dg_unify.specs.Store.{Holds, Saved, Kept, told, ShowsVar};
+ghost use Rattle.dg_unify.specs.Store.{Holds, Saved, Kept, told, ShowsVar, ShowsPair};
 ghost use Rattle.dg_unify.specs.Linked.{log_of, vars_of};
 ghost use Rattle.dg_meaning.specs.Values.{Var, pair};
 ghost use Rattle.dg_meaning.specs.Substitutions.{walk};
@@ -22,6 +22,9 @@ const FIRST_NIL: u32 = 2147680256;
 
 // A list with so many pairs at most is short.
 const SHORT: u8 = 12;
+
+// So many short lists in one another are looked along.
+const DEEPEST: u8 = 2;
 
 /// What a look at a part shows: whether it is clear that a variable doesn't stand in it, and a number above the variables of it.
 #[derive(Clone, Copy)]
@@ -235,28 +238,23 @@ impl Arena {
         }
     }
 
-    // The tail of a pair, where it is clear at once that a variable of this number doesn't stand in the head.
+    // The parts of a pair.
     #[inline(always)]
-    fn clear_behind(&self, end: Ref, number: u32) -> Option<Ref>
+    fn parts_at(&self, end: Ref) -> Option<(Ref, Ref)>
         requires { TellsOf (fields_of self.now) end }
-        ensures { IfSome result (λ tail. IsClearTo (fields_of self.now) end tail number) }
+        ensures { IfSome result (λ parts. ShowsPair (meaning_of self.now) (told_in (fields_of self.now) end) parts.0 parts.1) }
     {
         if end.0 >= FIRST_SIMPLE {
             return None;
         }
         match self.cells[end.0 as usize] {
-            Slot::Pair(head, tail, _) => {
-                if !self.part_clear(head, number) {
-                    return None;
-                }
-                Some(tail)
-            }
+            Slot::Pair(head, tail, _) => Some((head, tail)),
             _ => None,
         }
     }
 
-    // Whether it is clear from a look along a short list that a variable of this number doesn't stand in it.
-    fn short_clear(&self, at: Ref, number: u32) -> bool
+    // Whether it is clear from a look along short lists, so many in one another, that a variable of this number doesn't stand in a value.
+    fn short_clear(&self, at: Ref, number: u32, depth: u8) -> bool
         requires { TellsOf (fields_of self.now) at }
         ensures { result ≡ true → IsAbsent (fields_of self.now) at number }
     {
@@ -266,10 +264,14 @@ impl Arena {
             if self.end_clear(end, number) {
                 return true;
             }
-            match self.clear_behind(end, number) {
+            let parts = match self.parts_at(end) {
                 None => return false,
-                Some(tail) => end = self.end_of(tail),
+                Some(parts) => parts,
+            };
+            if depth == 0 || !self.short_clear(parts.0, number, depth - 1) {
+                return false;
             }
+            end = self.end_of(parts.1);
             left -= 1;
         }
         false
@@ -284,12 +286,12 @@ impl Arena {
         if self.part_clear(at, number) {
             return true;
         }
-        self.short_clear(at, number)
+        self.short_clear(at, number, DEEPEST)
     }
 
-    // The tail of a pair, where it is clear so that a variable of this number doesn't stand in the head.
+    // The tail of a pair, where it is clear from such a look that a variable of this number doesn't stand in the head.
     #[inline(always)]
-    fn clear_past(&self, end: Ref, number: u32) -> Option<Ref>
+    fn clear_behind(&self, end: Ref, number: u32) -> Option<Ref>
         requires { TellsOf (fields_of self.now) end }
         ensures { IfSome result (λ tail. IsClearTo (fields_of self.now) end tail number) }
     {
@@ -318,7 +320,7 @@ impl Arena {
             if self.end_clear(end, number) {
                 return true;
             }
-            match self.clear_past(end, number) {
+            match self.clear_behind(end, number) {
                 None => return false,
                 Some(tail) => end = self.end_of(tail),
             }
@@ -329,7 +331,7 @@ impl Arena {
 
     // Binds an unbound variable of this number to an end, where it is clear from a look along that that it doesn't stand in it. Else
     // nothing is done.
-    #[inline(always)]
+    #[inline(never)]
     fn point(&mut self, number: u32, to: Ref) -> Option<Result<bool, Full>>
         requires free { (var : Ref) × IsFree (fields_of self.old) var number }
         requires told { TellsOf (fields_of self.old) to }
@@ -371,7 +373,7 @@ impl Arena {
 
     // Unifies an unbound variable and an end: another such variable, or a value where it is clear from a look along that that the
     // variable doesn't stand in it. Else nothing is done.
-    #[inline(always)]
+    #[inline(never)]
     fn join_free(&mut self, a: Ref, number: u32, b: Ref) -> Option<Result<bool, Full>>
         requires free { IsFree (fields_of self.old) a number }
         requires b_in { TellsOf (fields_of self.old) b }
@@ -396,6 +398,7 @@ impl Arena {
 
     // Unifies two ends of which one is an unbound variable, and the other another one, or a value where it is clear from a look along
     // that that the variable doesn't stand in it. Else nothing is done.
+    #[inline(always)]
     fn join_along(&mut self, a: Ref, b: Ref) -> Option<Result<bool, Full>>
         requires a_in { TellsOf (fields_of self.old) a }
         requires b_in { TellsOf (fields_of self.old) b }
