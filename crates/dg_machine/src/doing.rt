@@ -368,6 +368,16 @@ impl Memory {
         }
     }
 
+    /// Keeps the call that is about to enter a rule; field by field, since a copy of the whole takes what lies between them too.
+    #[inline(always)]
+    fn keep_call(&mut self, call: Call)
+        ensures { self.new ≡ record self.old { call = call } }
+    {
+        self.call.next = call.next;
+        self.call.many = call.many;
+        self.call.cut = call.cut;
+    }
+
     /// A call enters the rule of a block, with the last so many rules of its predicate left.
     #[inline(always)]
     fn enter_with<'p>(
@@ -384,13 +394,13 @@ impl Memory {
     {
         let ops = code_at(code, block);
         if left == 0 {
-            self.call = call;
+            self.keep_call(call);
             return Now::Enters(ops);
         }
         let count = self.args.len();
         match self.open(Way::Calls(call, pred, left), count) {
             Ok(()) => {
-                self.call = call;
+                self.keep_call(call);
                 Now::Enters(ops)
             }
             Err(_) => Now::Ended(Ending::HeapLimit),
@@ -518,12 +528,12 @@ impl Memory {
 
     /// A rule of so many variables and a head of flat terms that take so many cells is entered.
     #[inline(always)]
-    fn enter_flat(&mut self, call: Call, vars: u16, head: &[Term], cells: u32) -> Did
+    fn enter_flat(&mut self, vars: u16, head: &[Term], cells: u32) -> Did
         requires room { HasRoom self.old }
         requires args { AreRefs (meaning_of self.old.arena) self.old.args.items }
         requires flat { FlatTerms head.now cells }
         ensures { (t : TheTables) → (code : TheCode) → (rest : Bor (List TheOp)) →
-            EntersIn t code self.old call vars head.now rest.now self.new (comes_to result rest) }
+            EntersIn t code self.old self.old.call vars head.now rest.now self.new (comes_to result rest) }
     {
         match self.make_rule(vars) {
             Err(_) => Did::Ends(Ending::HeapLimit),
@@ -535,7 +545,7 @@ impl Memory {
                     Err(_) => Did::Ends(Ending::TrailLimit),
                     Ok(false) => Did::Fails,
                     Ok(true) => {
-                        self.push_frame(call, row);
+                        self.push_frame(self.call, row);
                         Did::GoesOn
                     }
                 }
@@ -544,11 +554,12 @@ impl Memory {
     }
 
     /// A rule of so many variables and this head is entered; the values of its head are written first.
-    fn enter_written(&mut self, tables: &Tables, call: Call, vars: u16, head: &[Term]) -> Did
+    fn enter_written(&mut self, tables: &Tables, vars: u16, head: &[Term]) -> Did
         requires room { HasRoom self.old }
         requires args { AreRefs (meaning_of self.old.arena) self.old.args.items }
         requires head { AreArguments head.now }
-        ensures { (code : TheCode) → (rest : Bor (List TheOp)) → EntersIn tables.now code self.old call vars head.now rest.now self.new (comes_to result rest) }
+        ensures { (code : TheCode) → (rest : Bor (List TheOp)) →
+            EntersIn tables.now code self.old self.old.call vars head.now rest.now self.new (comes_to result rest) }
     {
         match self.make_head(tables, vars, head) {
             Err(_) => Did::Ends(Ending::HeapLimit),
@@ -556,7 +567,7 @@ impl Memory {
                 Err(_) => Did::Ends(Ending::TrailLimit),
                 Ok(false) => Did::Fails,
                 Ok(true) => {
-                    self.push_frame(call, row);
+                    self.push_frame(self.call, row);
                     Did::GoesOn
                 }
             },
@@ -565,23 +576,17 @@ impl Memory {
 
     /// A rule of so many variables and this head is entered, which takes so many cells if it is flat.
     #[inline(always)]
-    fn enter(
-        &mut self,
-        tables: &Tables,
-        call: Call,
-        vars: u16,
-        head: &[Term],
-        flat: Option<u32>,
-    ) -> Did
+    fn enter(&mut self, tables: &Tables, vars: u16, head: &[Term], flat: Option<u32>) -> Did
         requires room { HasRoom self.old }
         requires args { AreRefs (meaning_of self.old.arena) self.old.args.items }
         requires head { AreArguments head.now }
         requires flat { IfSome flat (λ n. FlatTerms head.now n) }
-        ensures { (code : TheCode) → (rest : Bor (List TheOp)) → EntersIn tables.now code self.old call vars head.now rest.now self.new (comes_to result rest) }
+        ensures { (code : TheCode) → (rest : Bor (List TheOp)) →
+            EntersIn tables.now code self.old self.old.call vars head.now rest.now self.new (comes_to result rest) }
     {
         match flat {
-            Some(cells) => self.enter_flat(call, vars, head, cells),
-            None => self.enter_written(tables, call, vars, head),
+            Some(cells) => self.enter_flat(vars, head, cells),
+            None => self.enter_written(tables, vars, head),
         }
     }
 
@@ -757,7 +762,7 @@ impl Memory {
             [op, rest @ ..] => match op {
                 Op::Enter(vars, head) => {
                     let flat = head.flat_cells();
-                    let did = self.enter(tables, self.call, *vars, head.terms(), flat);
+                    let did = self.enter(tables, *vars, head.terms(), flat);
                     behind(did, rest)
                 }
                 _ => Now::Fails,

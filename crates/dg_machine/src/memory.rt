@@ -147,20 +147,14 @@ impl Memory {
     pub fn frame_at_hand(&self) -> Option<Frame>
         ensures { result ≡ named self.now.frames.items self.now.frame }
     {
-        if self.frame == 0 {
-            return None;
-        }
-        self.frames.get(self.frame - 1).copied()
+        self.frames.get(self.frame.wrapping_sub(1)).copied()
     }
 
     /// The inner construct at hand.
     pub fn inner_at_hand(&self) -> Option<Inner>
         ensures { result ≡ named self.now.inners.items self.now.inner }
     {
-        if self.inner == 0 {
-            return None;
-        }
-        self.inners.get(self.inner - 1).copied()
+        self.inners.get(self.inner.wrapping_sub(1)).copied()
     }
 
     /// Drops the choices that aren't older than a height of the heap.
@@ -564,6 +558,7 @@ impl Memory {
         ensures values { Kept (meaning_of self.old.arena) (meaning_of self.new.arena) }
         ensures args { self.new.args ≡ self.old.args }
         ensures choices { self.new.choices ≡ self.old.choices }
+        ensures call { self.new.call ≡ self.old.call }
     {
         match self.arena.charge(6) {
             Err(full) => Err(full),
@@ -589,6 +584,7 @@ impl Memory {
         ensures values { Kept (meaning_of self.old.arena) (meaning_of self.new.arena) }
         ensures args { self.new.args ≡ self.old.args }
         ensures choices { self.new.choices ≡ self.old.choices }
+        ensures call { self.new.call ≡ self.old.call }
     {
         match write_terms(
             &mut self.arena,
@@ -617,6 +613,7 @@ impl Memory {
         ensures values { Kept (meaning_of self.old.arena) (meaning_of self.new.arena) }
         ensures args { self.new.args ≡ self.old.args }
         ensures choices { self.new.choices ≡ self.old.choices }
+        ensures call { self.new.call ≡ self.old.call }
     {
         match self.make_rule(vars) {
             Err(full) => Err(full),
@@ -640,6 +637,7 @@ impl Memory {
         ensures few { OnOk result (HasFrameRoom self.new) }
         ensures values { Kept (meaning_of self.old.arena) (meaning_of self.new.arena) }
         ensures choices { self.new.choices ≡ self.old.choices }
+        ensures call { self.new.call ≡ self.old.call }
     {
         match match_heads(&mut self.arena, self.args.as_slice(), self.heads.as_slice()) {
             Err(full) => Err(full),
@@ -665,6 +663,7 @@ impl Memory {
         ensures few { OnOk result (HasFrameRoom self.new) }
         ensures values { Kept (meaning_of self.old.arena) (meaning_of self.new.arena) }
         ensures choices { self.new.choices ≡ self.old.choices }
+        ensures call { self.new.call ≡ self.old.call }
     {
         match match_flats(&mut self.arena, &row, self.args.as_slice(), head, cells) {
             Err(full) => Err(full),

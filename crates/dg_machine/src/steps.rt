@@ -204,6 +204,20 @@ fn fail_apart<'p>(memory: &mut Memory, code: &'p Code, outside: &mut Outside<'_>
     next
 }
 
+/// Whether a rule is answered. It is looked at first, since it is done most often.
+#[inline(always)]
+fn returns(now: Now<'_>) -> bool
+    ensures { result ≡ true → IsQuick now.entry }
+{
+    match now {
+        Now::Runs(ops) => match ops {
+            [] => false,
+            [op, ..] => matches!(op, Op::Return),
+        },
+        _ => false,
+    }
+}
+
 /// Whether a rule is entered, or an inner construct or a rule is left, or code goes on at a block.
 #[inline(always)]
 fn is_quick(now: Now<'_>) -> bool
@@ -542,7 +556,9 @@ fn settle<'p>(
 {
     let mut now = now;
     'marks: while !rests(now) {
-        if is_quick(now) {
+        if returns(now) {
+            now = quick_mark(memory, code, tables, now);
+        } else if is_quick(now) {
             now = quick_mark(memory, code, tables, now);
         } else if fails(now) {
             now = fail_apart(memory, code, outside);

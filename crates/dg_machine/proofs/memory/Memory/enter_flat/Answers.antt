@@ -1,4 +1,4 @@
-use Rattle.std.proofs.Common.{◌≡◌, ◌+◌, ◌≤◌, ◌<◌, ◌∙◌, ap, map, arith}
+use Rattle.std.proofs.Common.{◌≡◌, ◌+◌, ◌≤◌, ◌<◌, ◌∙◌, ap, map, arith, sym, subst}
 use Rattle.std.specs.List.{zip}
 use Rattle.dg_meaning.specs.Values.{value_of}
 use Rattle.dg_meaning.specs.Cells.{cells}
@@ -6,7 +6,7 @@ use Rattle.dg_meaning.specs.Moves.{new_vars}
 use Rattle.dg_meaning.specs.Unify.{solve}
 use Rattle.dg_arena.specs.Held.{meaning_of}
 use Rattle.dg_mid.specs.Step.{bound}
-use Rattle.dg_machine.specs.Layout.{made_state, headed_state, heap_in, limit_in}
+use Rattle.dg_machine.specs.Layout.{made_state, headed_state, heap_in, limit_in, CallAt}
 use Rattle.dg_machine.proofs.RowLemmas.{lacks_more}
 use Rattle.dg_machine.proofs.Kept.{row_kept, refs_moved, moved_to}
 use Rattle.dg_machine.proofs.Leaving.{enters, enters_full, enters_clash, enters_unmatched}
@@ -24,7 +24,7 @@ match_head-requires-clause-fits c = omega (arith, c.room.ensures)
 
 pub returns-in-Err : goal.returns-in-Err
 returns-in-Err c t code rest g is_of l m call ops at k h =
-    enters_full code g l m c.args.call call c.args.vars c.args.head.now c.args.self.now c.make_rule.new.self ops rest at h
+    enters_full code g l m c.args.self.now.call call c.args.vars c.args.head.now c.args.self.now c.make_rule.new.self ops rest at h
     (lacks_more l (6 + c.args.vars) (6 + c.args.vars + cells g.program c.args.head.now) m.state.heap c.make_rule.new.self (omega arith) (c.in-Err.ensures.held code l m h))
 
 pub returns-then-room-cells : goal.returns-then-room-cells
@@ -32,7 +32,7 @@ returns-then-room-cells c t code rest g is_of l m call ops at k h =
     let mid = c.make_rule.new.self in
     let made = c.in-Ok.ensures.held code l m h in
     let over : limit_in mid < heap_in mid + c.args.cells = omega (arith, c.room.ensures) in
-    enters_full code g l m c.args.call call c.args.vars c.args.head.now c.args.self.now mid ops rest at h
+    enters_full code g l m c.args.self.now.call call c.args.vars c.args.head.now c.args.self.now mid ops rest at h
     (flat_lacks code l m g.program c.args.vars c.args.cells c.args.head.now c.requires.flat mid c.in-Ok.row made over)
 
 pub returns-in-Err-match_head : goal.returns-in-Err-match_head
@@ -46,7 +46,7 @@ returns-in-Err-match_head c t code rest g is_of l m call ops at k h =
     let refs = moved_to (meaning_of c.args.self.now.arena) (meaning_of mid.arena) c.args.self.now.args.items mid.args.items call.args (ap (λ v. v.items) c.in-Ok.ensures.args) c.in-Ok.ensures.values k.args in
     let u = solve m.state.subst (zip call.args (map (value_of g.program vs) c.args.head.now)) in
     let x = flat_unmatched code l m g.program c.args.vars c.args.cells c.args.head.now c.requires.flat mid c.in-Ok.row made u c.match_head.new.self (c.in-Err-match_head.ensures.matched code l ruled g.program call.args vs made.held refs made.row_is) in
-    enters_unmatched code g l m c.args.call call c.args.vars c.args.head.now c.args.self.now c.match_head.new.self ops rest at h within x
+    enters_unmatched code g l m c.args.self.now.call call c.args.vars c.args.head.now c.args.self.now c.match_head.new.self ops rest at h within x
 
 pub returns-in-Ok-false : goal.returns-in-Ok-false
 returns-in-Ok-false c t code rest g is_of l m call ops at k h =
@@ -59,7 +59,7 @@ returns-in-Ok-false c t code rest g is_of l m call ops at k h =
     let refs = moved_to (meaning_of c.args.self.now.arena) (meaning_of mid.arena) c.args.self.now.args.items mid.args.items call.args (ap (λ v. v.items) c.in-Ok.ensures.args) c.in-Ok.ensures.values k.args in
     let u = solve m.state.subst (zip call.args (map (value_of g.program vs) c.args.head.now)) in
     let x = flat_matched code l m g.program c.args.vars c.args.cells c.args.head.now c.requires.flat mid c.in-Ok.row made u c.match_head.new.self c.in-Ok-false.field-0 (c.in-Ok-false.ensures.matched code l ruled g.program call.args vs made.held refs made.row_is) in
-    enters_clash code g l m c.args.call call c.args.vars c.args.head.now c.args.self.now c.match_head.new.self ops rest at h c.in-Ok-false.field-0 c.in-Ok-false.field-0-test within x
+    enters_clash code g l m c.args.self.now.call call c.args.vars c.args.head.now c.args.self.now c.match_head.new.self ops rest at h c.in-Ok-false.field-0 c.in-Ok-false.field-0-test within x
     (c.in-Ok-false.ensures.choices ∙ c.in-Ok.ensures.choices)
 
 pub returns-in-Ok-true : goal.returns-in-Ok-true
@@ -74,6 +74,7 @@ returns-in-Ok-true c t code rest g is_of l m call ops at k h =
     let refs = moved_to (meaning_of c.args.self.now.arena) (meaning_of mid.arena) c.args.self.now.args.items mid.args.items call.args (ap (λ v. v.items) c.in-Ok.ensures.args) c.in-Ok.ensures.values k.args in
     let u = solve m.state.subst (zip call.args (map (value_of g.program vs) c.args.head.now)) in
     let x = flat_matched code l m g.program c.args.vars c.args.cells c.args.head.now c.requires.flat mid c.in-Ok.row made u c.match_head.new.self c.in-Ok-true.field-0 (c.in-Ok-true.ensures.matched code l ruled g.program call.args vs made.held refs made.row_is) in
-    let here = c.push_frame.ensures.held code l (bound u headed) call (meaning_of c.args.self.now.arena) c.args.self.now.args.items vs x.held k (row_kept (meaning_of mid.arena) (meaning_of c.match_head.new.self.arena) c.in-Ok.row vs c.in-Ok-true.ensures.values made.row_is) in
-    enters code g l m c.args.call call c.args.vars c.args.head.now c.args.self.now c.push_frame.new.self ops rest at h c.match_head.new.self c.in-Ok-true.field-0 c.in-Ok-true.field-0-test within x here
+    let here_k = subst (λ y. CallAt (meaning_of c.args.self.now.arena) c.args.self.now.args.items y call) (sym (c.in-Ok-true.ensures.call ∙ c.in-Ok.ensures.call)) k in
+    let here = c.push_frame.ensures.held code l (bound u headed) call (meaning_of c.args.self.now.arena) c.args.self.now.args.items vs x.held here_k (row_kept (meaning_of mid.arena) (meaning_of c.match_head.new.self.arena) c.in-Ok.row vs c.in-Ok-true.ensures.values made.row_is) in
+    enters code g l m c.args.self.now.call call c.args.vars c.args.head.now c.args.self.now c.push_frame.new.self ops rest at h c.match_head.new.self c.in-Ok-true.field-0 c.in-Ok-true.field-0-test within x here
     (c.push_frame.ensures.choices ∙ c.in-Ok-true.ensures.choices ∙ c.in-Ok.ensures.choices)
