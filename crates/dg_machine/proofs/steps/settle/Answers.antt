@@ -58,20 +58,20 @@ marks-smaller-then-is_quick c =
     mark_falls c.args.code.now s.game s.limits s.typed c.requires.built c.args.tables.now s.tabled c.marks.memory c.quick_mark-now-then-is_quick.new.memory c.marks.outside c.marks.outside c.marks.now c.quick_mark-now-then-is_quick.result s.steps e (c.quick_mark-now-then-is_quick.ensures c.marks.outside) s.stands with_it.outside
 
 pub fail_apart-now-requires-clause-some : goal.fail_apart-now-requires-clause-some
-fail_apart-now-requires-clause-some c = (c.args.tables.now, c.marks.now, c.fails.ensures.fails refl, c.marks.invariant.somewhere)
+fail_apart-now-requires-clause-some c = (c.args.tables.now, c.marks.now, c.if-fails.ensures.fails refl, c.marks.invariant.somewhere)
 
 pub marks-preserved-then-fails : goal.marks-preserved-then-fails
 marks-preserved-then-fails c =
     let e : rests c.marks.now ≡ false = search rules in
     let tb = c.args.tables.now in
     let code = c.args.code.now in
-    let comes = c.fail_apart-now.ensures.comes tb c.marks.now (c.fails.ensures.fails refl) in
+    let comes = c.fail_apart-now.ensures.comes tb c.marks.now (c.if-fails.ensures.fails refl) in
     record {
-      settles = settled_then tb code c.args.memory.now c.marks.memory c.fail_apart-now.new.memory c.args.outside.now c.marks.outside c.fail_apart-now.new.outside c.marks.initial.now c.marks.now c.fail_apart-now.result c.marks.invariant.settles comes;
+      settles = settled_then tb code c.args.memory.now c.marks.memory c.fail_apart-now.new.memory c.args.outside.now c.marks.outside c.fail_apart-now.new.outside c.args.now c.marks.now c.fail_apart-now.result c.marks.invariant.settles comes;
       somewhere = somewhere_settled tb code c.marks.memory c.fail_apart-now.new.memory c.marks.outside c.fail_apart-now.new.outside c.marks.now c.fail_apart-now.result comes c.marks.invariant.somewhere;
       sites = c.fail_apart-now.ensures.sites ∙ c.marks.invariant.sites;
       stays = λ end. absurd (let x = end_rests c.marks.now (c.marks.invariant.stays end) in cc (e, x));
     }
 
 pub marks-smaller-then-fails : goal.marks-smaller-then-fails
-marks-smaller-then-fails c = subst (λ n. left_of c.fail_apart-now.new.memory c.fail_apart-now.result < n) (sym (failing_left c.marks.memory c.marks.now (c.fails.ensures.fails refl))) c.fail_apart-now.ensures.falls
+marks-smaller-then-fails c = subst (λ n. left_of c.fail_apart-now.new.memory c.fail_apart-now.result < n) (sym (failing_left c.marks.memory c.marks.now (c.if-fails.ensures.fails refl))) c.fail_apart-now.ensures.falls
