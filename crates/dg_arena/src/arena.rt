@@ -168,6 +168,15 @@ impl Arena {
         self.heap
     }
 
+    /// How many variables there are.
+    #[inline(always)]
+    pub fn vars(&self) -> u32
+        ensures count { result ≡ (meaning_of self.now).state.vars }
+        ensures few { result ≤ 2147483648 }
+    {
+        self.links.vars() as u32
+    }
+
     /// How much of the heap is left.
     #[inline(always)]
     pub fn room(&self) -> u32

@@ -2,13 +2,14 @@
 use Rattle.std.proofs.Common.{◌≡◌, ℕ, zero, suc, ◌+◌, ◌*◌, ◌<◌, ◌≤◌, List, [], ◌∷◌, ◌++◌, true, false, refl, sym, ap, ◌∙◌, subst, arith, length, get_or, drop, Some, MatchResult}
 use Rattle.std.specs.Prelude.{Bool, Result, Ok, Err, OnOk}
 use Rattle.std.specs.List.{zip}
-use Rattle.std.proofs.lemmas.List.{drop_more, drop_all}
+use Rattle.std.proofs.lemmas.List.{length-append, drop_more, drop_all}
 use Rattle.dg_base.specs.declared.program.Term.{Term, out-Term, roll-Term, roll-out-Term}
 use Rattle.dg_base.specs.declared.program.Term.TheOpen as term
 use Rattle.dg_base.specs.declared.program.Term.TheVariants.{Pair as Pair-Term, rolls-Pair, outs-Pair}
 use Rattle.dg_base.specs.declared.program.CoreProgram.{CoreProgram}
 use Rattle.dg_meaning.specs.Cells.{cells}
-use Rattle.dg_meaning.specs.Values.{Value, Var, Nil, leaf, pair, value_of}
+use Rattle.dg_meaning.specs.Moves.{new_vars}
+use Rattle.dg_meaning.specs.Values.{Value, Var, Nil, leaf, pair, value_of, value_of_var}
 use Rattle.dg_meaning.specs.Substitutions.{walk}
 use Rattle.dg_meaning.specs.Unify.{Equations, Unified, solve, unify}
 use Rattle.dg_unify.specs.Store.{State, Store, told, Kept, Holds, Charged, Made, HeapFull, ShowsVar, ShowsPair, OnlyBinds, Does, BrokeOff, UnifyFull, Follows}
@@ -21,13 +22,15 @@ use Rattle.dg_unify.proofs.Goings.{broke_later}
 use Rattle.dg_arena.specs.declared.arena.Arena.{Arena}
 use Rattle.dg_arena.specs.Held.{meaning_of}
 use Rattle.dg_mid.proofs.FlatLemmas.{top_is, pair_is}
-use Rattle.dg_machine.specs.Refs.{Keeps, Stays, RefsAt, AreRefs}
+use Rattle.dg_machine.specs.declared.now.Row.{Row}
+use Rattle.dg_machine.specs.Refs.{Keeps, Stays, RowAt, RefsAt, AreRefs}
 use Rattle.dg_machine.specs.inside.Writing.{cells_of, Overflows}
 use Rattle.dg_mid.specs.Heads.{IsPlain, IsFlatPair, IsList, Flat, AreFlat}
-use Rattle.dg_machine.specs.Heads.{at_heap, listed}
+use Rattle.dg_machine.specs.Heads.{at_heap, listed, IsOwn}
 use Rattle.dg_machine.proofs.PathLemmas.{value_pair}
-use Rattle.dg_machine.proofs.Kept.{refs_kept}
-use Rattle.dg_machine.proofs.TermLemmas.{refs_get, refs_end}
+use Rattle.dg_machine.proofs.Kept.{refs_kept, row_kept}
+use Rattle.dg_machine.proofs.RowLemmas.{new_vars_length}
+use Rattle.dg_machine.proofs.TermLemmas.{refs_get, refs_end, captured_length}
 use Rattle.dg_machine.proofs.Opens.{heap_full}
 use Rattle.dg_machine.proofs.HeadLemmas.{follows_told}
 use Rattle.dg_machine.proofs.WriteSteps.{charged_none, charged_both, overflows_behind}
@@ -58,6 +61,23 @@ pub no_program : CoreProgram
 no_program = record { preds = []; closures = []; places = []; objects = []; words = []; sites = 0; entry = 0 }
 
 -- ## Flat terms
+
+new_var : (n v i : ℕ) → i < n → value_of_var (new_vars n v) i ≡ Var (v + i)
+new_var zero v i lt = absurd (omega (arith, lt))
+new_var (suc n) v zero lt = let e : v ≡ v + 0 = omega arith in ap Var e
+new_var (suc n) v (suc i) lt = let e : suc v + i ≡ v + suc i = omega arith in new_var n (suc v) i (omega (arith, lt)) ∙ ap Var e
+
+row_length : (s : Store) (row : Row) (vs : List Value) → RowAt s row vs → length vs ≡ row.captured + row.count
+row_length s row vs h = omega (arith, ap length h.is, length-append h.captured h.own, captured_length s row.closure row.captured h.captured h.closure, h.count)
+
+-- a variable of a row of new ones
+pub own_var : (s : Store) (row : Row) (number i : ℕ) → IsOwn s row number → i < row.captured + row.count → (r : Ref) → ((vs : List Value) → RowAt s row vs → s.value r ≡ Some (value_of_var vs i)) → s.value r ≡ Some (Var (number + i))
+own_var s row number i own lt r h =
+    let all = row_length s row (new_vars own.count number) own.vars in
+    h (new_vars own.count number) own.vars ∙ ap Some (new_var own.count number i (omega (arith, lt, all, new_vars_length own.count number)))
+
+pub own_kept : (s t : Store) (row : Row) (number : ℕ) → Kept s t → IsOwn s row number → IsOwn t row number
+own_kept s t row number kept own = record { count = own.count; vars = row_kept s t row (new_vars own.count number) kept own.vars; low = own.low }
 
 -- a flat pair has a plain head and a flat tail
 pub record Parts (h tl : Term) : Type 0 where

@@ -113,7 +113,7 @@ captured_there s o k row vs n r result same is lt h part = in_closure s r row.ca
 pub none_captured : (s : Store) (row : Row) (vs : List Value) (n : ℕ) → None ≡ row.closure → n < row.captured → RowAt s row vs → ⊥
 none_captured s row vs n is lt h = let none : Captures s None row.captured h.captured = subst (λ x. Captures s x row.captured h.captured) (sym is) h.closure in omega (arith, none.0, lt)
 
-captured_length : (s : Store) (o : Option Ref) (n : ℕ) (vs : List Value) → Captures s o n vs → n ≡ length vs
+pub captured_length : (s : Store) (o : Option Ref) (n : ℕ) (vs : List Value) → Captures s o n vs → n ≡ length vs
 captured_length s None n vs h = h.0 ∙ sym (ap length h.1)
 captured_length s (Some r) n vs h = h.4
 

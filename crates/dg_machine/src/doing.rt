@@ -535,13 +535,14 @@ impl Memory {
         ensures { (t : TheTables) → (code : TheCode) → (rest : Bor (List TheOp)) →
             EntersIn t code self.old self.old.call vars head.now rest.now self.new (comes_to result rest) }
     {
+        let number = self.arena.vars();
         match self.make_rule(vars) {
             Err(_) => Did::Ends(Ending::HeapLimit),
             Ok(row) => {
                 if self.arena.room() < cells {
                     return Did::Ends(Ending::HeapLimit);
                 }
-                match self.match_head(row, head, cells) {
+                match self.match_head(row, number, head, cells) {
                     Err(_) => Did::Ends(Ending::TrailLimit),
                     Ok(false) => Did::Fails,
                     Ok(true) => {

@@ -4,7 +4,7 @@ ghost use Rattle.std.specs.List.{zip};
 ghost use Rattle.dg_base.specs.declared.program.Term.{out-Term};
 ghost use Rattle.dg_base.specs.declared.program.Term.TheVariants.{Pair as Pair-Term};
 ghost use Rattle.dg_base.specs.declared.program.CoreProgram.{CoreProgram};
-ghost use Rattle.dg_meaning.specs.Values.{Value, value_of};
+ghost use Rattle.dg_meaning.specs.Values.{Value, value_of, value_of_var};
 ghost use Rattle.dg_meaning.specs.Cells.{cells};
 ghost use Rattle.dg_meaning.specs.Substitutions.{walk};
 ghost use Rattle.dg_meaning.specs.Unify.{solve, unify as unified};
@@ -13,13 +13,13 @@ ghost use Rattle.dg_arena.specs.Held.{meaning_of};
 ghost use Rattle.dg_machine.specs.Built.{AreArguments};
 ghost use Rattle.dg_mid.specs.Heads.{IsPlain, Flat, AreFlat, FlatTerm, FlatTerms};
 ghost use Rattle.dg_machine.specs.Refs.{RowAt, RefsAt, AreRefs, Keeps};
-ghost use Rattle.dg_machine.specs.Heads.{at_heap, listed, Matches};
+ghost use Rattle.dg_machine.specs.Heads.{at_heap, listed, Matches, IsOwn};
 ghost use Rattle.dg_machine.specs.inside.Writing.{Overflows};
 
 use crate::now::Row;
-use crate::terms::{join, join_pair, plain_value};
+use crate::terms::{constant_value, join, join_pair, join_var, plain_value, simple_value};
 use dg_arena::Arena;
-use dg_base::Term;
+use dg_base::{Simple, Term};
 use dg_mid::is_plain;
 use dg_unify::{Bindings, Full, Ref, View};
 
@@ -112,26 +112,63 @@ fn match_unbound(
     }
 }
 
+/// Unifies a value with that of a variable in a row of new ones, of which the first has this number.
+#[inline(always)]
+fn match_var(arena: &mut Arena, row: &Row, number: u32, var: u16, arg: Ref) -> Result<bool, Full>
+    requires own { IsOwn (meaning_of arena.old) row.now number }
+    requires arg { Holds (meaning_of arena.old) arg }
+    ensures keeps { Keeps arena.old arena.new }
+    ensures matched { (vs : List Value) → RowAt (meaning_of arena.old) row.now vs → Follows (meaning_of arena.old) (meaning_of arena.new)
+        (unified (meaning_of arena.old).state.subst (told (meaning_of arena.old) arg) (value_of_var vs var)) result }
+{
+    match row.at(arena, var) {
+        Some(value) => join_var(arena, arg, value, number + var as u32),
+        None => {
+            let value = simple_value(arena, Simple::Nil);
+            join(arena, arg, value)
+        }
+    }
+}
+
 /// Unifies a value with that of a term without parts.
 #[inline(always)]
-fn match_plain(arena: &mut Arena, row: &Row, term: &Term, arg: Ref) -> Result<bool, Full>
+fn match_plain(
+    arena: &mut Arena,
+    row: &Row,
+    number: u32,
+    term: &Term,
+    arg: Ref,
+) -> Result<bool, Full>
     requires plain { IsPlain (out-Term term.now) }
     requires row { (vs : List Value) × RowAt (meaning_of arena.old) row.now vs }
+    requires own { IsOwn (meaning_of arena.old) row.now number }
     requires arg { Holds (meaning_of arena.old) arg }
     ensures keeps { Keeps arena.old arena.new }
     ensures matched { (p : CoreProgram) → (vs : List Value) → RowAt (meaning_of arena.old) row.now vs →
         Follows (meaning_of arena.old) (meaning_of arena.new)
         (unified (meaning_of arena.old).state.subst (told (meaning_of arena.old) arg) (value_of p vs term.now)) result }
 {
-    let value = plain_value(arena, row, term);
-    join(arena, arg, value)
+    match term {
+        Term::Var(var) => match_var(arena, row, number, *var, arg),
+        _ => {
+            let value = constant_value(arena, term);
+            join(arena, arg, value)
+        }
+    }
 }
 
 /// Unifies a value with that of a flat term: their parts, as far as the value is a list; cells are taken of what is written.
 #[inline(always)]
-fn match_flat(arena: &mut Arena, row: &Row, term: &Term, arg: Ref) -> Result<bool, Full>
+fn match_flat(
+    arena: &mut Arena,
+    row: &Row,
+    number: u32,
+    term: &Term,
+    arg: Ref,
+) -> Result<bool, Full>
     requires flat { Flat term.now }
     requires row { (vs : List Value) × RowAt (meaning_of arena.old) row.now vs }
+    requires own { IsOwn (meaning_of arena.old) row.now number }
     requires arg { Holds (meaning_of arena.old) arg }
     requires room { (p : CoreProgram) → (meaning_of arena.old).state.heap + cells p (term.now ∷ []) ≤ (meaning_of arena.old).heap_limit }
     ensures keeps { Keeps arena.old arena.new }
@@ -145,7 +182,7 @@ fn match_flat(arena: &mut Arena, row: &Row, term: &Term, arg: Ref) -> Result<boo
     let mut at = arg;
     'pairs: while let Term::Pair(head, tail) = rest {
         match arena.walk(at) {
-            View::Pair(first, others) => match match_plain(arena, row, head.get(), first) {
+            View::Pair(first, others) => match match_plain(arena, row, number, head.get(), first) {
                 Err(full) => return Err(full),
                 Ok(false) => return Ok(false),
                 Ok(true) => {
@@ -159,15 +196,22 @@ fn match_flat(arena: &mut Arena, row: &Row, term: &Term, arg: Ref) -> Result<boo
             _ => return match_written(arena, *row, rest, at),
         }
     }
-    match_plain(arena, row, rest, at)
+    match_plain(arena, row, number, rest, at)
 }
 
 /// Unifies each argument with the flat term at its place, from left to right up to the end of the shorter list or a clash, and answers
 /// whether all agree.
 #[inline(always)]
-fn match_each(arena: &mut Arena, row: &Row, args: &[Ref], head: &[Term]) -> Result<bool, Full>
+fn match_each(
+    arena: &mut Arena,
+    row: &Row,
+    number: u32,
+    args: &[Ref],
+    head: &[Term],
+) -> Result<bool, Full>
     requires args { AreRefs (meaning_of arena.old) args.now }
     requires row { (vs : List Value) × RowAt (meaning_of arena.old) row.now vs }
+    requires own { IsOwn (meaning_of arena.old) row.now number }
     requires flat { AreFlat head.now }
     requires room { (p : CoreProgram) → (meaning_of arena.old).state.heap + cells p head.now ≤ (meaning_of arena.old).heap_limit }
     ensures keeps { Keeps arena.old arena.new }
@@ -179,7 +223,7 @@ fn match_each(arena: &mut Arena, row: &Row, args: &[Ref], head: &[Term]) -> Resu
 {
     let mut at = 0;
     'pairs: while at < args.len() && at < head.len() {
-        match match_flat(arena, row, &head[at], args[at]) {
+        match match_flat(arena, row, number, &head[at], args[at]) {
             Err(full) => return Err(full),
             Ok(false) => return Ok(false),
             Ok(true) => at += 1,
@@ -193,12 +237,14 @@ fn match_each(arena: &mut Arena, row: &Row, args: &[Ref], head: &[Term]) -> Resu
 pub fn match_flats(
     arena: &mut Arena,
     row: &Row,
+    number: u32,
     args: &[Ref],
     head: &[Term],
     cells: u32,
 ) -> Result<bool, Full>
     requires args { AreRefs (meaning_of arena.old) args.now }
     requires row { (vs : List Value) × RowAt (meaning_of arena.old) row.now vs }
+    requires own { IsOwn (meaning_of arena.old) row.now number }
     requires flat { FlatTerms head.now cells }
     requires room { (meaning_of arena.old).state.heap + cells ≤ (meaning_of arena.old).heap_limit }
     ensures keeps { Keeps arena.old arena.new }
@@ -207,7 +253,7 @@ pub fn match_flats(
         (solve (meaning_of arena.old).state.subst (zip us (map (value_of p vs) head.now))) result }
 {
     let whole = arena.heap() + cells;
-    match match_each(arena, row, args, head) {
+    match match_each(arena, row, number, args, head) {
         Err(full) => Err(full),
         Ok(agreed) => match arena.charge(whole - arena.heap()) {
             Err(full) => Err(full),

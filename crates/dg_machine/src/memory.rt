@@ -27,6 +27,7 @@ ghost use Rattle.dg_machine.specs.Links.{named, below};
 ghost use Rattle.dg_machine.specs.Measure.{way_left, choices_left};
 ghost use Rattle.dg_machine.specs.Passing.{IsFirst};
 ghost use Rattle.dg_mid.specs.Heads.{FlatTerms};
+ghost use Rattle.dg_machine.specs.Heads.{IsOwn};
 ghost use Rattle.dg_machine.specs.Refs.{RowAt, RefsAt, AreRefs, IsClosureOf};
 
 use crate::heads::match_flats;
@@ -648,11 +649,18 @@ impl Memory {
     /// Unifies the arguments with the flat terms of a head, among variables in a row, for whose cells there is room, and answers whether
     /// they agree.
     #[inline(always)]
-    pub fn match_head(&mut self, row: Row, head: &[Term], cells: u32) -> Result<bool, Full>
+    pub fn match_head(
+        &mut self,
+        row: Row,
+        number: u32,
+        head: &[Term],
+        cells: u32,
+    ) -> Result<bool, Full>
         requires room { HasRoom self.old }
         requires few { HasFrameRoom self.old }
         requires args { AreRefs (meaning_of self.old.arena) self.old.args.items }
         requires row { (vs : List Value) × RowAt (meaning_of self.old.arena) row vs }
+        requires own { IsOwn (meaning_of self.old.arena) row number }
         requires flat { FlatTerms head.now cells }
         requires fits { heap_in self.old + cells ≤ limit_in self.old }
         ensures matched { (code : Code) → (l : Limits) → (m : Mid) → (p : CoreProgram) → (us vs : List Value) → Holds code l self.old m →
@@ -665,7 +673,14 @@ impl Memory {
         ensures choices { self.new.choices ≡ self.old.choices }
         ensures call { self.new.call ≡ self.old.call }
     {
-        match match_flats(&mut self.arena, &row, self.args.as_slice(), head, cells) {
+        match match_flats(
+            &mut self.arena,
+            &row,
+            number,
+            self.args.as_slice(),
+            head,
+            cells,
+        ) {
             Err(full) => Err(full),
             Ok(agreed) => Ok(agreed),
         }

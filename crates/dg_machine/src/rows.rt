@@ -1,5 +1,5 @@
 // Variables in a row of the store.
-ghost use Rattle.std.specs.Prelude.{◌≡◌, ◌<◌, ◌+◌, List, None, IfOk, MatchResult};
+ghost use Rattle.std.specs.Prelude.{◌≡◌, ◌<◌, ◌+◌, List, None, IfOk, IfSome, MatchResult};
 ghost use Rattle.dg_meaning.specs.Values.{Value};
 ghost use Rattle.dg_unify.specs.Store.{Store};
 ghost use Rattle.dg_arena.specs.Held.{meaning_of};
@@ -28,7 +28,8 @@ impl Row {
     #[inline(always)]
     pub fn at(&self, arena: &Arena, number: u16) -> Option<Ref>
         requires { (vs : List Value) × RowAt (meaning_of arena.now) self.now vs }
-        ensures { (vs : List Value) → RowAt (meaning_of arena.now) self.now vs → IsVarAt (meaning_of arena.now) vs number result }
+        ensures is { (vs : List Value) → RowAt (meaning_of arena.now) self.now vs → IsVarAt (meaning_of arena.now) vs number result }
+        ensures within { IfSome result (λ _. number < self.now.captured + self.now.count) }
     {
         if number < self.captured {
             return match self.closure {

@@ -4,7 +4,7 @@ ghost use Rattle.std.specs.List.{zip};
 ghost use Rattle.dg_base.specs.declared.program.Term.{out-Term};
 ghost use Rattle.dg_base.specs.declared.program.Term.TheVariants.{Var as VarTerm};
 ghost use Rattle.dg_base.specs.declared.program.CoreProgram.{CoreProgram};
-ghost use Rattle.dg_meaning.specs.Values.{Value, leaf, pair, value_of, value_of_var};
+ghost use Rattle.dg_meaning.specs.Values.{Value, Var, leaf, pair, value_of, value_of_var};
 ghost use Rattle.dg_meaning.specs.Substitutions.{walk};
 ghost use Rattle.dg_meaning.specs.Unify.{solve, unify as unified};
 ghost use Rattle.dg_unify.specs.Store.{Follows, Holds, ShowsVar, told, label_of};
@@ -85,6 +85,21 @@ pub fn join(arena: &mut Arena, a: Ref, b: Ref) -> Result<bool, Full>
     match arena.join(a, b) {
         Some(joined) => joined,
         None => unify_pairs(arena, a, b),
+    }
+}
+
+/// Unifies a value with a variable of this number.
+#[inline(always)]
+pub fn join_var(arena: &mut Arena, a: Ref, var: Ref, number: u32) -> Result<bool, Full>
+    requires a_in { Holds (meaning_of arena.old) a }
+    requires var_in { (meaning_of arena.old).value var ≡ Some (Var number) }
+    ensures keeps { Keeps arena.old arena.new }
+    ensures unified { Follows (meaning_of arena.old) (meaning_of arena.new)
+        (unified (meaning_of arena.old).state.subst (told (meaning_of arena.old) a) (told (meaning_of arena.old) var)) result }
+{
+    match arena.join_var(a, var, number) {
+        Some(joined) => joined,
+        None => unify_pairs(arena, a, var),
     }
 }
 

@@ -46,10 +46,36 @@ impl Arena {
         ensures saved { (ms : List Saved) → saves_of self.old ms → saves_of self.new ms }
         ensures joined { Joins (meaning_of self.old) (meaning_of self.new) to var result }
     {
-        let number = match self.free_at(var) {
-            None => return self.join_known(to, var),
-            Some(number) => number,
-        };
+        match self.free_at(var) {
+            None => self.join_known(to, var),
+            Some(number) => self.join_unbound(to, var, number),
+        }
+    }
+
+    /// The same, where the second is a variable of this number, which may be bound.
+    #[inline(always)]
+    pub fn join_var(&mut self, to: Ref, var: Ref, number: u32) -> Option<Result<bool, Full>>
+        requires to_in { Holds (meaning_of self.old) to }
+        requires var_in { (meaning_of self.old).value var ≡ Some (Var number) }
+        ensures kept { Kept (meaning_of self.old) (meaning_of self.new) }
+        ensures saved { (ms : List Saved) → saves_of self.old ms → saves_of self.new ms }
+        ensures joined { Joins (meaning_of self.old) (meaning_of self.new) to var result }
+    {
+        match self.links.to(number) {
+            None => self.join_unbound(to, var, number),
+            Some(_) => self.join_known(to, var),
+        }
+    }
+
+    // The same, where the second is an unbound variable of this number.
+    #[inline(always)]
+    fn join_unbound(&mut self, to: Ref, var: Ref, number: u32) -> Option<Result<bool, Full>>
+        requires to_in { Holds (meaning_of self.old) to }
+        requires free { IsFree (fields_of self.old) var number }
+        ensures kept { Kept (meaning_of self.old) (meaning_of self.new) }
+        ensures saved { (ms : List Saved) → saves_of self.old ms → saves_of self.new ms }
+        ensures joined { Joins (meaning_of self.old) (meaning_of self.new) to var result }
+    {
         let end = self.end_of(to);
         if !self.is_before(end, number) {
             return None;

@@ -12,7 +12,7 @@ use Rattle.dg_machine.proofs.Kept.{row_kept}
 use Rattle.dg_machine.proofs.TermLemmas.{refs_length}
 use Rattle.dg_machine.proofs.HeadLemmas.{keeps_same, keeps_on}
 use Rattle.dg_machine.proofs.Matching.{matching_starts, matched}
-use Rattle.dg_machine.proofs.HeadMatching.{kept_from, flat_at, cells_at, arg_told, arg_there, each_full, each_clash, each_on}
+use Rattle.dg_machine.proofs.HeadMatching.{kept_from, own_kept, flat_at, cells_at, arg_told, arg_there, each_full, each_clash, each_on}
 use Rattle.dg_machine.proofs.heads.match_each.Goals as goal
 
 pub pairs-init : goal.pairs-init
@@ -32,6 +32,9 @@ match_flat-requires-clause-room c p =
 
 pub match_flat-requires-clause-row : goal.match_flat-requires-clause-row
 match_flat-requires-clause-row c = (c.requires.row.0, row_kept (meaning_of c.args.arena.now) (meaning_of c.pairs.arena) c.args.row.now c.requires.row.0 c.pairs.invariant.keeps.kept c.requires.row.1)
+
+pub match_flat-requires-clause-own : goal.match_flat-requires-clause-own
+match_flat-requires-clause-own c = own_kept (meaning_of c.args.arena.now) (meaning_of c.pairs.arena) c.args.row.now c.args.number c.pairs.invariant.keeps.kept c.requires.own
 
 pub match_flat-requires-clause-arg : goal.match_flat-requires-clause-arg
 match_flat-requires-clause-arg c = arg_there c.args.arena.now c.pairs.arena c.pairs.invariant.keeps c.args.args.now c.pairs.at c.pairs-test.true c.requires.args

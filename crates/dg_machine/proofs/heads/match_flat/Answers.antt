@@ -16,7 +16,7 @@ use Rattle.dg_machine.proofs.Kept.{row_kept}
 use Rattle.dg_machine.proofs.PathLemmas.{value_pair, nodes_pair}
 use Rattle.dg_machine.proofs.HeadLemmas.{keeps_same, keeps_on}
 use Rattle.dg_machine.proofs.Matching.{left_starts}
-use Rattle.dg_machine.proofs.HeadMatching.{no_program, flat_parts, flat_plain, heap_grown, heap_few, left_last, part_full, part_clash, part_on}
+use Rattle.dg_machine.proofs.HeadMatching.{no_program, own_kept, flat_parts, flat_plain, heap_grown, heap_few, left_last, part_full, part_clash, part_on}
 use Rattle.dg_machine.proofs.heads.match_flat.Goals as goal
 
 pub pairs-init : goal.pairs-init
@@ -37,6 +37,9 @@ walk-requires c = c.pairs.invariant.there
 
 pub match_plain-requires-clause-row : goal.match_plain-requires-clause-row
 match_plain-requires-clause-row c = (c.requires.row.0, row_kept (meaning_of c.args.arena.now) (meaning_of c.pairs.arena) c.args.row.now c.requires.row.0 c.pairs.invariant.keeps.kept c.requires.row.1)
+
+pub match_plain-requires-clause-own : goal.match_plain-requires-clause-own
+match_plain-requires-clause-own c = own_kept (meaning_of c.args.arena.now) (meaning_of c.pairs.arena) c.args.row.now c.args.number c.pairs.invariant.keeps.kept c.requires.own
 
 pub match_plain-requires-clause-arg : goal.match_plain-requires-clause-arg
 match_plain-requires-clause-arg c =
@@ -185,6 +188,7 @@ pub match_plain-requires-2 : goal.match_plain-requires-2
 match_plain-requires-2 c = record {
   plain = flat_plain c.pairs.rest.now c.in_default.not-Pair c.pairs.invariant.flat;
   row = (c.requires.row.0, row_kept (meaning_of c.args.arena.now) (meaning_of c.pairs.arena) c.args.row.now c.requires.row.0 c.pairs.invariant.keeps.kept c.requires.row.1);
+  own = own_kept (meaning_of c.args.arena.now) (meaning_of c.pairs.arena) c.args.row.now c.args.number c.pairs.invariant.keeps.kept c.requires.own;
   arg = c.pairs.invariant.there;
 }
 

@@ -6,6 +6,7 @@ use Rattle.dg_meaning.specs.Moves.{new_vars}
 use Rattle.dg_meaning.specs.Unify.{solve}
 use Rattle.dg_arena.specs.Held.{meaning_of}
 use Rattle.dg_mid.specs.Step.{bound}
+use Rattle.dg_machine.specs.Refs.{RowAt}
 use Rattle.dg_machine.specs.Layout.{made_state, headed_state, heap_in, limit_in, CallAt}
 use Rattle.dg_machine.proofs.RowLemmas.{lacks_more}
 use Rattle.dg_machine.proofs.Kept.{row_kept, refs_moved, moved_to}
@@ -18,6 +19,13 @@ match_head-requires-clause-args c = refs_moved (meaning_of c.args.self.now.arena
 
 pub match_head-requires-clause-row : goal.match_head-requires-clause-row
 match_head-requires-clause-row c = (new_vars c.args.vars (meaning_of c.args.self.now.arena).state.vars, c.in-Ok.ensures.row)
+
+pub match_head-requires-clause-own : goal.match_head-requires-clause-own
+match_head-requires-clause-own c = record {
+  count = c.args.vars;
+  vars = subst (λ n. RowAt (meaning_of c.make_rule.new.self.arena) c.in-Ok.row (new_vars c.args.vars n)) (sym c.vars-number.ensures.count) c.in-Ok.ensures.row;
+  low = c.vars-number.ensures.few;
+}
 
 pub match_head-requires-clause-fits : goal.match_head-requires-clause-fits
 match_head-requires-clause-fits c = omega (arith, c.room.ensures)
