@@ -527,7 +527,6 @@ impl Memory {
     }
 
     /// A rule of so many variables and a head of flat terms that take so many cells is entered.
-    #[inline(always)]
     fn enter_flat(&mut self, vars: u16, head: &[Term], cells: u32) -> Did
         requires room { HasRoom self.old }
         requires args { AreRefs (meaning_of self.old.arena) self.old.args.items }
@@ -576,7 +575,6 @@ impl Memory {
     }
 
     /// A rule of so many variables and this head is entered, which takes so many cells if it is flat.
-    #[inline(always)]
     fn enter(&mut self, tables: &Tables, vars: u16, head: &[Term], flat: Option<u32>) -> Did
         requires room { HasRoom self.old }
         requires args { AreRefs (meaning_of self.old.arena) self.old.args.items }
@@ -751,7 +749,7 @@ impl Memory {
     }
 
     /// A call enters a rule.
-    #[inline(always)]
+    #[inline(never)]
     pub fn enter_rule<'p>(&mut self, tables: &Tables, ops: &'p [Op]) -> Now<'p>
         requires room { HasRoom self.old }
         requires args { AreRefs (meaning_of self.old.arena) self.old.args.items }

@@ -158,7 +158,6 @@ fn match_plain(
 }
 
 /// Unifies a value with that of a flat term: their parts, as far as the value is a list; cells are taken of what is written.
-#[inline(always)]
 fn match_flat(
     arena: &mut Arena,
     row: &Row,
@@ -201,7 +200,6 @@ fn match_flat(
 
 /// Unifies each argument with the flat term at its place, from left to right up to the end of the shorter list or a clash, and answers
 /// whether all agree.
-#[inline(always)]
 fn match_each(
     arena: &mut Arena,
     row: &Row,
@@ -233,7 +231,6 @@ fn match_each(
 }
 
 /// The same, and the cells of all terms are taken, for which there is room.
-#[inline(always)]
 pub fn match_flats(
     arena: &mut Arena,
     row: &Row,

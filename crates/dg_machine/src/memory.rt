@@ -648,7 +648,6 @@ impl Memory {
 
     /// Unifies the arguments with the flat terms of a head, among variables in a row, for whose cells there is room, and answers whether
     /// they agree.
-    #[inline(always)]
     pub fn match_head(
         &mut self,
         row: Row,
