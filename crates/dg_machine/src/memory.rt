@@ -74,11 +74,11 @@ fn drop_to(choices: &mut Vec<Choice>, to: u32)
     ensures capacity { vec_capacity choices.new ≡ vec_capacity choices.old }
     ensures fewer { length choices.new.items ≤ length choices.old.items }
 {
-    'newest: while let Some(choice) = choices.pop() {
+    'newest: while let Some(choice) = choices.last() {
         if choice.mark.heap < to {
-            choices.push_reserved(choice);
             return;
         }
+        choices.truncate(choices.len() - 1);
     }
 }
 

@@ -207,7 +207,8 @@ fn fail_apart<'p>(memory: &mut Memory, code: &'p Code, outside: &mut Outside<'_>
 /// Whether a rule is answered. It is looked at first, since it is done most often.
 #[inline(always)]
 fn returns(now: Now<'_>) -> bool
-    ensures { result ≡ true → IsQuick now.entry }
+    ensures quick { result ≡ true → IsQuick now.entry }
+    ensures mark { result ≡ true → rests now.entry ≡ false }
 {
     match now {
         Now::Runs(ops) => match ops {
@@ -537,6 +538,26 @@ fn next_goal<'p, S: Source, K: Sink>(
     }
 }
 
+/// Answers a rule, and those that are answered behind it.
+#[inline(always)]
+fn answers<'p>(memory: &mut Memory, code: &'p Code, tables: &Tables, now: Now<'p>) -> Now<'p>
+    requires built { IsBuilt code.now }
+    requires tidy { Tidy code.now }
+    requires some { (out : TheOutside) × IsSomewhereWith tables.now code.now memory.old out now }
+    requires mark { rests now ≡ false }
+    requires quick { IsQuick now }
+    ensures comes { (out : TheOutside) → Settles tables.now code.now memory.old out now.entry memory.new out result }
+    ensures falls { left_of memory.new result < left_of memory.old now.entry }
+{
+    let mut now = now;
+    'answers: loop {
+        now = quick_mark(memory, code, tables, now);
+        if !returns(now) {
+            return now;
+        }
+    }
+}
+
 /// Does steps up to the next goal, or the end.
 #[inline(always)]
 fn settle<'p>(
@@ -557,7 +578,7 @@ fn settle<'p>(
     let mut now = now;
     'marks: while !rests(now) {
         if returns(now) {
-            now = quick_mark(memory, code, tables, now);
+            now = answers(memory, code, tables, now);
         } else if is_quick(now) {
             now = quick_mark(memory, code, tables, now);
         } else if fails(now) {

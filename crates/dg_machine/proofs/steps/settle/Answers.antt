@@ -23,29 +23,37 @@ marks-smaller c =
     let s = with_it.somewhere in
     mark_falls c.args.code.now s.game s.limits s.typed c.requires.built c.args.tables.now s.tabled c.marks.memory c.mark_apart-now.new.memory c.marks.outside c.mark_apart-now.new.outside c.marks.now c.mark_apart-now.result s.steps e c.mark_apart-now.ensures.done s.stands with_it.outside
 
+pub answers-now-requires : goal.answers-now-requires
+answers-now-requires c = record {
+  built = c.requires.built;
+  tidy = c.requires.tidy;
+  some = (c.marks.outside, c.marks.invariant.somewhere);
+  mark = c.if-returns.ensures.mark refl;
+  quick = c.if-returns.ensures.quick refl;
+}
+
 pub marks-preserved-then-returns : goal.marks-preserved-then-returns
 marks-preserved-then-returns c =
     let e : rests c.marks.now ≡ false = search rules in
+    let tb = c.args.tables.now in
+    let code = c.args.code.now in
+    let comes = c.answers-now.ensures.comes c.marks.outside in
     record {
-      settles = λ g is_of l typed steps h w. settled_on c.args.code.now g l typed c.requires.built c.args.tables.now is_of c.marks.memory c.quick_mark-now.new.memory c.marks.outside c.marks.outside c.marks.now c.quick_mark-now.result steps e (c.quick_mark-now.ensures c.marks.outside) (c.marks.invariant.settles g is_of l typed steps h w);
-      somewhere = somewhere_marked c.args.tables.now c.args.code.now c.requires.built c.marks.memory c.quick_mark-now.new.memory c.marks.outside c.marks.outside c.marks.now c.quick_mark-now.result e (c.quick_mark-now.ensures c.marks.outside) c.marks.invariant.somewhere;
+      settles = settled_then tb code c.args.memory.now c.marks.memory c.answers-now.new.memory c.args.outside.now c.marks.outside c.marks.outside c.args.now c.marks.now c.answers-now.result c.marks.invariant.settles comes;
+      somewhere = somewhere_settled tb code c.marks.memory c.answers-now.new.memory c.marks.outside c.marks.outside c.marks.now c.answers-now.result comes c.marks.invariant.somewhere;
       sites = c.marks.invariant.sites;
       stays = λ end. absurd (let x = end_rests c.marks.now (c.marks.invariant.stays end) in cc (e, x));
     }
 
 pub marks-smaller-then-returns : goal.marks-smaller-then-returns
-marks-smaller-then-returns c =
-    let e : rests c.marks.now ≡ false = search rules in
-    let with_it = c.marks.invariant.somewhere in
-    let s = with_it.somewhere in
-    mark_falls c.args.code.now s.game s.limits s.typed c.requires.built c.args.tables.now s.tabled c.marks.memory c.quick_mark-now.new.memory c.marks.outside c.marks.outside c.marks.now c.quick_mark-now.result s.steps e (c.quick_mark-now.ensures c.marks.outside) s.stands with_it.outside
+marks-smaller-then-returns c = c.answers-now.ensures.falls
 
 pub marks-preserved-then-is_quick : goal.marks-preserved-then-is_quick
 marks-preserved-then-is_quick c =
     let e : rests c.marks.now ≡ false = search rules in
     record {
-      settles = λ g is_of l typed steps h w. settled_on c.args.code.now g l typed c.requires.built c.args.tables.now is_of c.marks.memory c.quick_mark-now-then-is_quick.new.memory c.marks.outside c.marks.outside c.marks.now c.quick_mark-now-then-is_quick.result steps e (c.quick_mark-now-then-is_quick.ensures c.marks.outside) (c.marks.invariant.settles g is_of l typed steps h w);
-      somewhere = somewhere_marked c.args.tables.now c.args.code.now c.requires.built c.marks.memory c.quick_mark-now-then-is_quick.new.memory c.marks.outside c.marks.outside c.marks.now c.quick_mark-now-then-is_quick.result e (c.quick_mark-now-then-is_quick.ensures c.marks.outside) c.marks.invariant.somewhere;
+      settles = λ g is_of l typed steps h w. settled_on c.args.code.now g l typed c.requires.built c.args.tables.now is_of c.marks.memory c.quick_mark-now.new.memory c.marks.outside c.marks.outside c.marks.now c.quick_mark-now.result steps e (c.quick_mark-now.ensures c.marks.outside) (c.marks.invariant.settles g is_of l typed steps h w);
+      somewhere = somewhere_marked c.args.tables.now c.args.code.now c.requires.built c.marks.memory c.quick_mark-now.new.memory c.marks.outside c.marks.outside c.marks.now c.quick_mark-now.result e (c.quick_mark-now.ensures c.marks.outside) c.marks.invariant.somewhere;
       sites = c.marks.invariant.sites;
       stays = λ end. absurd (let x = end_rests c.marks.now (c.marks.invariant.stays end) in cc (e, x));
     }
@@ -55,7 +63,7 @@ marks-smaller-then-is_quick c =
     let e : rests c.marks.now ≡ false = search rules in
     let with_it = c.marks.invariant.somewhere in
     let s = with_it.somewhere in
-    mark_falls c.args.code.now s.game s.limits s.typed c.requires.built c.args.tables.now s.tabled c.marks.memory c.quick_mark-now-then-is_quick.new.memory c.marks.outside c.marks.outside c.marks.now c.quick_mark-now-then-is_quick.result s.steps e (c.quick_mark-now-then-is_quick.ensures c.marks.outside) s.stands with_it.outside
+    mark_falls c.args.code.now s.game s.limits s.typed c.requires.built c.args.tables.now s.tabled c.marks.memory c.quick_mark-now.new.memory c.marks.outside c.marks.outside c.marks.now c.quick_mark-now.result s.steps e (c.quick_mark-now.ensures c.marks.outside) s.stands with_it.outside
 
 pub fail_apart-now-requires-clause-some : goal.fail_apart-now-requires-clause-some
 fail_apart-now-requires-clause-some c = (c.args.tables.now, c.marks.now, c.if-fails.ensures.fails refl, c.marks.invariant.somewhere)
