@@ -2,7 +2,7 @@
 
 ghost use Rattle.std.specs.Prelude.{vec_capacity, ◌≡◌, ◌&&◌, ◌+◌, ◌≤◌, ℕ, List, [], ◌∷◌, Some, None, true, false};
 ghost use Rattle.std.specs.Prelude.{IfOk, IfSome, MatchResult, length, reverse};
-ghost use Rattle.dg_unify.specs.Store.{Saved, Kept, told, Shows, HeapFull, TrailFull, Blocked, Bound};
+ghost use Rattle.dg_unify.specs.Store.{Saved, Kept, told, Holds, Shows, Charged, Made, HeapFull, TrailFull, Blocked, Bound};
 ghost use Rattle.dg_unify.specs.Linked.{log_of, vars_of, var_room, link_room};
 ghost use Rattle.dg_unify.specs.Slots.{AreSound, is_constant, store_of};
 ghost use Rattle.dg_unify.specs.inside.Ends.{TellsOf, told_in, IsEnd, Leads, EndsAt, MayLink};
@@ -65,6 +65,7 @@ pub struct Arena {
 
 impl Arena {
     ghost use Rattle.dg_meaning.specs.Unify.{top};
+    ghost use Rattle.dg_meaning.specs.Values.{pair};
     ghost use Rattle.dg_arena.specs.Held.{fields_of, meaning_of, saves_of};
 
     /// An empty arena with the limits of heap and trail, which takes all its room. There is none for a heap of more than
@@ -128,11 +129,54 @@ impl Arena {
         if self.heap_limit - self.heap < count as u32 {
             return Err(Full::Heap);
         }
+        Ok(self.fit_row(count))
+    }
+
+    /// The same, where there is room for them.
+    #[inline(always)]
+    pub fn fit_row(&mut self, count: u16) -> u32
+        requires room { (meaning_of self.old).state.heap + count ≤ (meaning_of self.old).heap_limit }
+        ensures kept { Kept (meaning_of self.old) (meaning_of self.new) }
+        ensures saved { (ms : List Saved) → saves_of self.old ms → saves_of self.new ms }
+        ensures waits { self.new.waits ≡ self.old.waits }
+        ensures made { MadeVars count (meaning_of self.old) (meaning_of self.new) result }
+        ensures low { result + count ≤ 2147483648 }
+    {
         let at = self.cells.len() as u32;
         move_fence(&mut self.fence, self.cells.len(), self.links.vars());
         push_vars(&mut self.cells, &mut self.links, count);
         self.heap += count as u32;
-        Ok(at)
+        at
+    }
+
+    /// Takes so much of the heap, where there is room for it.
+    #[inline(always)]
+    pub fn take(&mut self, cells: u32)
+        requires room { (meaning_of self.old).state.heap + cells ≤ (meaning_of self.old).heap_limit }
+        ensures kept { Kept (meaning_of self.old) (meaning_of self.new) }
+        ensures saved { (ms : List Saved) → saves_of self.old ms → saves_of self.new ms }
+        ensures waits { self.new.waits ≡ self.old.waits }
+        ensures taken { Charged cells (meaning_of self.old) (meaning_of self.new) }
+    {
+        self.heap += cells;
+    }
+
+    /// A pair, for which there is room.
+    #[inline(always)]
+    pub fn fit_pair(&mut self, head: Ref, tail: Ref) -> Ref
+        requires head_in { Holds (meaning_of self.old) head }
+        requires tail_in { Holds (meaning_of self.old) tail }
+        requires room { (meaning_of self.old).state.heap + 3 ≤ (meaning_of self.old).heap_limit }
+        ensures kept { Kept (meaning_of self.old) (meaning_of self.new) }
+        ensures saved { (ms : List Saved) → saves_of self.old ms → saves_of self.new ms }
+        ensures waits { self.new.waits ≡ self.old.waits }
+        ensures made { Made 3 (meaning_of self.old) (meaning_of self.new) result (pair (told (meaning_of self.old) head) (told (meaning_of self.old) tail)) }
+    {
+        let constant = self.are_constant(head, tail);
+        let at = self.cells.len() as u32;
+        self.cells.push_reserved(Slot::Pair(head, tail, constant));
+        self.heap += 3;
+        Ref(at)
     }
 
     /// The word at a place of a block.
@@ -495,11 +539,7 @@ impl Bindings for Arena {
         if self.heap_limit - self.heap < 3 {
             return Err(Full::Heap);
         }
-        let constant = self.are_constant(head, tail);
-        let at = self.cells.len() as u32;
-        self.cells.push_reserved(Slot::Pair(head, tail, constant));
-        self.heap += 3;
-        Ok(Ref(at))
+        Ok(self.fit_pair(head, tail))
     }
 
     fn closure(&mut self, place: u16, captured: &[Ref]) -> Result<Ref, Full> {
@@ -530,7 +570,7 @@ impl Bindings for Arena {
         if self.heap_limit - self.heap < cells {
             return Err(Full::Heap);
         }
-        self.heap += cells;
+        self.take(cells);
         Ok(())
     }
 

@@ -13,8 +13,15 @@ use Rattle.dg_mid.specs.Step.{more}
 use Rattle.dg_machine.specs.declared.memory.Memory.{Memory}
 use Rattle.dg_machine.specs.declared.now.Row.{Row}
 use Rattle.dg_mid.specs.Heads.{FlatTerms}
-use Rattle.dg_machine.specs.Layout.{MadeRule, Matched, Unmatched, Lacks, made_state, headed_state, heap_in, limit_in}
+use Rattle.dg_machine.specs.Layout.{Holds, MadeRule, Matched, Unmatched, Lacks, made_state, headed_state, heap_in, limit_in}
 use Rattle.dg_machine.proofs.Opens.{roomy}
+
+pub flat_full : (code : Code) (l : Limits) (m : Mid) (p : CoreProgram) (vars n : ℕ) (head : List Term) → FlatTerms head n → (r : Memory) → Holds code l r m → limit_in r < heap_in r + (6 + vars + n) → Lacks (6 + vars + cells p head) l m.state.heap r
+flat_full code l m p vars n head flat r h over =
+    let takes : cells p head ≡ n = flat.takes p in
+    let heap : heap_in r ≡ m.state.heap = ap (λ (s : State). s.heap) h.0.state_is in
+    let limit : limit_in r ≡ l.heap = h.0.limits.heap in
+    record { over = omega (arith, over, takes, heap, limit); roomy = roomy code l m r h }
 
 module _ (code : Code) (l : Limits) (m : Mid) (p : CoreProgram) (vars n : ℕ) (head : List Term) (flat : FlatTerms head n) (mid : Memory) (row : Row) (made : MadeRule code l vars m mid row) where
   abbrev ruled : Mid
@@ -28,9 +35,6 @@ module _ (code : Code) (l : Limits) (m : Mid) (p : CoreProgram) (vars n : ℕ) (
 
   limit_is : limit_in mid ≡ l.heap
   limit_is = made.held.0.limits.heap
-
-  pub flat_lacks : limit_in mid < heap_in mid + n → Lacks (6 + vars + cells p head) l m.state.heap mid
-  flat_lacks lt = record { over = omega (arith, lt, takes, heap_is, limit_is); roomy = roomy code l ruled mid made.held }
 
   pub flat_within : heap_in mid + n ≤ limit_in mid → m.state.heap + (6 + vars + cells p head) ≤ l.heap
   flat_within le = omega (arith, le, takes, heap_is, limit_is)

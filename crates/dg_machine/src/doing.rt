@@ -535,20 +535,16 @@ impl Memory {
             EntersIn t code self.old self.old.call vars head.now rest.now self.new (comes_to result rest) }
     {
         let number = self.arena.vars();
-        match self.make_rule(vars) {
-            Err(_) => Did::Ends(Ending::HeapLimit),
-            Ok(row) => {
-                if self.arena.room() < cells {
-                    return Did::Ends(Ending::HeapLimit);
-                }
-                match self.match_head(row, number, head, cells) {
-                    Err(_) => Did::Ends(Ending::TrailLimit),
-                    Ok(false) => Did::Fails,
-                    Ok(true) => {
-                        self.push_frame(self.call, row);
-                        Did::GoesOn
-                    }
-                }
+        if (self.arena.room() as u64) < 6 + vars as u64 + cells as u64 {
+            return Did::Ends(Ending::HeapLimit);
+        }
+        let row = self.fit_rule(vars);
+        match self.match_head(row, number, head, cells) {
+            Err(_) => Did::Ends(Ending::TrailLimit),
+            Ok(false) => Did::Fails,
+            Ok(true) => {
+                self.push_frame(self.call, row);
+                Did::GoesOn
             }
         }
     }

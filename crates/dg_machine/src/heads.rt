@@ -106,10 +106,8 @@ fn match_unbound(
 {
     let first = plain_value(arena, row, head);
     let second = plain_value(arena, row, tail);
-    match arena.pair(first, second) {
-        Err(full) => Err(full),
-        Ok(whole) => join_pair(arena, arg, var, whole, first, second),
-    }
+    let whole = arena.fit_pair(first, second);
+    join_pair(arena, arg, var, whole, first, second)
 }
 
 /// Unifies a value with that of a variable in a row of new ones, of which the first has this number.
@@ -252,9 +250,9 @@ pub fn match_flats(
     let whole = arena.heap() + cells;
     match match_each(arena, row, number, args, head) {
         Err(full) => Err(full),
-        Ok(agreed) => match arena.charge(whole - arena.heap()) {
-            Err(full) => Err(full),
-            Ok(()) => Ok(agreed),
-        },
+        Ok(agreed) => {
+            arena.take(whole - arena.heap());
+            Ok(agreed)
+        }
     }
 }

@@ -34,7 +34,7 @@ use crate::heads::match_flats;
 use crate::now::{Call, Choice, Frame, Inner, Row, Side, Way};
 use crate::refs::{MOST_ARGS, move_refs, push_refs};
 use crate::register::{write_both, write_one, write_terms, write_three};
-use crate::rows::make_row;
+use crate::rows::{fit_row, make_row};
 use crate::tables::Tables;
 use crate::terms::{join, match_heads, simple_value, var_value};
 use dg_arena::Arena;
@@ -568,6 +568,25 @@ impl Memory {
                 Ok(row) => Ok(row),
             },
         }
+    }
+
+    /// The same, where there is room for them.
+    #[inline(always)]
+    pub fn fit_rule(&mut self, vars: u16) -> Row
+        requires room { HasRoom self.old }
+        requires fits { heap_in self.old + 6 + vars ≤ limit_in self.old }
+        ensures held { (code : Code) → (l : Limits) → (m : Mid) → Holds code l self.old m → MadeRule code l vars m self.new result }
+        ensures room { HasRoom self.new }
+        ensures few { HasFrameRoom self.new }
+        ensures row { RowAt (meaning_of self.new.arena) result (new_vars vars (meaning_of self.old.arena).state.vars) }
+        ensures values { Kept (meaning_of self.old.arena) (meaning_of self.new.arena) }
+        ensures heap { heap_in self.new ≡ heap_in self.old + 6 + vars }
+        ensures args { self.new.args ≡ self.old.args }
+        ensures choices { self.new.choices ≡ self.old.choices }
+        ensures call { self.new.call ≡ self.old.call }
+    {
+        self.arena.take(6);
+        fit_row(&mut self.arena, vars)
     }
 
     /// Puts the values of a rule's head, among its variables in a row, into the register of heads.

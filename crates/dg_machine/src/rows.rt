@@ -1,5 +1,5 @@
 // Variables in a row of the store.
-ghost use Rattle.std.specs.Prelude.{◌≡◌, ◌<◌, ◌+◌, List, None, IfOk, IfSome, MatchResult};
+ghost use Rattle.std.specs.Prelude.{◌≡◌, ◌<◌, ◌≤◌, ◌+◌, List, None, IfOk, IfSome, MatchResult};
 ghost use Rattle.dg_meaning.specs.Values.{Value};
 ghost use Rattle.dg_unify.specs.Store.{Store};
 ghost use Rattle.dg_arena.specs.Held.{meaning_of};
@@ -70,5 +70,21 @@ pub fn make_row(arena: &mut Arena, count: u16) -> Result<Row, Full>
             first,
             count,
         }),
+    }
+}
+
+/// The same, where there is room for them.
+#[inline(always)]
+pub fn fit_row(arena: &mut Arena, count: u16) -> Row
+    requires room { (meaning_of arena.old).state.heap + count ≤ (meaning_of arena.old).heap_limit }
+    ensures keeps { Keeps arena.old arena.new }
+    ensures made { MadeRow count (meaning_of arena.old) (meaning_of arena.new) result }
+{
+    let first = arena.fit_row(count);
+    Row {
+        closure: None,
+        captured: 0,
+        first,
+        count,
     }
 }

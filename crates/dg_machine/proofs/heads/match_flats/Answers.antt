@@ -7,10 +7,10 @@ use Rattle.dg_machine.proofs.heads.match_flats.Goals as goal
 pub overflow_sub-whole : goal.overflow_sub-whole
 overflow_sub-whole c = omega (arith, c.in-Ok.ensures.few no_program, c.requires.flat.takes no_program, c.heap.ensures)
 
-pub returns-in-Ok-charge-clause-matched : goal.returns-in-Ok-charge-clause-matched
-returns-in-Ok-charge-clause-matched c p us vs ha hr =
+pub returns-in-Ok-clause-matched : goal.returns-in-Ok-clause-matched
+returns-in-Ok-clause-matched c p us vs ha hr =
     let x = c.in-Ok.ensures.matched p us vs ha hr in
-    let e = c.in-Ok-charge.ensures.made.state in
+    let e = c.take.ensures.taken.state in
     let heap = ap (λ (s : State). s.heap) e in
     let trail = ap (λ (s : State). s.trail) e in
     record {

@@ -4,7 +4,7 @@ use Rattle.dg_arena.proofs.Making.{row_here, moved}
 use Rattle.dg_arena.proofs.Young.{young_same}
 use Rattle.dg_arena.specs.Held.{fields_of}
 use Rattle.dg_unify.proofs.FenceLemmas.{end_of}
-use Rattle.dg_arena.proofs.arena.Arena.row.Goals as goal
+use Rattle.dg_arena.proofs.arena.Arena.fit_row.Goals as goal
 
 pub invariant_of-self : goal.invariant_of-self
 invariant_of-self c =

@@ -2,7 +2,7 @@ use Rattle.std.proofs.Common.{◌≡◌, arith, [], ◌∷◌, ◌++◌}
 use Rattle.dg_unify.specs.declared.slots.Slot.TheVariants as slot
 use Rattle.dg_arena.specs.Held.{fields_of}
 use Rattle.dg_arena.proofs.Making.{makes_pair}
-use Rattle.dg_arena.proofs.arena.ArenaBindings.pair.Goals as goal
+use Rattle.dg_arena.proofs.arena.Arena.fit_pair.Goals as goal
 
 pub invariant_of-self : goal.invariant_of-self
 invariant_of-self c =

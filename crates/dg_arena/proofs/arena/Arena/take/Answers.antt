@@ -3,7 +3,7 @@ use Rattle.dg_unify.specs.Slots.{Fields}
 use Rattle.dg_unify.proofs.Stores.{grown_slots}
 use Rattle.dg_arena.specs.Held.{fields_of}
 use Rattle.dg_arena.proofs.Making.{behind, marks_grown}
-use Rattle.dg_arena.proofs.arena.ArenaBindings.charge.Goals as goal
+use Rattle.dg_arena.proofs.arena.Arena.take.Goals as goal
 
 pub returns-clause-saved : goal.returns-clause-saved
 returns-clause-saved c = λ ms h.
