@@ -4,6 +4,7 @@ pub mod Tables
 pub mod Passing
 pub mod Stops
 pub mod Heads
+pub mod Joins
 pub mod Layout
 pub mod Built
 pub mod Seeking

@@ -1,8 +1,8 @@
 // Heads that are matched as they are read: what a pair of a head says is written only where it isn't there.
-ghost use Rattle.std.specs.Prelude.{◌≡◌, ◌+◌, ◌*◌, ◌≤◌, [], ◌∷◌, List, Some, true, IfSome, OnOk, MatchResult, length, map};
+ghost use Rattle.std.specs.Prelude.{◌≡◌, ℕ, ◌+◌, ◌*◌, ◌≤◌, [], ◌∷◌, List, Some, true, IfSome, OnOk, MatchResult, length, map};
 ghost use Rattle.std.specs.List.{zip};
 ghost use Rattle.dg_base.specs.declared.program.Term.{out-Term};
-ghost use Rattle.dg_base.specs.declared.program.Term.TheVariants.{Pair as Pair-Term};
+ghost use Rattle.dg_base.specs.declared.program.Term.TheVariants.{Pair as Pair-Term, Var as VarTerm};
 ghost use Rattle.dg_base.specs.declared.program.CoreProgram.{CoreProgram};
 ghost use Rattle.dg_meaning.specs.Values.{Value, value_of, value_of_var};
 ghost use Rattle.dg_meaning.specs.Cells.{cells};
@@ -13,11 +13,15 @@ ghost use Rattle.dg_arena.specs.Held.{meaning_of};
 ghost use Rattle.dg_machine.specs.Built.{AreArguments};
 ghost use Rattle.dg_mid.specs.Heads.{IsPlain, Flat, AreFlat, FlatTerm, FlatTerms};
 ghost use Rattle.dg_machine.specs.Refs.{RowAt, RefsAt, AreRefs, Keeps};
+ghost use Rattle.dg_machine.specs.Joins.{answer_of};
 ghost use Rattle.dg_machine.specs.Heads.{at_heap, listed, Matches, IsOwn};
 ghost use Rattle.dg_machine.specs.inside.Writing.{Overflows};
 
+use crate::joins::{Joined, answer, from_answer, lacking};
 use crate::now::Row;
-use crate::terms::{constant_value, join, join_pair, join_var, plain_value, simple_value};
+use crate::terms::{
+    constant_value, join, join_apart, join_pair, join_var, plain_value, simple_value,
+};
 use dg_arena::Arena;
 use dg_base::{Simple, Term};
 use dg_mid::is_plain;
@@ -67,7 +71,7 @@ fn flat_value(arena: &mut Arena, row: &Row, term: &Term) -> Result<Ref, Full>
 
 /// Unifies a value with that of a flat term, which is written. The row is handed over, so that it needs no place where nothing is written.
 #[inline(never)]
-fn match_written(arena: &mut Arena, row: Row, term: &Term, arg: Ref) -> Result<bool, Full>
+fn match_written(arena: &mut Arena, row: Row, term: &Term, arg: Ref) -> Joined
     requires flat { Flat term.now }
     requires row { (vs : List Value) × RowAt (meaning_of arena.old) row vs }
     requires arg { Holds (meaning_of arena.old) arg }
@@ -75,11 +79,11 @@ fn match_written(arena: &mut Arena, row: Row, term: &Term, arg: Ref) -> Result<b
     ensures keeps { Keeps arena.old arena.new }
     ensures matched { (p : CoreProgram) → (vs : List Value) → RowAt (meaning_of arena.old) row vs →
         Follows (at_heap ((meaning_of arena.old).state.heap + cells p (term.now ∷ [])) (meaning_of arena.old)) (meaning_of arena.new)
-        (unified (meaning_of arena.old).state.subst (told (meaning_of arena.old) arg) (value_of p vs term.now)) result }
+        (unified (meaning_of arena.old).state.subst (told (meaning_of arena.old) arg) (value_of p vs term.now)) (answer_of result) }
 {
     match flat_value(arena, &row, term) {
-        Err(full) => Err(full),
-        Ok(whole) => join(arena, arg, whole),
+        Err(full) => lacking(full),
+        Ok(whole) => from_answer(join(arena, arg, whole)),
     }
 }
 
@@ -92,7 +96,7 @@ fn match_unbound(
     tail: &Term,
     arg: Ref,
     var: Ref,
-) -> Result<bool, Full>
+) -> Joined
     requires head { IsPlain (out-Term head.now) }
     requires tail { IsPlain (out-Term tail.now) }
     requires row { (vs : List Value) × RowAt (meaning_of arena.old) row.now vs }
@@ -102,7 +106,7 @@ fn match_unbound(
     ensures keeps { Keeps arena.old arena.new }
     ensures matched { (p : CoreProgram) → (vs : List Value) → RowAt (meaning_of arena.old) row.now vs →
         Follows (at_heap ((meaning_of arena.old).state.heap + 3) (meaning_of arena.old)) (meaning_of arena.new)
-        (unified (meaning_of arena.old).state.subst (told (meaning_of arena.old) arg) (value_of p vs (Pair-Term head.now tail.now))) result }
+        (unified (meaning_of arena.old).state.subst (told (meaning_of arena.old) arg) (value_of p vs (Pair-Term head.now tail.now))) (answer_of result) }
 {
     let first = plain_value(arena, row, head);
     let second = plain_value(arena, row, tail);
@@ -112,31 +116,39 @@ fn match_unbound(
 
 /// Unifies a value with that of a variable in a row of new ones, of which the first has this number.
 #[inline(always)]
-fn match_var(arena: &mut Arena, row: &Row, number: u32, var: u16, arg: Ref) -> Result<bool, Full>
+fn match_var(arena: &mut Arena, row: &Row, number: u32, var: u16, arg: Ref) -> Joined
     requires own { IsOwn (meaning_of arena.old) row.now number }
     requires arg { Holds (meaning_of arena.old) arg }
     ensures keeps { Keeps arena.old arena.new }
     ensures matched { (vs : List Value) → RowAt (meaning_of arena.old) row.now vs → Follows (meaning_of arena.old) (meaning_of arena.new)
-        (unified (meaning_of arena.old).state.subst (told (meaning_of arena.old) arg) (value_of_var vs var)) result }
+        (unified (meaning_of arena.old).state.subst (told (meaning_of arena.old) arg) (value_of_var vs var)) (answer_of result) }
 {
     match row.at(arena, var) {
         Some(value) => join_var(arena, arg, value, number + var as u32),
         None => {
             let value = simple_value(arena, Simple::Nil);
-            join(arena, arg, value)
+            join_apart(arena, arg, value)
         }
     }
 }
 
+/// Unifies a value with that of a term without parts that is no variable.
+#[inline(never)]
+fn match_constant(arena: &mut Arena, term: &Term, arg: Ref) -> Joined
+    requires plain { IsPlain (out-Term term.now) }
+    requires other { (n : ℕ) → term.now ≡ VarTerm n → ⊥ }
+    requires arg { Holds (meaning_of arena.old) arg }
+    ensures keeps { Keeps arena.old arena.new }
+    ensures matched { (p : CoreProgram) → (vs : List Value) → Follows (meaning_of arena.old) (meaning_of arena.new)
+        (unified (meaning_of arena.old).state.subst (told (meaning_of arena.old) arg) (value_of p vs term.now)) (answer_of result) }
+{
+    let value = constant_value(arena, term);
+    from_answer(join(arena, arg, value))
+}
+
 /// Unifies a value with that of a term without parts.
 #[inline(always)]
-fn match_plain(
-    arena: &mut Arena,
-    row: &Row,
-    number: u32,
-    term: &Term,
-    arg: Ref,
-) -> Result<bool, Full>
+fn match_plain(arena: &mut Arena, row: &Row, number: u32, term: &Term, arg: Ref) -> Joined
     requires plain { IsPlain (out-Term term.now) }
     requires row { (vs : List Value) × RowAt (meaning_of arena.old) row.now vs }
     requires own { IsOwn (meaning_of arena.old) row.now number }
@@ -144,25 +156,16 @@ fn match_plain(
     ensures keeps { Keeps arena.old arena.new }
     ensures matched { (p : CoreProgram) → (vs : List Value) → RowAt (meaning_of arena.old) row.now vs →
         Follows (meaning_of arena.old) (meaning_of arena.new)
-        (unified (meaning_of arena.old).state.subst (told (meaning_of arena.old) arg) (value_of p vs term.now)) result }
+        (unified (meaning_of arena.old).state.subst (told (meaning_of arena.old) arg) (value_of p vs term.now)) (answer_of result) }
 {
     match term {
         Term::Var(var) => match_var(arena, row, number, *var, arg),
-        _ => {
-            let value = constant_value(arena, term);
-            join(arena, arg, value)
-        }
+        _ => match_constant(arena, term, arg),
     }
 }
 
 /// Unifies a value with that of a flat term: their parts, as far as the value is a list; cells are taken of what is written.
-fn match_flat(
-    arena: &mut Arena,
-    row: &Row,
-    number: u32,
-    term: &Term,
-    arg: Ref,
-) -> Result<bool, Full>
+fn match_flat(arena: &mut Arena, row: &Row, number: u32, term: &Term, arg: Ref) -> Joined
     requires flat { Flat term.now }
     requires row { (vs : List Value) × RowAt (meaning_of arena.old) row.now vs }
     requires own { IsOwn (meaning_of arena.old) row.now number }
@@ -171,22 +174,24 @@ fn match_flat(
     ensures keeps { Keeps arena.old arena.new }
     ensures matched { (p : CoreProgram) → (vs : List Value) → RowAt (meaning_of arena.old) row.now vs →
         Follows (at_heap (meaning_of arena.new).state.heap (meaning_of arena.old)) (meaning_of arena.new)
-        (unified (meaning_of arena.old).state.subst (told (meaning_of arena.old) arg) (value_of p vs term.now)) result }
-    ensures more { OnOk result ((meaning_of arena.old).state.heap ≤ (meaning_of arena.new).state.heap) }
-    ensures few { OnOk result ((p : CoreProgram) → (meaning_of arena.new).state.heap ≤ (meaning_of arena.old).state.heap + cells p (term.now ∷ [])) }
+        (unified (meaning_of arena.old).state.subst (told (meaning_of arena.old) arg) (value_of p vs term.now)) (answer_of result) }
+    ensures more { OnOk (answer_of result) ((meaning_of arena.old).state.heap ≤ (meaning_of arena.new).state.heap) }
+    ensures few { OnOk (answer_of result) ((p : CoreProgram) → (meaning_of arena.new).state.heap ≤ (meaning_of arena.old).state.heap + cells p (term.now ∷ [])) }
 {
     let mut rest = term;
     let mut at = arg;
     'pairs: while let Term::Pair(head, tail) = rest {
         match arena.walk(at) {
-            View::Pair(first, others) => match match_plain(arena, row, number, head.get(), first) {
-                Err(full) => return Err(full),
-                Ok(false) => return Ok(false),
-                Ok(true) => {
-                    at = others;
-                    rest = tail.get();
+            View::Pair(first, others) => {
+                match answer(match_plain(arena, row, number, head.get(), first)) {
+                    Err(full) => return lacking(full),
+                    Ok(false) => return Joined::Clashes,
+                    Ok(true) => {
+                        at = others;
+                        rest = tail.get();
+                    }
                 }
-            },
+            }
             View::Unbound(var) if is_plain(tail.get()) => {
                 return match_unbound(arena, row, head.get(), tail.get(), at, var);
             }
@@ -219,7 +224,7 @@ fn match_each(
 {
     let mut at = 0;
     'pairs: while at < args.len() && at < head.len() {
-        match match_flat(arena, row, number, &head[at], args[at]) {
+        match answer(match_flat(arena, row, number, &head[at], args[at])) {
             Err(full) => return Err(full),
             Ok(false) => return Ok(false),
             Ok(true) => at += 1,

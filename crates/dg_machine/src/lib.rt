@@ -8,6 +8,7 @@ mod copies;
 mod doing;
 mod gathering;
 mod heads;
+mod joins;
 mod machine;
 mod memory;
 mod now;

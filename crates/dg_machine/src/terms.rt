@@ -10,8 +10,10 @@ ghost use Rattle.dg_meaning.specs.Unify.{solve, unify as unified};
 ghost use Rattle.dg_unify.specs.Store.{Follows, Holds, ShowsVar, told, label_of};
 ghost use Rattle.dg_arena.specs.Held.{meaning_of};
 ghost use Rattle.dg_mid.specs.Heads.{IsPlain};
+ghost use Rattle.dg_machine.specs.Joins.{answer_of};
 ghost use Rattle.dg_machine.specs.Refs.{RowAt, RefsAt, AreRefs, Keeps, Stays};
 
+use crate::joins::{Joined, from_answer};
 use crate::now::Row;
 use crate::pairs::unify_pairs;
 use dg_arena::Arena;
@@ -88,31 +90,60 @@ pub fn join(arena: &mut Arena, a: Ref, b: Ref) -> Result<bool, Full>
     }
 }
 
+/// The same, out of line.
+#[inline(never)]
+pub fn join_apart(arena: &mut Arena, a: Ref, b: Ref) -> Joined
+    requires a_in { Holds (meaning_of arena.old) a }
+    requires b_in { Holds (meaning_of arena.old) b }
+    ensures keeps { Keeps arena.old arena.new }
+    ensures unified { Follows (meaning_of arena.old) (meaning_of arena.new)
+        (unified (meaning_of arena.old).state.subst (told (meaning_of arena.old) a) (told (meaning_of arena.old) b)) (answer_of result) }
+{
+    from_answer(join(arena, a, b))
+}
+
+/// Unifies two values of which it isn't clear at once what comes of that, out of line.
+#[inline(never)]
+pub fn pairs_apart(arena: &mut Arena, a: Ref, b: Ref) -> Joined
+    requires a_in { Holds (meaning_of arena.old) a }
+    requires b_in { Holds (meaning_of arena.old) b }
+    ensures keeps { Keeps arena.old arena.new }
+    ensures unified { Follows (meaning_of arena.old) (meaning_of arena.new)
+        (unified (meaning_of arena.old).state.subst (told (meaning_of arena.old) a) (told (meaning_of arena.old) b)) (answer_of result) }
+{
+    from_answer(unify_pairs(arena, a, b))
+}
+
+/// The same of values that aren't both pairs.
+#[inline(never)]
+pub fn unify_apart(arena: &mut Arena, a: Ref, b: Ref) -> Joined
+    requires a_in { Holds (meaning_of arena.old) a }
+    requires b_in { Holds (meaning_of arena.old) b }
+    ensures keeps { Keeps arena.old arena.new }
+    ensures unified { Follows (meaning_of arena.old) (meaning_of arena.new)
+        (unified (meaning_of arena.old).state.subst (told (meaning_of arena.old) a) (told (meaning_of arena.old) b)) (answer_of result) }
+{
+    from_answer(unify(arena, a, b))
+}
+
 /// Unifies a value with a variable of this number.
 #[inline(always)]
-pub fn join_var(arena: &mut Arena, a: Ref, var: Ref, number: u32) -> Result<bool, Full>
+pub fn join_var(arena: &mut Arena, a: Ref, var: Ref, number: u32) -> Joined
     requires a_in { Holds (meaning_of arena.old) a }
     requires var_in { (meaning_of arena.old).value var ≡ Some (Var number) }
     ensures keeps { Keeps arena.old arena.new }
     ensures unified { Follows (meaning_of arena.old) (meaning_of arena.new)
-        (unified (meaning_of arena.old).state.subst (told (meaning_of arena.old) a) (told (meaning_of arena.old) var)) result }
+        (unified (meaning_of arena.old).state.subst (told (meaning_of arena.old) a) (told (meaning_of arena.old) var)) (answer_of result) }
 {
     match arena.join_var(a, var, number) {
-        Some(joined) => joined,
-        None => unify_pairs(arena, a, var),
+        Some(given) => from_answer(given),
+        None => pairs_apart(arena, a, var),
     }
 }
 
 /// Unifies a value that leads to an unbound variable with a pair of these parts.
 #[inline(always)]
-pub fn join_pair(
-    arena: &mut Arena,
-    a: Ref,
-    var: Ref,
-    whole: Ref,
-    head: Ref,
-    tail: Ref,
-) -> Result<bool, Full>
+pub fn join_pair(arena: &mut Arena, a: Ref, var: Ref, whole: Ref, head: Ref, tail: Ref) -> Joined
     requires a_in { Holds (meaning_of arena.old) a }
     requires shows { ShowsVar (meaning_of arena.old) (walk (meaning_of arena.old).state.subst (told (meaning_of arena.old) a)) var }
     requires head_in { Holds (meaning_of arena.old) head }
@@ -120,11 +151,11 @@ pub fn join_pair(
     requires whole_in { (meaning_of arena.old).value whole ≡ Some (pair (told (meaning_of arena.old) head) (told (meaning_of arena.old) tail)) }
     ensures keeps { Keeps arena.old arena.new }
     ensures unified { Follows (meaning_of arena.old) (meaning_of arena.new)
-        (unified (meaning_of arena.old).state.subst (told (meaning_of arena.old) a) (told (meaning_of arena.old) whole)) result }
+        (unified (meaning_of arena.old).state.subst (told (meaning_of arena.old) a) (told (meaning_of arena.old) whole)) (answer_of result) }
 {
     match arena.join_pair(var, whole, head, tail) {
-        Some(joined) => joined,
-        None => unify(arena, a, whole),
+        Some(given) => from_answer(given),
+        None => unify_apart(arena, a, whole),
     }
 }
 

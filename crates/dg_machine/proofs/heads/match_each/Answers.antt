@@ -52,7 +52,7 @@ returns-in-Err-clause-matched c p us vs ha hr =
     let ew : value_of p vs term ≡ get_or (map (value_of p vs) head) n d = ap (value_of p vs) c.index-head-at.is ∙ sym (get_or-map (value_of p vs) head n term d c.if-at-head.true) in
     let row = row_kept (meaning_of old) (meaning_of now) c.args.row.now vs c.pairs.invariant.keeps.kept hr in
     each_full old now c.pairs.invariant.keeps us (map (value_of p vs) head) n (meaning_of c.match_flat.new.arena).state.heap d la lb (get_or c.args.args.now n (record { 0 = 0 })) (value_of p vs term) (arg_told old now c.pairs.invariant.keeps c.args.args.now us n c.pairs-test.true ha) ew
-    (c.pairs.invariant.matching p us vs ha hr) (meaning_of c.match_flat.new.arena) c.in-Err.full (c.in-Err.ensures.matched p vs row)
+    (c.pairs.invariant.matching p us vs ha hr) (meaning_of c.match_flat.new.arena) c.in-Err.full (rw (sym c.in-Err.ensures) at (c.match_flat.ensures.matched p vs row))
 
 pub returns-in-Ok-false-clause-matched : goal.returns-in-Ok-false-clause-matched
 returns-in-Ok-false-clause-matched c p us vs ha hr =
@@ -67,13 +67,13 @@ returns-in-Ok-false-clause-matched c p us vs ha hr =
     let ew : value_of p vs term ≡ get_or (map (value_of p vs) head) n d = ap (value_of p vs) c.index-head-at.is ∙ sym (get_or-map (value_of p vs) head n term d c.if-at-head.true) in
     let row = row_kept (meaning_of old) (meaning_of now) c.args.row.now vs c.pairs.invariant.keeps.kept hr in
     each_clash old now c.pairs.invariant.keeps us (map (value_of p vs) head) n (meaning_of c.match_flat.new.arena).state.heap d la lb (get_or c.args.args.now n (record { 0 = 0 })) (value_of p vs term) (arg_told old now c.pairs.invariant.keeps c.args.args.now us n c.pairs-test.true ha) ew
-    (c.pairs.invariant.matching p us vs ha hr) (meaning_of c.match_flat.new.arena) c.in-Ok-false.field-0 c.in-Ok-false.field-0-test (c.in-Ok-false.ensures.matched p vs row)
+    (c.pairs.invariant.matching p us vs ha hr) (meaning_of c.match_flat.new.arena) c.in-Ok-false.field-0 c.in-Ok-false.field-0-test (rw (sym c.in-Ok-false.ensures) at (c.match_flat.ensures.matched p vs row))
 
 pub returns-in-Ok-false-clause-few : goal.returns-in-Ok-false-clause-few
 returns-in-Ok-false-clause-few c p =
     let first = cells_at p c.args.head.now c.pairs.at c.index-head-at.result c.if-at-head.true in
     let same = ap (cells_of p) c.index-head-at.is in
-    omega (arith, c.in-Ok-false.ensures.few p, c.pairs.invariant.taken p, first, same)
+    omega (arith, (rw (sym c.in-Ok-false.ensures) at c.match_flat.ensures.few) p, c.pairs.invariant.taken p, first, same)
 
 pub pairs-preserved : goal.pairs-preserved
 pairs-preserved c =
@@ -84,19 +84,19 @@ pairs-preserved c =
     let term = c.index-head-at.result in
     let d : Value = leaf Nil in
     record {
-      keeps = keeps_on old now c.match_flat.new.arena c.pairs.invariant.keeps c.in-Ok-true.ensures.keeps;
+      keeps = keeps_on old now c.match_flat.new.arena c.pairs.invariant.keeps c.match_flat.ensures.keeps;
       matching = λ p us vs ha hr.
           let la : n < length us = omega (arith, c.pairs-test.true, refs_length (meaning_of old) c.args.args.now us ha) in
           let lb : n < length (map (value_of p vs) head) = omega (arith, c.if-at-head.true, length-map head (value_of p vs)) in
           let ew : value_of p vs term ≡ get_or (map (value_of p vs) head) n d = ap (value_of p vs) c.index-head-at.is ∙ sym (get_or-map (value_of p vs) head n term d c.if-at-head.true) in
           let row = row_kept (meaning_of old) (meaning_of now) c.args.row.now vs c.pairs.invariant.keeps.kept hr in
           each_on old now c.pairs.invariant.keeps us (map (value_of p vs) head) n (meaning_of c.match_flat.new.arena).state.heap d la lb (get_or c.args.args.now n (record { 0 = 0 })) (value_of p vs term) (arg_told old now c.pairs.invariant.keeps c.args.args.now us n c.pairs-test.true ha) ew
-          (c.pairs.invariant.matching p us vs ha hr) (meaning_of c.match_flat.new.arena) c.in-Ok-true.field-0 c.in-Ok-true.field-0-test (c.in-Ok-true.ensures.matched p vs row);
-      more = omega (arith, c.in-Ok-true.ensures.more, c.pairs.invariant.more);
+          (c.pairs.invariant.matching p us vs ha hr) (meaning_of c.match_flat.new.arena) c.in-Ok-true.field-0 c.in-Ok-true.field-0-test (rw (sym c.in-Ok-true.ensures) at (c.match_flat.ensures.matched p vs row));
+      more = omega (arith, (rw (sym c.in-Ok-true.ensures) at c.match_flat.ensures.more), c.pairs.invariant.more);
       taken = λ p.
           let first = cells_at p head n term c.if-at-head.true in
           let same = ap (cells_of p) c.index-head-at.is in
-          omega (arith, c.in-Ok-true.ensures.few p, c.pairs.invariant.taken p, first, same);
+          omega (arith, (rw (sym c.in-Ok-true.ensures) at c.match_flat.ensures.few) p, c.pairs.invariant.taken p, first, same);
     }
 
 pub returns-else-at-head-clause-matched : goal.returns-else-at-head-clause-matched

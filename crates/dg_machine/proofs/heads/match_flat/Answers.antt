@@ -11,6 +11,7 @@ use Rattle.dg_arena.specs.Held.{meaning_of}
 use Rattle.dg_mid.specs.Heads.{IsPlain, Flat}
 use Rattle.dg_mid.proofs.FlatLemmas.{cells_pair}
 use Rattle.dg_machine.specs.Heads.{at_heap}
+use Rattle.dg_machine.specs.Joins.{answer_of}
 use Rattle.dg_machine.specs.inside.Writing.{cells_of, nodes_of}
 use Rattle.dg_machine.proofs.Kept.{row_kept}
 use Rattle.dg_machine.proofs.PathLemmas.{value_pair, nodes_pair}
@@ -57,14 +58,14 @@ returns-in-Err c =
     let tl = c.in-Pair.tail in
     let sh : ShowsPair s (walk s.state.subst (told s c.pairs.at)) c.in-Pair-walk.first c.in-Pair-walk.others = rw c.in-Pair-walk.is at c.walk.ensures in
     record {
-      keeps = keeps_on old now new c.pairs.invariant.keeps c.in-Err.ensures.keeps;
+      keeps = keeps_on old now new c.pairs.invariant.keeps c.match_plain.ensures.keeps;
       matched = λ p vs at.
           let here = row_kept (meaning_of old) s c.args.row.now vs c.pairs.invariant.keeps.kept at in
           let is : value_of p vs c.pairs.rest.now ≡ pair (value_of p vs c.get.result.now) (value_of p vs tl) = rw c.get.ensures (value_pair p vs c.pairs.rest.now h tl c.in-Pair.is) in
-          part_full old now c.pairs.invariant.keeps ((told (meaning_of old) c.args.arg, value_of p vs c.args.term.now) ∷ []) c.pairs.at (value_of p vs c.pairs.rest.now) (c.pairs.invariant.left p vs at)
-          c.in-Pair-walk.first c.in-Pair-walk.others sh (value_of p vs c.get.result.now) (value_of p vs tl) is (meaning_of new) c.in-Err.full (c.in-Err.ensures.matched p vs here);
-      more = tt;
-      few = tt;
+          rw c.lacking.ensures (part_full old now c.pairs.invariant.keeps ((told (meaning_of old) c.args.arg, value_of p vs c.args.term.now) ∷ []) c.pairs.at (value_of p vs c.pairs.rest.now) (c.pairs.invariant.left p vs at)
+          c.in-Pair-walk.first c.in-Pair-walk.others sh (value_of p vs c.get.result.now) (value_of p vs tl) is (meaning_of new) c.in-Err.full (rw (sym c.in-Err.ensures) at (c.match_plain.ensures.matched p vs here)));
+      more = rw c.lacking.ensures tt;
+      few = rw c.lacking.ensures tt;
     }
 
 pub returns-in-Ok-false : goal.returns-in-Ok-false
@@ -76,15 +77,15 @@ returns-in-Ok-false c =
     let h = c.in-Pair.head in
     let tl = c.in-Pair.tail in
     let row = c.requires.row in
-    let x = c.in-Ok-false.ensures.matched no_program row.0 (row_kept (meaning_of old) s c.args.row.now row.0 c.pairs.invariant.keeps.kept row.1) in
+    let x = rw (sym c.in-Ok-false.ensures) at (c.match_plain.ensures.matched no_program row.0 (row_kept (meaning_of old) s c.args.row.now row.0 c.pairs.invariant.keeps.kept row.1)) in
     let sh : ShowsPair s (walk s.state.subst (told s c.pairs.at)) c.in-Pair-walk.first c.in-Pair-walk.others = rw c.in-Pair-walk.is at c.walk.ensures in
     record {
-      keeps = keeps_on old now new c.pairs.invariant.keeps c.in-Ok-false.ensures.keeps;
+      keeps = keeps_on old now new c.pairs.invariant.keeps c.match_plain.ensures.keeps;
       matched = λ p vs at.
           let here = row_kept (meaning_of old) s c.args.row.now vs c.pairs.invariant.keeps.kept at in
           let is : value_of p vs c.pairs.rest.now ≡ pair (value_of p vs c.get.result.now) (value_of p vs tl) = rw c.get.ensures (value_pair p vs c.pairs.rest.now h tl c.in-Pair.is) in
           part_clash old now c.pairs.invariant.keeps ((told (meaning_of old) c.args.arg, value_of p vs c.args.term.now) ∷ []) c.pairs.at (value_of p vs c.pairs.rest.now) (c.pairs.invariant.left p vs at)
-          c.in-Pair-walk.first c.in-Pair-walk.others sh (value_of p vs c.get.result.now) (value_of p vs tl) is (meaning_of new) c.in-Ok-false.field-0 c.in-Ok-false.field-0-test (c.in-Ok-false.ensures.matched p vs here);
+          c.in-Pair-walk.first c.in-Pair-walk.others sh (value_of p vs c.get.result.now) (value_of p vs tl) is (meaning_of new) c.in-Ok-false.field-0 c.in-Ok-false.field-0-test (rw (sym c.in-Ok-false.ensures) at (c.match_plain.ensures.matched p vs here));
       more = omega (arith, x.binds.heap, c.pairs.invariant.heap);
       few = λ p. omega (arith, x.binds.heap, c.pairs.invariant.heap);
     }
@@ -101,19 +102,19 @@ pairs-preserved c =
     let h = c.in-Pair.head in
     let tl = c.in-Pair.tail in
     let row = c.requires.row in
-    let x = c.in-Ok-true.ensures.matched no_program row.0 (row_kept (meaning_of old) s c.args.row.now row.0 c.pairs.invariant.keeps.kept row.1) in
+    let x = rw (sym c.in-Ok-true.ensures) at (c.match_plain.ensures.matched no_program row.0 (row_kept (meaning_of old) s c.args.row.now row.0 c.pairs.invariant.keeps.kept row.1)) in
     let sh : ShowsPair s (walk s.state.subst (told s c.pairs.at)) c.in-Pair-walk.first c.in-Pair-walk.others = rw c.in-Pair-walk.is at c.walk.ensures in
     record {
-      keeps = keeps_on old now new c.pairs.invariant.keeps c.in-Ok-true.ensures.keeps;
+      keeps = keeps_on old now new c.pairs.invariant.keeps c.match_plain.ensures.keeps;
       flat = subst Flat (sym c.get-rest.ensures) (flat_parts c.pairs.rest.now h tl c.in-Pair.is c.pairs.invariant.flat).tail;
-      there = holds_some (meaning_of new) c.in-Pair-walk.others sh.tail (c.in-Ok-true.ensures.keeps.kept.values c.in-Pair-walk.others sh.tail sh.tail_is);
+      there = holds_some (meaning_of new) c.in-Pair-walk.others sh.tail (c.match_plain.ensures.keeps.kept.values c.in-Pair-walk.others sh.tail sh.tail_is);
       heap = x.binds.heap ∙ c.pairs.invariant.heap;
       cells = λ p. omega (arith, c.pairs.invariant.cells p, cells_pair p c.pairs.rest.now h tl c.in-Pair.is, ap (cells_of p) c.get-rest.ensures);
       left = λ p vs at.
           let here = row_kept (meaning_of old) s c.args.row.now vs c.pairs.invariant.keeps.kept at in
           let is : value_of p vs c.pairs.rest.now ≡ pair (value_of p vs c.get.result.now) (value_of p vs c.get-rest.result.now) = rw (c.get.ensures, c.get-rest.ensures) (value_pair p vs c.pairs.rest.now h tl c.in-Pair.is) in
           part_on old now c.pairs.invariant.keeps ((told (meaning_of old) c.args.arg, value_of p vs c.args.term.now) ∷ []) c.pairs.at (value_of p vs c.pairs.rest.now) (c.pairs.invariant.left p vs at)
-          c.in-Pair-walk.first c.in-Pair-walk.others sh (value_of p vs c.get.result.now) (value_of p vs c.get-rest.result.now) is new c.in-Ok-true.ensures.keeps c.in-Ok-true.field-0 c.in-Ok-true.field-0-test (c.in-Ok-true.ensures.matched p vs here);
+          c.in-Pair-walk.first c.in-Pair-walk.others sh (value_of p vs c.get.result.now) (value_of p vs c.get-rest.result.now) is new c.match_plain.ensures.keeps c.in-Ok-true.field-0 c.in-Ok-true.field-0-test (rw (sym c.in-Ok-true.ensures) at (c.match_plain.ensures.matched p vs here));
     }
 
 pub match_unbound-requires-clause-head : goal.match_unbound-requires-clause-head
@@ -135,8 +136,8 @@ returns-in-Unbound-clause-matched c p vs at =
     let here = row_kept (meaning_of old) s c.args.row.now vs c.pairs.invariant.keeps.kept at in
     let k = s.state.heap + 3 in
     let is : Pair-Term c.get-in-Unbound.result.now c.get-in-Unbound-2.result.now ≡ c.pairs.rest.now = rw (c.get-in-Unbound.ensures, c.get-in-Unbound-2.ensures) (sym c.in-Pair.is) in
-    left_last old now c.pairs.invariant.keeps ((told (meaning_of old) c.args.arg, value_of p vs c.args.term.now) ∷ []) c.pairs.at (value_of p vs c.pairs.rest.now) (c.pairs.invariant.left p vs at) k new c.match_unbound.result
-    (subst (λ t. Follows (at_heap k s) new (unify s.state.subst (told s c.pairs.at) (value_of p vs t)) c.match_unbound.result) is (c.match_unbound.ensures.matched p vs here))
+    left_last old now c.pairs.invariant.keeps ((told (meaning_of old) c.args.arg, value_of p vs c.args.term.now) ∷ []) c.pairs.at (value_of p vs c.pairs.rest.now) (c.pairs.invariant.left p vs at) k new (answer_of c.match_unbound.result)
+    (subst (λ t. Follows (at_heap k s) new (unify s.state.subst (told s c.pairs.at) (value_of p vs t)) (answer_of c.match_unbound.result)) is (c.match_unbound.ensures.matched p vs here))
 
 pub returns-in-Unbound-clause-more : goal.returns-in-Unbound-clause-more
 returns-in-Unbound-clause-more c =
@@ -145,7 +146,7 @@ returns-in-Unbound-clause-more c =
     let vs = c.requires.row.0 in
     let some = row_kept old s c.args.row.now vs c.pairs.invariant.keeps.kept c.requires.row.1 in
     let whole = Pair-Term c.get-in-Unbound.result.now c.get-in-Unbound-2.result.now in
-    heap_grown s (meaning_of c.match_unbound.new.arena) (s.state.heap + 3) old.state.heap (unify s.state.subst (told s c.pairs.at) (value_of no_program vs whole)) c.match_unbound.result (c.match_unbound.ensures.matched no_program vs some) (omega (arith, c.pairs.invariant.heap))
+    heap_grown s (meaning_of c.match_unbound.new.arena) (s.state.heap + 3) old.state.heap (unify s.state.subst (told s c.pairs.at) (value_of no_program vs whole)) (answer_of c.match_unbound.result) (c.match_unbound.ensures.matched no_program vs some) (omega (arith, c.pairs.invariant.heap))
 
 pub returns-in-Unbound-clause-few : goal.returns-in-Unbound-clause-few
 returns-in-Unbound-clause-few c =
@@ -154,7 +155,7 @@ returns-in-Unbound-clause-few c =
     let vs = c.requires.row.0 in
     let some = row_kept old s c.args.row.now vs c.pairs.invariant.keeps.kept c.requires.row.1 in
     let whole = Pair-Term c.get-in-Unbound.result.now c.get-in-Unbound-2.result.now in
-    heap_few s (meaning_of c.match_unbound.new.arena) (λ p. s.state.heap + 3) (λ p. old.state.heap + cells_of p c.args.term.now) (λ p. unify s.state.subst (told s c.pairs.at) (value_of p vs whole)) c.match_unbound.result (λ p. c.match_unbound.ensures.matched p vs some)
+    heap_few s (meaning_of c.match_unbound.new.arena) (λ p. s.state.heap + 3) (λ p. old.state.heap + cells_of p c.args.term.now) (λ p. unify s.state.subst (told s c.pairs.at) (value_of p vs whole)) (answer_of c.match_unbound.result) (λ p. c.match_unbound.ensures.matched p vs some)
     (λ p. omega (arith, c.pairs.invariant.heap, c.pairs.invariant.cells p, cells_pair p c.pairs.rest.now c.in-Pair.head c.in-Pair.tail c.in-Pair.is))
 
 pub match_written-requires : goal.match_written-requires
@@ -177,11 +178,11 @@ returns-in_default-walk c =
       matched = λ p vs at.
           let here = row_kept (meaning_of old) (meaning_of now) c.args.row.now vs c.pairs.invariant.keeps.kept at in
           left_last old now c.pairs.invariant.keeps ((told (meaning_of old) c.args.arg, value_of p vs c.args.term.now) ∷ []) c.pairs.at (value_of p vs c.pairs.rest.now) (c.pairs.invariant.left p vs at)
-          ((meaning_of now).state.heap + cells_of p c.pairs.rest.now) (meaning_of new) c.match_written.result (c.match_written.ensures.matched p vs here);
+          ((meaning_of now).state.heap + cells_of p c.pairs.rest.now) (meaning_of new) (answer_of c.match_written.result) (c.match_written.ensures.matched p vs here);
       more = heap_grown (meaning_of now) (meaning_of new) ((meaning_of now).state.heap + cells_of no_program c.pairs.rest.now) (meaning_of old).state.heap
-          (unify (meaning_of now).state.subst (told (meaning_of now) c.pairs.at) (value_of no_program vs c.pairs.rest.now)) c.match_written.result (c.match_written.ensures.matched no_program vs some) (omega (arith, c.pairs.invariant.heap));
+          (unify (meaning_of now).state.subst (told (meaning_of now) c.pairs.at) (value_of no_program vs c.pairs.rest.now)) (answer_of c.match_written.result) (c.match_written.ensures.matched no_program vs some) (omega (arith, c.pairs.invariant.heap));
       few = heap_few (meaning_of now) (meaning_of new) (λ p. (meaning_of now).state.heap + cells_of p c.pairs.rest.now) (λ p. (meaning_of old).state.heap + cells_of p c.args.term.now)
-          (λ p. unify (meaning_of now).state.subst (told (meaning_of now) c.pairs.at) (value_of p vs c.pairs.rest.now)) c.match_written.result (λ p. c.match_written.ensures.matched p vs some) (λ p. omega (arith, c.pairs.invariant.heap, c.pairs.invariant.cells p));
+          (λ p. unify (meaning_of now).state.subst (told (meaning_of now) c.pairs.at) (value_of p vs c.pairs.rest.now)) (answer_of c.match_written.result) (λ p. c.match_written.ensures.matched p vs some) (λ p. omega (arith, c.pairs.invariant.heap, c.pairs.invariant.cells p));
     }
 
 pub match_plain-requires-2 : goal.match_plain-requires-2
@@ -204,9 +205,9 @@ returns c =
       matched = λ p vs at.
           let here = row_kept (meaning_of old) (meaning_of now) c.args.row.now vs c.pairs.invariant.keeps.kept at in
           left_last old now c.pairs.invariant.keeps ((told (meaning_of old) c.args.arg, value_of p vs c.args.term.now) ∷ []) c.pairs.at (value_of p vs c.pairs.rest.now) (c.pairs.invariant.left p vs at)
-          (meaning_of now).state.heap (meaning_of new) c.match_plain-2.result (c.match_plain-2.ensures.matched p vs here);
+          (meaning_of now).state.heap (meaning_of new) (answer_of c.match_plain-2.result) (c.match_plain-2.ensures.matched p vs here);
       more = heap_grown (meaning_of now) (meaning_of new) (meaning_of now).state.heap (meaning_of old).state.heap
-          (unify (meaning_of now).state.subst (told (meaning_of now) c.pairs.at) (value_of no_program vs c.pairs.rest.now)) c.match_plain-2.result (c.match_plain-2.ensures.matched no_program vs some) (omega (arith, c.pairs.invariant.heap));
+          (unify (meaning_of now).state.subst (told (meaning_of now) c.pairs.at) (value_of no_program vs c.pairs.rest.now)) (answer_of c.match_plain-2.result) (c.match_plain-2.ensures.matched no_program vs some) (omega (arith, c.pairs.invariant.heap));
       few = heap_few (meaning_of now) (meaning_of new) (λ p. (meaning_of now).state.heap) (λ p. (meaning_of old).state.heap + cells_of p c.args.term.now)
-          (λ p. unify (meaning_of now).state.subst (told (meaning_of now) c.pairs.at) (value_of p vs c.pairs.rest.now)) c.match_plain-2.result (λ p. c.match_plain-2.ensures.matched p vs some) (λ p. omega (arith, c.pairs.invariant.heap));
+          (λ p. unify (meaning_of now).state.subst (told (meaning_of now) c.pairs.at) (value_of p vs c.pairs.rest.now)) (answer_of c.match_plain-2.result) (λ p. c.match_plain-2.ensures.matched p vs some) (λ p. omega (arith, c.pairs.invariant.heap));
     }

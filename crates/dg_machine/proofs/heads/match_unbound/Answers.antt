@@ -5,6 +5,7 @@ use Rattle.dg_unify.specs.Store.{State, Made}
 use Rattle.dg_unify.proofs.StoreLemmas.{holds_some, holds_told, kept_holds}
 use Rattle.dg_arena.specs.Held.{meaning_of}
 use Rattle.dg_machine.specs.Refs.{Keeps}
+use Rattle.dg_machine.specs.Joins.{answer_of}
 use Rattle.dg_machine.proofs.Kept.{row_kept}
 use Rattle.dg_machine.proofs.HeadLemmas.{keeps_on, stays_on}
 use Rattle.dg_machine.proofs.HeadMatching.{no_program, pair_made, holds_first, whole_there, shows_kept, written_follows}
@@ -64,5 +65,5 @@ returns c =
           let v1 = c.plain_value-second.ensures.stays.keeps.kept.values c.plain_value-first.result (value_of p vs c.args.head.now) (c.plain_value-first.ensures.value p vs at) in
           let v2 = c.plain_value-second.ensures.value p vs (row_kept (meaning_of old) (meaning_of mid) c.args.row.now vs c.plain_value-first.ensures.stays.keeps.kept at) in
           let there : Made 3 (meaning_of old) (meaning_of new) c.fit_pair-whole.result (value_of p vs (Pair-Term c.args.head.now c.args.tail.now)) = pair_made old now new p vs c.args.head.now c.args.tail.now c.plain_value-first.result c.plain_value-second.result c.fit_pair-whole.result stays v1 v2 c.fit_pair-whole.ensures.made in
-          written_follows (meaning_of old) (meaning_of new) (meaning_of c.join_pair.new.arena) 3 c.args.arg c.fit_pair-whole.result (value_of p vs (Pair-Term c.args.head.now c.args.tail.now)) c.join_pair.result all.kept there c.requires.arg c.join_pair.ensures.unified;
+          written_follows (meaning_of old) (meaning_of new) (meaning_of c.join_pair.new.arena) 3 c.args.arg c.fit_pair-whole.result (value_of p vs (Pair-Term c.args.head.now c.args.tail.now)) (answer_of c.join_pair.result) all.kept there c.requires.arg c.join_pair.ensures.unified;
     }

@@ -5,6 +5,7 @@ use Rattle.dg_unify.specs.Store.{told}
 use Rattle.dg_unify.proofs.StoreLemmas.{holds_some, kept_holds}
 use Rattle.dg_arena.specs.Held.{meaning_of}
 use Rattle.dg_machine.specs.Refs.{Keeps}
+use Rattle.dg_machine.specs.Joins.{answer_of}
 use Rattle.dg_machine.proofs.HeadLemmas.{keeps_on}
 use Rattle.dg_machine.proofs.HeadMatching.{no_program, written_follows}
 use Rattle.dg_machine.proofs.heads.match_written.Goals as goal
@@ -28,5 +29,5 @@ returns-in-Ok c =
     record {
       keeps = keeps_on old mid c.join.new.arena c.in-Ok.ensures.keeps unified;
       matched = λ p vs at.
-          written_follows (meaning_of old) (meaning_of mid) (meaning_of c.join.new.arena) (cells p (c.args.term.now ∷ [])) c.args.arg c.in-Ok.whole (value_of p vs c.args.term.now) c.join.result c.in-Ok.ensures.keeps.kept (c.in-Ok.ensures.made p vs at) c.requires.arg c.join.ensures.unified;
+          written_follows (meaning_of old) (meaning_of mid) (meaning_of c.join.new.arena) (cells p (c.args.term.now ∷ [])) c.args.arg c.in-Ok.whole (value_of p vs c.args.term.now) (answer_of c.from_answer.result) c.in-Ok.ensures.keeps.kept (c.in-Ok.ensures.made p vs at) c.requires.arg (rw c.from_answer.ensures c.join.ensures.unified);
     }
