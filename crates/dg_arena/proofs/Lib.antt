@@ -1,7 +1,6 @@
 pub mod Rooms
 pub mod Making
 pub mod Fencing
-pub mod Young
 pub mod Clearing
 pub mod Joining
 pub mod Settling

@@ -7,15 +7,14 @@ ghost use Rattle.dg_unify.specs.Linked.{log_of, vars_of, var_room, link_room};
 ghost use Rattle.dg_unify.specs.Slots.{AreSound, is_constant, store_of};
 ghost use Rattle.dg_unify.specs.inside.Ends.{TellsOf, told_in, IsEnd, Leads, EndsAt, MayLink};
 ghost use Rattle.dg_unify.specs.Fences.{IsFenced};
-ghost use Rattle.dg_unify.specs.Links.{AreYoung};
-ghost use Rattle.dg_unify.specs.Props.{are_sound_prop, are_young_prop, is_fenced_prop};
+ghost use Rattle.dg_unify.specs.Props.{are_sound_prop, is_fenced_prop};
 ghost use Rattle.dg_arena.specs.Room.{HasRoom};
 ghost use Rattle.dg_arena.specs.Joins.{IsFree, IsAbsent};
 ghost use Rattle.dg_arena.specs.Rows.{MadeVars};
 
 mod joining;
 
-use crate::marks::{count_link, move_fence, take_back};
+use crate::marks::{count_link, move_fence};
 use crate::rows::push_vars;
 use crate::words::push_words;
 use dg_base::Simple;
@@ -31,7 +30,6 @@ pub struct Arena {
     cells: Vec<Slot>,
     links: Links,
     since: usize,
-    settled: usize,
     heap: u32,
     trail: u32,
     heap_limit: u32,
@@ -59,7 +57,6 @@ pub struct Arena {
     }) },
     ghost fenced: { IsFenced cells.items (reverse (log_of links)) (vars_of links) fence } by { is_fenced_prop cells.items (reverse (log_of links))
         (vars_of links) fence },
-    ghost young: { AreYoung since settled (log_of links) } by { are_young_prop since settled (log_of links) },
     ghost roomy: { HasRoom heap_limit heap (length cells.items) (vec_capacity cells) (var_room links) (link_room links) (vec_capacity waits) },
 }
 
@@ -86,7 +83,6 @@ impl Arena {
             cells,
             links,
             since: 0,
-            settled: 0,
             heap: 0,
             trail: 0,
             heap_limit: heap,
@@ -479,15 +475,7 @@ impl Arena {
         ensures made { MatchResult result (λ _. Bound (meaning_of self.old) (meaning_of self.new) var (told_in (fields_of self.old) to))
             (λ e. TrailFull (meaning_of self.old) (meaning_of self.new) var e) }
     {
-        let links = self.links.len();
-        if !count_link(
-            &mut self.trail,
-            self.trail_limit,
-            &mut self.settled,
-            self.since,
-            links,
-            var,
-        ) {
+        if !count_link(&mut self.trail, self.trail_limit, self.since, var) {
             return Err(Full::Trail);
         }
         self.links.bind_reserved(var, to);
@@ -630,10 +618,9 @@ impl Bindings for Arena {
 
     fn mark(&mut self) -> Mark {
         self.since = self.links.vars();
-        self.settled = self.links.len();
         Mark {
             slots: self.cells.len(),
-            links: self.settled,
+            links: self.links.len(),
             vars: self.since,
             heap: self.heap,
             trail: self.trail,
@@ -641,8 +628,7 @@ impl Bindings for Arena {
     }
 
     fn undo(&mut self, to: Mark) {
-        take_back(&mut self.links, self.since, self.settled, to.links, to.vars);
-        self.settled = to.links;
+        self.links.undo(to.links, to.vars);
         self.cells.truncate(to.slots);
         self.heap = to.heap;
         self.trail = to.trail;

@@ -18,8 +18,12 @@ pub fn push_vars(cells: &mut Vec<Slot>, links: &mut Links, count: u16)
     ensures log { log_of links.new ≡ log_of links.old }
     ensures room { KeepsRoom links.old links.new }
 {
-    'variables: for _ in 0..count {
-        cells.push_reserved(Slot::Var(links.vars() as u32));
-        links.add_var_reserved();
+    let mut number = links.vars() as u32;
+    links.add_vars_reserved(count);
+    let mut left = count;
+    'variables: while left > 0 {
+        cells.push_reserved(Slot::Var(number));
+        number += 1;
+        left -= 1;
     }
 }

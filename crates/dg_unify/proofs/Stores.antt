@@ -98,6 +98,13 @@ undone_back grows f f' to s ms e h =
     let is : s ≡ store_of grows f' = h.3.store ∙ ap (store_of grows) (sym e) in
     subst (λ t. Back s t) is (record { state = refl; kept = record { values = λ r v k. k; places = omega arith; words = λ at w k. k; heap_limit = refl; trail_limit = refl; grows = refl } })
 
+-- what a store keeps that went back to a mark
+abbrev pub back_at : Fields → Mark → List Slot → List Link → ℕ → Fields
+back_at f m slots log vars = record { slots = slots; log = log; vars = vars; since = m.vars; heap = m.heap; trail = m.trail; heap_limit = f.heap_limit; trail_limit = f.trail_limit }
+
+pub back_is : (f : Fields) (m : Mark) (slots : List Slot) (log : List Link) (vars : ℕ) → slots ≡ take m.slots f.slots → log ≡ take m.links f.log → vars ≡ m.vars → back_at f m slots log vars ≡ fields_at f m
+back_is f m slots log vars es el ev = rw (es, el, ev) refl
+
 pub undone_stand : (grows : Bool) (f f' : Fields) (to : Mark) (s : Store) (ms : List Saved) → f' ≡ fields_at f to → Stand grows f (record { mark = to; store = s } ∷ ms) → Stand grows f' (record { mark = to; store = s } ∷ ms)
 undone_stand grows f f' to s ms e h =
     let same : Same f (fields_at f to) to.slots to.links = λ m lc ll. fields_same f (fields_at f to) m (take-take m.slots to.slots f.slots lc) (take-take m.links to.links f.log ll) refl refl in

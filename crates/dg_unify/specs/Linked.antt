@@ -1,5 +1,5 @@
 -- What a list of bindings keeps.
-use Rattle.std.specs.Prelude.{ℕ, ◌≤◌, List, length, vec_capacity}
+use Rattle.std.specs.Prelude.{ℕ, ◌≤◌, List, vec_capacity}
 use Rattle.dg_unify.specs.declared.slots.Link.{Link}
 use Rattle.dg_unify.specs.declared.links.Links.{Links}
 
@@ -9,7 +9,7 @@ log_of links = links.log.items
 
 -- How many variables there are.
 abbrev pub vars_of : Links → ℕ
-vars_of links = length links.to.items
+vars_of links = links.vars
 
 -- How many variables, and how many bindings, there is room for.
 abbrev pub var_room : Links → ℕ

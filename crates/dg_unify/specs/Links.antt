@@ -14,15 +14,12 @@ abbrev pub Once : ℕ → List Link → Type 0
 Once vars [] = Unit {0}
 Once vars (l ∷ ls) = (l.var < vars) × (to_of l.var ls ≡ None) × Once vars ls
 
--- Behind so many bindings none is of a variable below v.
-abbrev pub AreYoung : ℕ → ℕ → List Link → Type 0
-AreYoung v from log = (i : ℕ) (l : Link) → from ≤ i → slice_get log i ≡ Some l → v ≤ l.var
-
--- The list has for each variable what it is bound to.
+-- The list has for each variable what it is bound to, and has no binding at its other places.
 abbrev pub Lists : List (Option Ref) → List Link → Type 0
 Lists to ls = (n : ℕ) → n < length to → slice_get to n ≡ Some (to_of n ls)
 
--- So it is with all bindings, the oldest first.
-pub record AreLinked (to : List (Option Ref)) (log : List Link) : Type 0 where
-  pub once : Once (length to) (reverse log)
+-- So it is with all bindings, the oldest first, of so many variables. There may be places of further ones.
+pub record AreLinked (vars : ℕ) (to : List (Option Ref)) (log : List Link) : Type 0 where
+  pub once : Once vars (reverse log)
   pub lists : Lists to (reverse log)
+  pub within : vars ≤ length to

@@ -5,7 +5,7 @@ use Rattle.std.specs.Coded.{×_prop, Unit-prop}
 use Rattle.dg_meaning.specs.Values.{Value}
 use Rattle.dg_meaning.specs.Substitutions.{Substitution, FitsFront, IsSubstitution}
 use Rattle.dg_unify.specs.Store.{IsTold}
-use Rattle.dg_unify.specs.Links.{Once, AreYoung, Lists, AreLinked}
+use Rattle.dg_unify.specs.Links.{Once, Lists, AreLinked}
 use Rattle.dg_unify.specs.Slots.{value_in, AreTold, IsFew, Fits, Fields, AreSound}
 use Rattle.dg_unify.specs.Fences.{AreClosed, IsFenced}
 use Rattle.dg_unify.specs.declared.bindings.Ref.{Ref}
@@ -39,14 +39,11 @@ once_prop : (n : ℕ) (ls : List Link) → IsProp (Once n ls)
 once_prop n [] = Unit-prop
 once_prop n (l ∷ ls) = hlevel (props, once_prop n ls, none_prop)
 
-pub are_young_prop : (v from : ℕ) (log : List Link) → IsProp (AreYoung v from log)
-are_young_prop v from log = hlevel props
-
 lists_prop : (to : List (Option Ref)) (ls : List Link) → IsProp (Lists to ls)
 lists_prop to ls = hlevel (props, some_prop)
 
-pub are_linked_prop : (to : List (Option Ref)) (log : List Link) → IsProp (AreLinked to log)
-are_linked_prop to log = hlevel (props, once_prop, lists_prop)
+pub are_linked_prop : (vars : ℕ) (to : List (Option Ref)) (log : List Link) → IsProp (AreLinked vars to log)
+are_linked_prop vars to log = hlevel (props, once_prop, lists_prop)
 
 few_prop : (x : Slot) → IsProp (IsFew x)
 few_prop (slot.Var n) = Unit-prop

@@ -1,19 +1,24 @@
 // Which variables are bound, and in which order they were bound.
 
-ghost use Rattle.std.specs.Prelude.{◌≡◌, ◌+◌, ◌<◌, ◌≤◌, [], ◌∷◌, ◌++◌, None, IfOk, OnOk, OnErr, List, length, take, reverse};
-ghost use Rattle.dg_unify.specs.Links.{to_of, Once, AreYoung, AreLinked};
+ghost use Rattle.std.specs.Prelude.{◌≡◌, ◌+◌, ◌<◌, ◌≤◌, ℕ, [], ◌∷◌, ◌++◌, None, IfOk, OnOk, OnErr, List, length, take, reverse, vec_len, vec_capacity};
+ghost use Rattle.dg_unify.specs.Links.{to_of, Once, AreLinked};
 ghost use Rattle.dg_unify.specs.Props.{are_linked_prop};
 
 use crate::bindings::Ref;
 use crate::slots::Link;
 use std::alloc::{AllocError, Global};
 
-/// What each variable is bound to, and all bindings, the oldest first.
+// So many places are made at once.
+const PLACES: usize = 1024;
+
+/// What each variable is bound to, and all bindings, the oldest first. Behind the variables stand places of further ones, none of
+/// which is bound.
 #[derive(Drop)]
 pub struct Links {
     to: Vec<Option<Ref>>,
     log: Vec<Link>,
-    ghost linked: { AreLinked to.items log.items } by { are_linked_prop to.items log.items },
+    vars: usize,
+    ghost linked: { AreLinked vars to.items log.items } by { are_linked_prop vars to.items log.items },
 }
 
 impl Links {
@@ -27,6 +32,7 @@ impl Links {
         Links {
             to: Vec::new(alloc),
             log: Vec::new(alloc),
+            vars: 0,
         }
     }
 
@@ -39,14 +45,14 @@ impl Links {
     {
         let to = Vec::with_capacity(alloc, vars)?;
         let log = Vec::with_capacity(alloc, links)?;
-        Ok(Links { to, log })
+        Ok(Links { to, log, vars: 0 })
     }
 
     /// How many variables there are.
     pub fn vars(&self) -> usize
         ensures { result ≡ vars_of self.now }
     {
-        self.to.len()
+        self.vars
     }
 
     /// How many bindings there are.
@@ -70,8 +76,15 @@ impl Links {
         ensures err { OnErr result (vars_of self.new ≡ vars_of self.old) }
         ensures log { log_of self.new ≡ log_of self.old }
     {
+        if self.vars < self.to.len() {
+            self.vars += 1;
+            return Ok(());
+        }
         match self.to.push(None) {
-            Ok(()) => Ok(()),
+            Ok(()) => {
+                self.vars += 1;
+                Ok(())
+            }
             Err(_) => Err(AllocError),
         }
     }
@@ -83,7 +96,52 @@ impl Links {
         ensures log { log_of self.new ≡ log_of self.old }
         ensures room { KeepsRoom self.old self.new }
     {
+        if self.vars < self.to.len() {
+            self.vars += 1;
+            return;
+        }
         self.to.push_reserved(None);
+        self.vars += 1;
+    }
+
+    /// So many more variables, which aren't bound, where there is room.
+    #[inline(always)]
+    pub fn add_vars_reserved(&mut self, count: u16)
+        requires { vars_of self.old + count ≤ var_room self.old }
+        ensures vars { vars_of self.new ≡ vars_of self.old + count }
+        ensures log { log_of self.new ≡ log_of self.old }
+        ensures room { KeepsRoom self.old self.new }
+    {
+        let vars = self.vars + count as usize;
+        self.see_places(vars);
+        self.vars = vars;
+    }
+
+    // Sees that there are places for so many variables, where there is room.
+    #[inline(always)]
+    fn see_places(&mut self, vars: usize)
+        requires { vars ≤ var_room self.old }
+        ensures places { vars ≤ vec_len self.new.to }
+        ensures vars { vars_of self.new ≡ vars_of self.old }
+        ensures log { log_of self.new ≡ log_of self.old }
+        ensures room { KeepsRoom self.old self.new }
+    {
+        if self.to.len() < vars {
+            self.make_places(vars);
+        }
+    }
+
+    // Makes places for so many variables, and for some more, where there is room.
+    #[inline(never)]
+    fn make_places(&mut self, vars: usize)
+        requires { vars ≤ var_room self.old }
+        ensures places { vars ≤ vec_len self.new.to }
+        ensures vars { vars_of self.new ≡ vars_of self.old }
+        ensures log { log_of self.new ≡ log_of self.old }
+        ensures room { KeepsRoom self.old self.new }
+    {
+        let most = vars.saturating_add(PLACES).min(self.to.capacity());
+        push_places(&mut self.to, most);
     }
 
     /// Binds an unbound variable.
@@ -126,21 +184,7 @@ impl Links {
         ensures room { KeepsRoom self.old self.new }
     {
         self.unlink(links);
-        self.to.truncate(vars);
-    }
-
-    /// The same, where what is taken back bound none of the variables that are left.
-    pub fn cut(&mut self, links: usize, vars: usize)
-        requires links_in { links ≤ length (log_of self.old) }
-        requires vars_in { vars ≤ vars_of self.old }
-        requires once { Once vars (reverse (take links (log_of self.old))) }
-        requires young { AreYoung vars links (log_of self.old) }
-        ensures log { log_of self.new ≡ take links (log_of self.old) }
-        ensures vars { vars_of self.new ≡ vars }
-        ensures room { KeepsRoom self.old self.new }
-    {
-        self.log.truncate(links);
-        self.to.truncate(vars);
+        self.vars = vars;
     }
 
     // Takes back all bindings but so many.
@@ -155,10 +199,22 @@ impl Links {
     }
 }
 
+// Makes places up to so many, for which there is room.
+fn push_places(to: &mut Vec<Option<Ref>>, most: usize)
+    requires { most ≤ vec_capacity to.old }
+    ensures linked { (vars : ℕ) → (log : List Link) → AreLinked vars to.old.items log → AreLinked vars to.new.items log }
+    ensures places { most ≤ vec_len to.new }
+    ensures capacity { vec_capacity to.new ≡ vec_capacity to.old }
+{
+    'places: while to.len() < most {
+        to.push_reserved(None);
+    }
+}
+
 // Takes back the newest bindings, from the last of them on.
 fn unbind(to: &mut [Option<Ref>], newest: &[Link])
-    requires { (log : List Link) × AreLinked to.old (log ++ newest.now) }
-    ensures linked { (log : List Link) → AreLinked to.old (log ++ newest.now) → AreLinked to.new log }
+    requires { (vars : ℕ) × (log : List Link) × AreLinked vars to.old (log ++ newest.now) }
+    ensures linked { (vars : ℕ) → (log : List Link) → AreLinked vars to.old (log ++ newest.now) → AreLinked vars to.new log }
     ensures vars { length to.new ≡ length to.old }
 {
     let mut left = newest.len();

@@ -10,7 +10,6 @@ invariant_of-self c =
     record {
       sound = made.leaves.sound;
       fenced = made.fenced c.args.self.now.fence c.args.self.now.fenced;
-      young = c.args.self.now.young;
       roomy = record {
         cells_fit = omega (arith, c.args.self.now.roomy.cells_fit, c.push_words.ensures.capacity);
         vars_fit = c.args.self.now.roomy.vars_fit;

@@ -1,7 +1,6 @@
 use Rattle.std.proofs.Common.{arith, refl}
 use Rattle.dg_unify.specs.Linked.{log_of, vars_of}
 use Rattle.dg_arena.proofs.Making.{row_here, moved}
-use Rattle.dg_arena.proofs.Young.{young_same}
 use Rattle.dg_arena.specs.Held.{fields_of}
 use Rattle.dg_unify.proofs.FenceLemmas.{end_of}
 use Rattle.dg_arena.proofs.arena.Arena.fit_row.Goals as goal
@@ -14,7 +13,6 @@ invariant_of-self c =
     record {
       sound = made.leaves.sound;
       fenced = made.fenced a.fence (end_of (fields_of a)) c.move_fence.new.fence refl (moved a c.len.result c.vars.result c.move_fence.new.fence (omega (arith, c.len.ensures)) c.vars.ensures c.move_fence.ensures) a.fenced;
-      young = young_same a.since a.settled (log_of a.links) (log_of c.push_vars.new.links) pushed.log a.young;
       roomy = record {
         cells_fit = omega (arith, a.roomy.cells_fit, pushed.capacity);
         vars_fit = omega (arith, a.roomy.vars_fit, pushed.room.vars);

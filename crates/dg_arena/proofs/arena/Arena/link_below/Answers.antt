@@ -7,7 +7,6 @@ invariant_of-self c =
     record {
       sound = a.sound;
       fenced = stands_next a c.args.var c.args.to c.requires.may c.args.bound c.requires.below c.fence_now.result c.for_link-self.result c.fence_now.ensures c.for_link-self.ensures;
-      young = a.young;
       roomy = a.roomy;
     }
 

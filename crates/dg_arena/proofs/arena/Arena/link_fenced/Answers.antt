@@ -1,22 +1,16 @@
-use Rattle.std.proofs.Common.{◌≡◌, ◌<◌, ◌≤◌, ◌⊎◌, subst, refl, arith}
+use Rattle.std.proofs.Common.{refl, arith}
 use Rattle.dg_unify.specs.Linked.{log_of, vars_of}
 use Rattle.dg_unify.proofs.Stores.{may_unbound}
 use Rattle.dg_arena.specs.Held.{fields_of}
 use Rattle.dg_arena.proofs.Rooms.{one_more}
 use Rattle.dg_arena.proofs.Making.{binds_counted}
-use Rattle.dg_arena.proofs.Young.{young_counted}
 use Rattle.dg_arena.proofs.arena.Arena.link_fenced.Goals as goal
-
-pub count_link-requires-clause-small : goal.count_link-requires-clause-small
-count_link-requires-clause-small c =
-    let s = c.args.self.now.sound in
-    omega (arith, one_more (fields_of c.args.self.now) c.args.var c.args.to s c.requires.may, c.len-links.ensures, s.fits.fewer, s.fits.room)
 
 pub invariant_of-self : goal.invariant_of-self
 invariant_of-self c =
     let a = c.args.self.now in
-    let full = c.if-not-count_link.ensures.full refl in
-    record { sound = rw full.1 a.sound; fenced = a.fenced; young = rw full.2 a.young; roomy = a.roomy }
+    let full = (c.if-not-count_link.ensures.full refl).1 in
+    record { sound = rw full a.sound; fenced = a.fenced; roomy = a.roomy }
 
 pub invariant_of-self-2 : goal.invariant_of-self-2
 invariant_of-self-2 c =
@@ -25,7 +19,6 @@ invariant_of-self-2 c =
     record {
       sound = made.leaves.sound;
       fenced = made.fenced c.args.self.now.fence c.requires.fenced;
-      young = young_counted f.since c.args.self.now.settled c.count_link.new.settled f.log (log_of c.bind_reserved.new.self) (record { var = c.args.var; to = c.args.to }) c.bind_reserved.ensures.log (subst (λ n. ((f.since ≤ c.args.var) × (c.count_link.new.settled ≡ c.args.self.now.settled)) ⊎ (n < c.count_link.new.settled)) c.len-links.ensures (c.if-not-count_link.ensures.settled refl)) c.args.self.now.young;
       roomy = record {
         cells_fit = omega (arith, c.args.self.now.roomy.cells_fit, c.args.self.now.roomy.cells_fit);
         vars_fit = omega (arith, c.args.self.now.roomy.vars_fit, c.bind_reserved.ensures.room.vars);

@@ -4,7 +4,6 @@ use Rattle.dg_unify.specs.Linked.{log_of, vars_of}
 use Rattle.dg_unify.specs.declared.slots.Slot.TheVariants as slot
 use Rattle.dg_arena.specs.Held.{fields_of}
 use Rattle.dg_arena.proofs.Making.{makes_var, moved}
-use Rattle.dg_arena.proofs.Young.{young_same}
 use Rattle.dg_unify.proofs.FenceLemmas.{end_of}
 use Rattle.dg_arena.proofs.arena.ArenaBindings.fresh.Goals as goal
 
@@ -16,7 +15,6 @@ invariant_of-self c =
     record {
       sound = made.leaves.sound;
       fenced = made.fenced c.args.self.now.fence (end_of f) c.move_fence.new.fence refl (moved c.args.self.now c.len.result c.vars.result c.move_fence.new.fence (omega (arith, c.len.ensures)) c.vars.ensures c.move_fence.ensures) c.args.self.now.fenced;
-      young = young_same f.since c.args.self.now.settled f.log (log_of c.add_var_reserved.new.self) c.add_var_reserved.ensures.log c.args.self.now.young;
       roomy = record {
         cells_fit = omega (arith, c.args.self.now.roomy.cells_fit, c.push_reserved.ensures.capacity);
         vars_fit = omega (arith, c.args.self.now.roomy.vars_fit, c.add_var_reserved.ensures.room.vars);

@@ -18,7 +18,6 @@ invariant_of-self c =
     record {
       sound = made.leaves.sound;
       fenced = made.fenced c.args.self.now.fence c.args.self.now.fenced;
-      young = c.args.self.now.young;
       roomy = record {
         cells_fit = omega (arith, c.args.self.now.roomy.cells_fit, c.push_reserved.ensures.capacity, c.push_letters.ensures.capacity);
         vars_fit = c.args.self.now.roomy.vars_fit;

@@ -1,6 +1,16 @@
-use Rattle.std.proofs.Common.{is_ok}
-use Rattle.dg_unify.proofs.LinksLemmas.{linked_if}
+use Rattle.std.proofs.Common.{◌≡◌, ◌+◌, [], ◌∷◌, ◌++◌, None, ap, arith, length, length-append}
+use Rattle.dg_unify.proofs.LinksLemmas.{linked_push, linked_more}
 use Rattle.dg_unify.proofs.links.Links.add_var.Goals as goal
 
 pub invariant_of-self : goal.invariant_of-self
-invariant_of-self c = record { linked = linked_if (is_ok c.push.result) c.args.self.now.to.items c.push.new.self.items c.args.self.now.log.items c.push.ensures.items c.args.self.now.linked }
+invariant_of-self c =
+    let s = c.args.self.now in
+    record { linked = linked_more s.vars (s.vars + 1) s.to.items s.log.items (omega arith) (omega (arith, c.if-self-len.true, c.len.ensures)) s.linked }
+
+pub invariant_of-self-in-Ok : goal.invariant_of-self-in-Ok
+invariant_of-self-in-Ok c =
+    let s = c.args.self.now in
+    let to = c.push.new.self.items in
+    let is : to ≡ s.to.items ++ None ∷ [] = c.in-Ok.ensures.items in
+    let placed = linked_push s.vars s.to.items to s.log.items is s.linked in
+    record { linked = linked_more s.vars (s.vars + 1) to s.log.items (omega arith) (omega (arith, ap length is, length-append s.to.items (None ∷ []), s.linked.within)) placed }

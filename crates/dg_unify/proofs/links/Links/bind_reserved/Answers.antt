@@ -5,4 +5,4 @@ use Rattle.dg_unify.proofs.links.Links.bind_reserved.Goals as goal
 pub invariant_of-self : goal.invariant_of-self
 invariant_of-self c =
     let l : Link = record { var = c.args.var; to = c.args.to } in
-    record { linked = linked_bind c.args.self.now.to.items c.args.self.now.log.items c.push_reserved.new.self.items l c.push_reserved.ensures.items c.args.self.now.linked c.requires.within c.requires.unbound }
+    record { linked = linked_bind c.args.self.now.vars c.args.self.now.to.items c.args.self.now.log.items c.push_reserved.new.self.items l c.push_reserved.ensures.items c.args.self.now.linked c.requires.within c.requires.unbound }
