@@ -1,5 +1,5 @@
 // What an instruction does in memory.
-ghost use Rattle.std.specs.Prelude.{◌≡◌, ◌<◌, ◌≤◌, ℕ, List, [], ◌∷◌, IfSome, length, slice_get};
+ghost use Rattle.std.specs.Prelude.{◌≡◌, ◌<◌, ◌≤◌, ℕ, List, [], ◌∷◌, length, slice_get};
 ghost use Rattle.std.specs.Borrow.{Bor};
 ghost use Rattle.dg_base.specs.declared.run.Limits.{Limits};
 ghost use Rattle.dg_meaning.specs.Values.{Value, Values};
@@ -29,7 +29,7 @@ use crate::now::{Call, Did, Now, Way};
 use crate::passing::pass;
 use crate::tables::Tables;
 use dg_base::{ArithOp, CompareOp, Ending, Term, TestKind};
-use dg_mid::{BodyCode, Code, Op, RuleCode};
+use dg_mid::{BodyCode, Code, Head, Op, RuleCode};
 use dg_outside::Outside;
 use dg_unify::{Ref, View};
 
@@ -570,18 +570,19 @@ impl Memory {
         }
     }
 
-    /// A rule of so many variables and this head is entered, which takes so many cells if it is flat.
-    fn enter(&mut self, tables: &Tables, vars: u16, head: &[Term], flat: Option<u32>) -> Did
+    /// A rule of so many variables and this head is entered.
+    #[inline(never)]
+    fn enter(&mut self, tables: &Tables, vars: u16, head: &Head) -> Did
         requires room { HasRoom self.old }
         requires args { AreRefs (meaning_of self.old.arena) self.old.args.items }
         requires head { AreArguments head.now }
-        requires flat { IfSome flat (λ n. FlatTerms head.now n) }
         ensures { (code : TheCode) → (rest : Bor (List TheOp)) →
             EntersIn tables.now code self.old self.old.call vars head.now rest.now self.new (comes_to result rest) }
     {
-        match flat {
-            Some(cells) => self.enter_flat(vars, head, cells),
-            None => self.enter_written(tables, vars, head),
+        let terms = head.terms();
+        match head.flat_cells() {
+            Some(cells) => self.enter_flat(vars, terms, cells),
+            None => self.enter_written(tables, vars, terms),
         }
     }
 
@@ -745,7 +746,7 @@ impl Memory {
     }
 
     /// A call enters a rule.
-    #[inline(never)]
+    #[inline(always)]
     pub fn enter_rule<'p>(&mut self, tables: &Tables, ops: &'p [Op]) -> Now<'p>
         requires room { HasRoom self.old }
         requires args { AreRefs (meaning_of self.old.arena) self.old.args.items }
@@ -756,8 +757,7 @@ impl Memory {
             [] => Now::Fails,
             [op, rest @ ..] => match op {
                 Op::Enter(vars, head) => {
-                    let flat = head.flat_cells();
-                    let did = self.enter(tables, *vars, head.terms(), flat);
+                    let did = self.enter(tables, *vars, head);
                     behind(did, rest)
                 }
                 _ => Now::Fails,

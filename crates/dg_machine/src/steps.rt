@@ -204,7 +204,7 @@ fn fail_apart<'p>(memory: &mut Memory, code: &'p Code, outside: &mut Outside<'_>
     next
 }
 
-/// Whether a rule is answered. It is looked at first, since it is done most often.
+/// Whether a rule is answered.
 #[inline(always)]
 fn returns(now: Now<'_>) -> bool
     ensures quick { result ≡ true → IsQuick now.entry }
@@ -420,6 +420,7 @@ fn do_action<'p, K: Sink>(
     requires some { (code : TheCode) × (l : Limits) × (m : Mid) × Holds code l memory.old m }
     requires built { ActionBuilt action.now }
     requires no_stop { action.now ≡ Stop → ⊥ }
+    requires noisy { IsQuiet action.now → ⊥ }
     requires unread { ReadsNone (op.Do action.now) }
     requires whole { ops.now ≡ op.Do action.now ∷ rest.now }
     ensures ok { IfOk result (λ now. (code : TheCode) → DoesGoal tables.now code memory.old outside.old ops.now memory.new outside.new now spacer.old
@@ -443,7 +444,7 @@ fn do_action<'p, K: Sink>(
         Action::Now(place, terms, sets) => {
             Ok(memory.change(tables, outside, *place, terms.as_slice(), *sets, rest))
         }
-        action => Ok(act(memory, tables, action, rest)),
+        _ => Ok(Now::Fails),
     }
 }
 
@@ -462,6 +463,7 @@ fn goal_step<'p, K: Sink>(
     requires built { IsBuilt code.now }
     requires ops_built { OpsBuilt ops.now }
     requires goal { at_goal ops.now ≡ true }
+    requires noisy { BeginsQuietly ops.now → ⊥ }
     requires may { MayPick 1 (picks_in outside.old) }
     requires unread { NoLine ops.now }
     ensures ok { IfOk result (λ now. DoesGoal tables.now code.now memory.old outside.old ops.now memory.new outside.new now spacer.old spacer.new
@@ -497,7 +499,7 @@ fn goal_step<'p, K: Sink>(
                 };
                 Ok(memory.find(tables, outside, search, terms.as_slice(), rest))
             }
-            op => Ok(do_quiet(memory, code, tables, op, rest)),
+            _ => Ok(Now::Fails),
         },
     }
 }
@@ -518,6 +520,7 @@ fn next_goal<'p, S: Source, K: Sink>(
     requires built { IsBuilt code.now }
     requires ops_built { OpsBuilt ops.now }
     requires goal { at_goal ops.now ≡ true }
+    requires noisy { BeginsQuietly ops.now → ⊥ }
     requires may { MayPick 1 (picks_in outside.old) }
     ensures ok { IfOk result (λ now. ReadsGoal tables.now code.now memory.old outside.old ops.now memory.new outside.new now spacer.old spacer.new
         (K.view sink.old) (K.view sink.new) (S.view source.old) (S.view source.new)) }
@@ -535,6 +538,21 @@ fn next_goal<'p, S: Source, K: Sink>(
                 Err(_) => Err(Fault::Write),
             },
         },
+    }
+}
+
+/// Enters a rule, if one is about to be entered.
+#[inline(always)]
+fn enter_first<'p>(memory: &mut Memory, code: &'p Code, tables: &Tables, now: Now<'p>) -> Now<'p>
+    requires built { IsBuilt code.now }
+    requires tidy { Tidy code.now }
+    requires some { (out : TheOutside) × IsSomewhereWith tables.now code.now memory.old out now }
+    ensures comes { (out : TheOutside) → Settles tables.now code.now memory.old out now.entry memory.new out result }
+    ensures stays { IsEnd now.entry → IsEnd result }
+{
+    match now {
+        Now::Enters(_) => quick_mark(memory, code, tables, now),
+        now => now,
     }
 }
 
@@ -558,6 +576,24 @@ fn answers<'p>(memory: &mut Memory, code: &'p Code, tables: &Tables, now: Now<'p
     }
 }
 
+/// Enters a rule, if one is about to be entered, and answers rules, if code at hand does: what a goal leads to most often, in front of
+/// the loop of all that it may.
+#[inline(always)]
+fn settle_first<'p>(memory: &mut Memory, code: &'p Code, tables: &Tables, now: Now<'p>) -> Now<'p>
+    requires built { IsBuilt code.now }
+    requires tidy { Tidy code.now }
+    requires some { (out : TheOutside) × IsSomewhereWith tables.now code.now memory.old out now }
+    ensures comes { (out : TheOutside) → Settles tables.now code.now memory.old out now.entry memory.new out result }
+    ensures stays { IsEnd now.entry → IsEnd result }
+{
+    let now = enter_first(memory, code, tables, now);
+    if returns(now) {
+        answers(memory, code, tables, now)
+    } else {
+        now
+    }
+}
+
 /// Does steps up to the next goal, or the end.
 #[inline(always)]
 fn settle<'p>(
@@ -565,21 +601,19 @@ fn settle<'p>(
     code: &'p Code,
     tables: &Tables,
     outside: &mut Outside<'_>,
-    now: Now<'p>,
+    start: Now<'p>,
 ) -> Now<'p>
     requires built { IsBuilt code.now }
     requires tidy { Tidy code.now }
-    requires some { IsSomewhereWith tables.now code.now memory.old outside.old now }
-    ensures comes { Settles tables.now code.now memory.old outside.old now.entry memory.new outside.new result }
+    requires some { IsSomewhereWith tables.now code.now memory.old outside.old start }
+    ensures comes { Settles tables.now code.now memory.old outside.old start.entry memory.new outside.new result }
     ensures sites { outside.new.sites ≡ outside.old.sites }
     ensures rests { rests result ≡ true }
-    ensures stays { IsEnd now.entry → IsEnd result }
+    ensures stays { IsEnd start.entry → IsEnd result }
 {
-    let mut now = now;
+    let mut now = settle_first(memory, code, tables, start);
     'marks: while !rests(now) {
-        if returns(now) {
-            now = answers(memory, code, tables, now);
-        } else if is_quick(now) {
+        if is_quick(now) {
             now = quick_mark(memory, code, tables, now);
         } else if fails(now) {
             now = fail_apart(memory, code, outside);
@@ -613,16 +647,20 @@ fn settle_apart<'p>(
 /// Whether an action prints and reads nothing, stops no part, and leaves what is outside.
 #[inline(always)]
 fn is_quiet_action(action: &Action) -> bool
-    ensures { result ≡ true → IsQuiet action.now }
+    ensures quiet { result ≡ true → IsQuiet action.now }
+    ensures noisy { result ≡ false → IsQuiet action.now → ⊥ }
 {
-    matches!(
-        action,
-        Action::Equal(_, _)
-            | Action::Test(_, _)
-            | Action::Arith(_, _, _, _)
-            | Action::Compare(_, _, _)
-            | Action::Just
-    )
+    match action {
+        Action::Text(_)
+        | Action::Gap(_)
+        | Action::GapN(_)
+        | Action::Print(_)
+        | Action::Random(_, _, _)
+        | Action::Now(_, _, _)
+        | Action::Input(_)
+        | Action::Stop => false,
+        _ => true,
+    }
 }
 
 /// Whether an instruction takes a goal, prints and reads nothing, and leaves what is outside.
@@ -630,6 +668,7 @@ fn is_quiet_action(action: &Action) -> bool
 fn is_quiet(op: &Op) -> bool
     ensures goal { result ≡ true → takes_goal op.now ≡ true }
     ensures quiet { result ≡ true → IsQuietOp op.now }
+    ensures noisy { result ≡ false → takes_goal op.now ≡ true → IsQuietOp op.now → ⊥ }
 {
     match op {
         Op::Do(action) => is_quiet_action(action),
@@ -661,6 +700,7 @@ fn turn<'p, S: Source, K: Sink>(
     requires built { IsBuilt code.now }
     requires tidy { Tidy code.now }
     requires goal { at_goal ops.now ≡ true }
+    requires noisy { BeginsQuietly ops.now → ⊥ }
     requires may { MayPick 1 (picks_in outside.old) }
     requires some { IsSomewhereAt tables.now code.now memory.old outside.old (Runs ops) (S.view source.old) }
     ensures ok { IfOk result (λ now. Takes tables.now code.now 1 memory.old outside.old (Runs ops.entry) spacer.old (K.view sink.old) (S.view source.old)
@@ -681,7 +721,8 @@ fn turn<'p, S: Source, K: Sink>(
 /// Whether the first of some instructions is such.
 #[inline(always)]
 fn begins_quietly(ops: &[Op]) -> bool
-    ensures { result ≡ true → BeginsQuietly ops.now }
+    ensures quiet { result ≡ true → BeginsQuietly ops.now }
+    ensures noisy { result ≡ false → at_goal ops.now ≡ true → BeginsQuietly ops.now → ⊥ }
 {
     match ops {
         [] => false,

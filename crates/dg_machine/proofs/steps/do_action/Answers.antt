@@ -8,7 +8,7 @@ use Rattle.dg_mid.specs.declared.code.Action.TheVariants as action
 use Rattle.dg_mid.specs.State.{Runs as RunsOf}
 use Rattle.dg_mid.specs.Step.{setting, more}
 use Rattle.dg_machine.proofs.Hands.{nothing_more}
-use Rattle.dg_machine.proofs.Goals.{printed_done, printed_lost, silent_with, quiet_done, quiet_random, quiet_change, quiet_else, keeps_none}
+use Rattle.dg_machine.proofs.Goals.{printed_done, printed_lost, silent_with, quiet_random, quiet_change, quiet_else, keeps_none}
 use Rattle.dg_machine.specs.Built.{OpsBuilt}
 use Rattle.dg_machine.proofs.steps.do_action.Goals as goal
 
@@ -40,8 +40,9 @@ returns-in-Err-event-clause-err g c code game is_of l m at h start ps text =
     (λ qs t. subst (λ p. BrokeOff (g.K.Sink.view c.args.sink.now) (g.K.Sink.view c.event-in-Gap.new.sink) (growth qs p)) same (c.in-Err-event.ensures.err qs t)) text
 
 pub returns-in_default-clause-ok : goal.returns-in_default-clause-ok
-returns-in_default-clause-ok g c code game is_of l m o e at h w =
-    quiet_done c.args.tables.now code game is_of l m c.args.memory.now c.act.new.memory c.act.result c.args.ops.now (op.Do c.args.action.now) c.args.rest.now c.requires.whole at h c.args.spacer.now (g.K.Sink.view c.args.sink.now) c.args.outside.now o w (quiet_else c.args.action.now c.in_default.not-Text c.in_default.not-Gap c.in_default.not-GapN c.in_default.not-Print c.in_default.not-Random c.in_default.not-Now c.requires.no_stop c.requires.unread) (c.act.ensures code)
+returns-in_default-clause-ok g c =
+    let a = c.in_default in
+    absurd (c.requires.noisy (quiet_else c.args.action.now a.not-Text a.not-Gap a.not-GapN a.not-Print a.not-Random a.not-Now c.requires.no_stop c.requires.unread))
 
 pub returns-in-Random-clause-ok : goal.returns-in-Random-clause-ok
 returns-in-Random-clause-ok g c code game is_of l m o e at h w =

@@ -1,20 +1,22 @@
 use Rattle.std.proofs.Common.{◌∷◌, take, drop, length, ◌-◌, refl, sym, ap, ◌∙◌, subst}
 use Rattle.dg_mid.specs.declared.code.Op.TheVariants as op
 use Rattle.dg_mid.specs.declared.code.Action.TheVariants as action
-use Rattle.dg_machine.specs.Built.{OpBuilt, OpsBuilt}
+use Rattle.dg_machine.specs.Built.{OpBuilt, OpsBuilt, BeginsQuietly}
 use Rattle.dg_machine.specs.inside.Reading.{ReadsNone}
 use Rattle.dg_machine.proofs.Readings.{unread_first}
 use Rattle.dg_machine.proofs.Leaving.{split_list}
-use Rattle.dg_machine.proofs.Goals.{quiet_done, quiet_op, first_goal, silent_with, built_first}
+use Rattle.dg_machine.proofs.Goals.{quiet_op, first_goal, silent_with, built_first}
 use Rattle.dg_machine.proofs.Outsides.{has_outside, has_does}
 use Rattle.dg_machine.proofs.Selects.{keeps_sites}
 use Rattle.dg_mid.specs.Step.{setting, does}
 use Rattle.dg_machine.proofs.steps.goal_step.Goals as goal
 
 pub returns-in_default-clause-ok : goal.returns-in_default-clause-ok
-returns-in_default-clause-ok g c game is_of l m o e at h w =
+returns-in_default-clause-ok g c =
     let all = c.args.ops.now in
-    quiet_done c.args.tables.now c.args.code.now game is_of l m c.args.memory.now c.do_quiet.new.memory c.do_quiet.result all c.op-item.result (take (length all - 1) (drop 1 all)) (split_list all c.op-item.result c.in-len1-up.len_at_least c.op-item.is) at h c.args.spacer.now (g.K.Sink.view c.args.sink.now) c.args.outside.now o w (quiet_op c.op-item.result (first_goal all c.op-item.result (take (length all - 1) (drop 1 all)) (split_list all c.op-item.result c.in-len1-up.len_at_least c.op-item.is) c.requires.goal) c.in_default.not-Do c.in_default.not-Select c.in_default.not-Collect c.in_default.not-Find) c.do_quiet.ensures
+    let split = split_list all c.op-item.result c.in-len1-up.len_at_least c.op-item.is in
+    let first = first_goal all c.op-item.result (take (length all - 1) (drop 1 all)) split c.requires.goal in
+    absurd (c.requires.noisy (subst BeginsQuietly (sym split) (quiet_op c.op-item.result first c.in_default.not-Do c.in_default.not-Select c.in_default.not-Collect c.in_default.not-Find)))
 
 pub returns-in-Ok-clause-ok : goal.returns-in-Ok-clause-ok
 returns-in-Ok-clause-ok g c = c.in-Ok.ensures.ok c.args.code.now
@@ -42,11 +44,6 @@ returns-in-Select-clause-ok g c game is_of l m o e at h w =
     let built : OpsBuilt (first ∷ rest) = subst OpsBuilt split at.1 in
     silent_with c.args.tables.now c.args.code.now game is_of l m c.args.memory.now c.args.memory.now c.select.result all first rest split at h c.args.spacer.now (g.K.Sink.view c.args.sink.now) c.select.new.outside refl
     (c.select.ensures.selected c.args.memory.now c.args.tables.now rest game is_of l (record m { ops = rest }) built.0 (refl, built.1) h w)
-
-pub do_quiet-requires-clause-quiet : goal.do_quiet-requires-clause-quiet
-do_quiet-requires-clause-quiet g c =
-    let all = c.args.ops.now in
-    quiet_op c.op-item.result (first_goal all c.op-item.result (take (length all - 1) (drop 1 all)) (split_list all c.op-item.result c.in-len1-up.len_at_least c.op-item.is) c.requires.goal) c.in_default.not-Do c.in_default.not-Select c.in_default.not-Collect c.in_default.not-Find
 
 pub returns-in-Collect-clause-ok : goal.returns-in-Collect-clause-ok
 returns-in-Collect-clause-ok g c game is_of l m o e at h w =
@@ -108,3 +105,10 @@ pub do_action-requires-clause-unread : goal.do_action-requires-clause-unread
 do_action-requires-clause-unread g c =
     let all = c.args.ops.now in
     subst ReadsNone c.in-Do.is (unread_first all c.op-item.result (take (length all - 1) (drop 1 all)) (split_list all c.op-item.result c.in-len1-up.len_at_least c.op-item.is) c.requires.unread)
+
+pub do_action-requires-clause-noisy : goal.do_action-requires-clause-noisy
+do_action-requires-clause-noisy g c quiet =
+    let all = c.args.ops.now in
+    let rest = take (length all - 1) (drop 1 all) in
+    let split = split_list all c.op-item.result c.in-len1-up.len_at_least c.op-item.is ∙ ap (λ y. y ∷ rest) c.in-Do.is in
+    c.requires.noisy (subst BeginsQuietly (sym split) quiet)

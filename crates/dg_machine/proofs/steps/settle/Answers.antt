@@ -6,6 +6,19 @@ use Rattle.dg_machine.proofs.Turns.{somewhere_marked, somewhere_settled, end_res
 use Rattle.dg_machine.proofs.Failing.{settled_then, failing_left}
 use Rattle.dg_machine.proofs.steps.settle.Goals as goal
 
+pub settle_first-now-requires-clause-some : goal.settle_first-now-requires-clause-some
+settle_first-now-requires-clause-some c = (c.args.outside.now, c.requires.some)
+
+pub marks-init : goal.marks-init
+marks-init c =
+    let comes = c.settle_first-now.ensures.comes c.args.outside.now in
+    record {
+      settles = comes;
+      somewhere = somewhere_settled c.args.tables.now c.args.code.now c.args.memory.now c.settle_first-now.new.memory c.args.outside.now c.args.outside.now c.args.start c.settle_first-now.result comes c.requires.some;
+      sites = refl;
+      stays = c.settle_first-now.ensures.stays;
+    }
+
 pub marks-preserved : goal.marks-preserved
 marks-preserved c =
     let e : rests c.marks.now ≡ false = search rules in
@@ -22,31 +35,6 @@ marks-smaller c =
     let with_it = c.marks.invariant.somewhere in
     let s = with_it.somewhere in
     mark_falls c.args.code.now s.game s.limits s.typed c.requires.built c.args.tables.now s.tabled c.marks.memory c.mark_apart-now.new.memory c.marks.outside c.mark_apart-now.new.outside c.marks.now c.mark_apart-now.result s.steps e c.mark_apart-now.ensures.done s.stands with_it.outside
-
-pub answers-now-requires : goal.answers-now-requires
-answers-now-requires c = record {
-  built = c.requires.built;
-  tidy = c.requires.tidy;
-  some = (c.marks.outside, c.marks.invariant.somewhere);
-  mark = c.if-returns.ensures.mark refl;
-  quick = c.if-returns.ensures.quick refl;
-}
-
-pub marks-preserved-then-returns : goal.marks-preserved-then-returns
-marks-preserved-then-returns c =
-    let e : rests c.marks.now ≡ false = search rules in
-    let tb = c.args.tables.now in
-    let code = c.args.code.now in
-    let comes = c.answers-now.ensures.comes c.marks.outside in
-    record {
-      settles = settled_then tb code c.args.memory.now c.marks.memory c.answers-now.new.memory c.args.outside.now c.marks.outside c.marks.outside c.args.now c.marks.now c.answers-now.result c.marks.invariant.settles comes;
-      somewhere = somewhere_settled tb code c.marks.memory c.answers-now.new.memory c.marks.outside c.marks.outside c.marks.now c.answers-now.result comes c.marks.invariant.somewhere;
-      sites = c.marks.invariant.sites;
-      stays = λ end. absurd (let x = end_rests c.marks.now (c.marks.invariant.stays end) in cc (e, x));
-    }
-
-pub marks-smaller-then-returns : goal.marks-smaller-then-returns
-marks-smaller-then-returns c = c.answers-now.ensures.falls
 
 pub marks-preserved-then-is_quick : goal.marks-preserved-then-is_quick
 marks-preserved-then-is_quick c =
@@ -75,7 +63,7 @@ marks-preserved-then-fails c =
     let code = c.args.code.now in
     let comes = c.fail_apart-now.ensures.comes tb c.marks.now (c.if-fails.ensures.fails refl) in
     record {
-      settles = settled_then tb code c.args.memory.now c.marks.memory c.fail_apart-now.new.memory c.args.outside.now c.marks.outside c.fail_apart-now.new.outside c.args.now c.marks.now c.fail_apart-now.result c.marks.invariant.settles comes;
+      settles = settled_then tb code c.args.memory.now c.marks.memory c.fail_apart-now.new.memory c.args.outside.now c.marks.outside c.fail_apart-now.new.outside c.args.start c.marks.now c.fail_apart-now.result c.marks.invariant.settles comes;
       somewhere = somewhere_settled tb code c.marks.memory c.fail_apart-now.new.memory c.marks.outside c.fail_apart-now.new.outside c.marks.now c.fail_apart-now.result comes c.marks.invariant.somewhere;
       sites = c.fail_apart-now.ensures.sites ∙ c.marks.invariant.sites;
       stays = λ end. absurd (let x = end_rests c.marks.now (c.marks.invariant.stays end) in cc (e, x));

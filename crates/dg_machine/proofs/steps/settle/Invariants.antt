@@ -6,10 +6,10 @@ use Rattle.dg_machine.proofs.steps.settle.Given as goal
 
 abbrev pub invariant-marks : goal.invariant-marks
 invariant-marks l = record {
-  settles : Settles l.tables l.code l.fn.memory l.fn.outside l.initial.now l.memory l.outside l.now;
+  settles : Settles l.tables l.code l.fn.memory l.fn.outside l.start l.memory l.outside l.now;
   somewhere : IsSomewhereWith l.tables l.code l.memory l.outside l.now;
   sites : l.outside.sites ≡ l.fn.outside.sites;
-  stays : IsEnd l.initial.now → IsEnd l.now;
+  stays : IsEnd l.start → IsEnd l.now;
 }
 
 abbrev pub decreases-marks : goal.decreases-marks
