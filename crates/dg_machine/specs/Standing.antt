@@ -106,12 +106,14 @@ Steps code old before new after =
 -- An instruction that is built, with these behind it, is done: whatever memory held, it stands for what the instruction leads to, in every game whose
 -- program has these tables.
 abbrev pub DoesOp : Tables → Code → Memory → Op → List Op → Memory → Now → Type 0
-DoesOp t code old x rest new after = (g : Game) → IsOf g.program t → (l : Limits) (m : Mid) → MidOrdered m → OpBuilt x → CodeIs rest m → Holds code l old m →
+DoesOp t code old x rest new after = (g : Game) → IsOf g.program t → (l : Limits) (m : Mid) →
+    MidOrdered m → OpBuilt x → CodeIs rest m → Holds code l old m →
     Stands code l new after (does (setting g code l) x m)
 
 -- The same of an instruction that changes what is outside.
 abbrev pub DoesWith : Tables → Code → Memory → Outside → Op → List Op → Memory → Now → Outside → Type 0
-DoesWith t code old out x rest new after out' = (g : Game) → IsOf g.program t → (l : Limits) (m : Mid) → OpBuilt x → CodeIs rest m → Holds code l old m →
+DoesWith t code old out x rest new after out' = (g : Game) → IsOf g.program t → (l : Limits) (m : Mid) →
+    OpBuilt x → CodeIs rest m → Holds code l old m →
     Around out g l m → StandsWith code g l new after out' (does (setting g code l) x m)
 
 -- A (stop) is done: it goes on behind the stoppable part that is open, without what was gathered inside it, or the run ends.
@@ -129,7 +131,8 @@ pub record Falls (code : Code) (l : Limits) (old : Memory) (before : Now) (new :
   pub falls : left_of new after < left_of old before
 
 -- A step that takes no goal was done, and what is outside stands for what it leads to.
-pub record FallsWith (code : Code) (g : Game) (l : Limits) (old : Memory) (before : Now) (new : Memory) (after : Now) (out' : Outside) (s : Status) : Type 0 where
+pub record FallsWith (code : Code) (g : Game) (l : Limits) (old : Memory) (before : Now) (new : Memory) (after : Now) (out' : Outside) (s : Status)
+    : Type 0 where
   pub done : Falls code l old before new after s
   pub outside : HasOutside out' g l s
 
@@ -171,8 +174,9 @@ EntersRule t code old k ops new after = (g : Game) → IsOf g.program t → (l :
 
 -- A call enters a rule of so many variables and this head, with these instructions behind it.
 abbrev pub EntersIn : Tables → Code → Memory → Call → ℕ → List Term → List Op → Memory → Now → Type 0
-EntersIn t code old k vars head rest new after = (g : Game) → IsOf g.program t → (l : Limits) (m : Mid) (c : CallOf) (ops : Bor (List Op)) → CodeIs rest m →
-    CallAt (meaning_of old.arena) old.args.items k c → Holds code l old m → Falls code l old (Enters ops) new after (enter (setting g code l) c vars head m)
+EntersIn t code old k vars head rest new after = (g : Game) → IsOf g.program t → (l : Limits) (m : Mid) (c : CallOf) (ops : Bor (List Op)) →
+    CodeIs rest m → CallAt (meaning_of old.arena) old.args.items k c → Holds code l old m →
+    Falls code l old (Enters ops) new after (enter (setting g code l) c vars head m)
 
 -- The rules that a choice goes on with are there, and the arguments at hand.
 abbrev pub IsThere : Code → Memory → Way → Type 0
@@ -238,8 +242,8 @@ ChangesPlace t code old out place sets rest new after out' = (g : Game) → IsOf
 
 -- The body of a closure is entered by a call whose arguments stand behind the first at hand.
 abbrev pub EntersBody : Code → Memory → Call → BodyCode → Ref → Memory → Now → Type 0
-EntersBody code old k body closure new after = (g : Game) (l : Limits) (m : Mid) (c : CallOf) (v : Value) (place : ℕ) (parts : Values) → Holds code l old m →
-    RefsAt (meaning_of old.arena) old.args.items (v ∷ c.args) → c.next ≡ k.next → c.many ≡ k.many → c.cut.height ≡ k.cut →
+EntersBody code old k body closure new after = (g : Game) (l : Limits) (m : Mid) (c : CallOf) (v : Value) (place : ℕ) (parts : Values) →
+    Holds code l old m → RefsAt (meaning_of old.arena) old.args.items (v ∷ c.args) → c.next ≡ k.next → c.many ≡ k.many → c.cut.height ≡ k.cut →
     IsClosureAt (meaning_of old.arena) closure place parts → Stands code l new after (enters_body (setting g code l) body (values_of parts) c m)
 
 -- What a value asks is the body of this closure, or nothing.
