@@ -3,6 +3,7 @@ pub mod BuiltLemmas
 pub mod PlaceLemmas
 pub mod StepLemmas
 pub mod RuleLemmas
+pub mod ReachedLemmas
 pub mod RowLemmas
 pub mod AnswerLemmas
 pub mod CarryLemmas

@@ -1,3 +1,4 @@
 pub mod Putting
+pub mod Reached
 pub mod Rows
 pub mod Weights

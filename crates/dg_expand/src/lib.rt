@@ -8,6 +8,7 @@ mod laws;
 mod loops;
 mod names;
 mod place;
+mod reached;
 mod release;
 mod rules;
 mod steps;

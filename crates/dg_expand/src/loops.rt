@@ -1,76 +1,107 @@
 // Access rules that loop or are repeated.
-ghost use Rattle.std.specs.Prelude.{◌≡◌, ◌||◌, [], true, map, IfOk};
-ghost use Rattle.std.specs.List.{list_any};
+ghost use Rattle.std.specs.Prelude.{◌≡◌, ◌++◌, [], map, if◌then◌else◌, IfOk, OnOk};
 ghost use Rattle.std.specs.Option.{option_map};
+ghost use Rattle.dg_base.specs.Heads as heads;
 ghost use Rattle.dg_base.specs.Mentions.{query, things_in};
 ghost use Rattle.dg_base.specs.TreeView.{head_view, said_view, item_view};
 ghost use Rattle.dg_base.specs.Walk.{mention_view, thing_at, things_at, seen};
 ghost use Rattle.dg_expand.specs.Loops as spec;
 ghost use Rattle.dg_expand.specs.inside.Putting.{access_view};
 ghost use Rattle.dg_expand.specs.Expanded.{access_rules};
-ghost use Rattle.dg_expand.specs.inside.Rows.{joined, is_set, is_among, is_looping, first_numbered, row_at, rows_at, with_one, rows_of, first_row, first_rows};
+ghost use Rattle.dg_expand.specs.inside.Reached.{rows_of};
+ghost use Rattle.dg_expand.specs.inside.Rows.{all_pooled, all_rows, asked, asked_at, first_numbered, first_of, first_rows, firsts, is_among, is_looping, number_in, pooled, pooled_from};
 
 use crate::place::Access;
-use dg_base::{Head, Item, ItemBody, Mention, Role, is_named, mentions_of};
+use crate::reached::{is_set, reached_from, row_at};
+use dg_base::{Head, Item, ItemBody, Mention, Role, mentions_of, name_of};
 use std::alloc::{AllocError, Global};
 
-fn asks(role: Role, head: &Head, name: &[u8]) -> bool
-    ensures { result ≡ spec.asks_for name.now (query role (head_view head.now)) }
+// The number of the first access rule of this name, or else how many there are.
+fn first_of(rules: &[Access<'_>], name: &[u8]) -> usize
+    ensures { result ≡ first_of (map access_view rules.now) name.now }
 {
-    match role {
-        Role::Access => false,
-        _ => is_named(head.parts.as_slice(), name),
-    }
-}
-
-fn asks_for(mention: Mention<'_>, name: &[u8]) -> bool
-    ensures { result ≡ list_any (spec.asks_for name.now) (thing_at (mention_view mention.entry)) }
-{
-    match mention {
-        Mention::Query(role, head) => asks(role, head, name),
-        _ => false,
-    }
-}
-
-fn any_asks(mentions: &[Mention<'_>], name: &[u8]) -> bool
-    ensures { result ≡ list_any (spec.asks_for name.now) (things_at (seen mentions.now)) }
-{
-    for mention in mentions {
-        if asks_for(*mention, name) {
-            return true;
+    for number in 0..rules.len() {
+        if rules[number].name == name {
+            return number;
         }
     }
-    false
+    rules.len()
 }
 
-// Which predicates of access rules these mention.
+fn add_number(
+    alloc: Global,
+    rules: &[Access<'_>],
+    row: &mut Vec<usize>,
+    head: &Head,
+) -> Result<(), AllocError>
+    ensures { OnOk result (row.new.items ≡ row.old.items ++ number_in (map access_view rules.now) (heads.name_of (head_view head.now))) }
+{
+    let name = name_of(alloc, head)?;
+    let first = first_of(rules, name.as_slice());
+    if first < rules.len() {
+        row.push(first)?;
+    }
+    Ok(())
+}
+
+fn add_query(
+    alloc: Global,
+    rules: &[Access<'_>],
+    row: &mut Vec<usize>,
+    role: Role,
+    head: &Head,
+) -> Result<(), AllocError>
+    ensures { OnOk result (row.new.items ≡ row.old.items ++ asked_at (map access_view rules.now) (query role (head_view head.now))) }
+{
+    match role {
+        Role::Access => Ok(()),
+        _ => add_number(alloc, rules, row, head),
+    }
+}
+
+// Adds the number of what is asked for, where it is an access rule.
+fn add_asked(
+    alloc: Global,
+    rules: &[Access<'_>],
+    row: &mut Vec<usize>,
+    mention: Mention<'_>,
+) -> Result<(), AllocError>
+    ensures { OnOk result (row.new.items ≡ row.old.items ++ asked (map access_view rules.now) (thing_at (mention_view mention.entry))) }
+{
+    match mention {
+        Mention::Query(role, head) => add_query(alloc, rules, row, role, head),
+        _ => Ok(()),
+    }
+}
+
+// The access rules that these ask for, by number, the first one of each name.
 fn row_among(
     alloc: Global,
     rules: &[Access<'_>],
     mentions: &[Mention<'_>],
-) -> Result<Vec<bool>, AllocError>
-    ensures { IfOk result (λ row. row.items ≡ first_row (map access_view rules.now) (things_at (seen mentions.now))) }
+) -> Result<Vec<usize>, AllocError>
+    ensures { IfOk result (λ row. row.items ≡ asked (map access_view rules.now) (things_at (seen mentions.now))) }
 {
     let mut row = Vec::new(alloc);
-    for rule in rules {
-        row.push(any_asks(mentions, rule.name))?;
+    for mention in mentions {
+        add_asked(alloc, rules, &mut row, *mention)?;
     }
     Ok(row)
 }
 
-fn row_of(alloc: Global, rules: &[Access<'_>], said: &ItemBody) -> Result<Vec<bool>, AllocError>
-    ensures { IfOk result (λ row. row.items ≡ first_row (map access_view rules.now) (things_in (said_view said.now))) }
+fn row_of(alloc: Global, rules: &[Access<'_>], said: &ItemBody) -> Result<Vec<usize>, AllocError>
+    ensures { IfOk result (λ row. row.items ≡ asked (map access_view rules.now) (things_in (said_view said.now))) }
 {
     let mentions = mentions_of(alloc, said)?;
     row_among(alloc, rules, mentions.as_slice())
 }
 
-// Of each access rule, which predicates of access rules its body mentions.
+// Of each access rule, those that its body asks for.
 fn rows_among(
     alloc: Global,
     rules: &[Access<'_>],
     items: &[Item],
-) -> Result<Vec<Vec<bool>>, AllocError>
+) -> Result<Vec<Vec<usize>>, AllocError>
     ensures { IfOk result (λ rows. rows_of rows.items ≡ first_rows (map access_view rules.now) (map item_view items.now)) }
 {
     let mut rows = Vec::new(alloc);
@@ -82,103 +113,55 @@ fn rows_among(
     Ok(rows)
 }
 
-#[tactic(auto, using(std::proofs::lemmas::Grind::common_steps, crate::proofs::RowLemmas::set_here, crate::proofs::RowLemmas::set_behind))]
-fn is_set(row: &[bool], index: usize) -> bool
-    ensures { result ≡ is_set row.now index }
+// Of each access rule, the first one of its name.
+fn firsts_of(alloc: Global, rules: &[Access<'_>]) -> Result<Vec<usize>, AllocError>
+    ensures { IfOk result (λ numbers. numbers.items ≡ firsts (map access_view rules.now) (map access_view rules.now)) }
 {
-    index < row.len() && row[index]
-}
-
-fn either(here: bool, there: bool) -> bool
-    ensures { result ≡ (here || there) }
-{
-    here || there
-}
-
-// A row, with all that another one has.
-fn united(alloc: Global, row: &[bool], through: &[bool]) -> Result<Vec<bool>, AllocError>
-    ensures { IfOk result (λ new. new.items ≡ joined true row.now through.now) }
-{
-    let mut new = Vec::new(alloc);
-    for index in 0..row.len() {
-        let here = is_set(row, index);
-        let there = is_set(through, index);
-        new.push(either(here, there))?;
+    let mut numbers = Vec::new(alloc);
+    for rule in rules {
+        numbers.push(first_of(rules, rule.name))?;
     }
-    Ok(new)
+    Ok(numbers)
 }
 
-// A row, with all that another one has where this way leads there.
-fn joined(
+fn add_row(row: &mut Vec<usize>, is_one: bool, asked: &[usize]) -> Result<(), AllocError>
+    ensures { OnOk result (row.new.items ≡ row.old.items ++ (if is_one then asked.now else [])) }
+{
+    if is_one {
+        row.extend_from_slice(asked)?;
+    }
+    Ok(())
+}
+
+// What all access rules ask for together that are of one name, the first of which has this number.
+fn pooled_at(
     alloc: Global,
-    over: bool,
-    row: &[bool],
-    through: &[bool],
-) -> Result<Vec<bool>, AllocError>
-    ensures { IfOk result (λ new. new.items ≡ joined over row.now through.now) }
+    firsts: &[usize],
+    rows: &[Vec<usize>],
+    first: usize,
+) -> Result<Vec<usize>, AllocError>
+    ensures { IfOk result (λ row. row.items ≡ pooled first firsts.now (rows_of rows.now)) }
 {
-    if over {
-        return united(alloc, row, through);
+    let mut row = Vec::new(alloc);
+    for number in 0..firsts.len() {
+        let here = firsts[number];
+        add_row(&mut row, here == first, row_at(rows, number))?;
     }
-    let mut new = Vec::new(alloc);
-    new.extend_from_slice(row)?;
-    Ok(new)
+    Ok(row)
 }
 
-// The rows with one more access rule in between.
-fn with_one(
+fn pooled_of(
     alloc: Global,
-    rows: &[Vec<bool>],
-    through: &[bool],
-    index: usize,
-) -> Result<Vec<Vec<bool>>, AllocError>
-    ensures { IfOk result (λ new. rows_of new.items ≡ with_one (rows_of rows.now) through.now index) }
+    firsts: &[usize],
+    rows: &[Vec<usize>],
+) -> Result<Vec<Vec<usize>>, AllocError>
+    ensures { IfOk result (λ all. rows_of all.items ≡ pooled_from 0 firsts.now firsts.now (rows_of rows.now)) }
 {
-    let mut new = Vec::new(alloc);
-    for row in rows {
-        let over = is_set(row.as_slice(), index);
-        new.push(joined(alloc, over, row.as_slice(), through)?)?;
+    let mut pooled = Vec::new(alloc);
+    for first in 0..firsts.len() {
+        pooled.push(pooled_at(alloc, firsts, rows, first)?)?;
     }
-    Ok(new)
-}
-
-#[tactic(auto, using(std::proofs::lemmas::Grind::common_steps, crate::proofs::RowLemmas::row_here, crate::proofs::RowLemmas::row_behind))]
-fn row_at(rows: &[Vec<bool>], index: usize) -> &[bool]
-    ensures { result.now ≡ row_at (rows_of rows.now) index }
-{
-    if index < rows.len() {
-        rows[index].as_slice()
-    } else {
-        &[]
-    }
-}
-
-// The rows with the access rule of this number in between.
-fn with_one_at(
-    alloc: Global,
-    rows: &[Vec<bool>],
-    index: usize,
-) -> Result<Vec<Vec<bool>>, AllocError>
-    ensures { IfOk result (λ new. rows_of new.items ≡ with_one (rows_of rows.now) (row_at (rows_of rows.now) index) index) }
-{
-    with_one(alloc, rows, row_at(rows, index), index)
-}
-
-// Of each access rule, which it reaches: one more comes in between each time, the last first.
-fn all_rows(
-    alloc: Global,
-    rules: &[Access<'_>],
-    mut rows: Vec<Vec<bool>>,
-) -> Result<Vec<Vec<bool>>, AllocError>
-    requires { rows_of rows.items ≡ rows_at [] (map access_view rules.now) }
-    ensures { IfOk result (λ new. rows_of new.items ≡ rows_at (map access_view rules.now) (map access_view rules.now)) }
-{
-    for done in 0..rules.len() {
-        let index = rules.len() - 1 - done;
-        let next = with_one_at(alloc, rows.as_slice(), index)?;
-        rows = next;
-    }
-    Ok(rows)
+    Ok(pooled)
 }
 
 // Whether one of these has this name.
@@ -194,29 +177,49 @@ fn is_among(rules: &[Access<'_>], name: &[u8]) -> bool
 }
 
 // Whether the access rule of this number is the second of its predicate, or reaches it.
-fn is_looping(rules: &[Access<'_>], rows: &[Vec<bool>], number: usize) -> bool
-    ensures { result ≡ is_looping (map access_view rules.now) (rows_of rows.now) number }
+fn is_looping(
+    alloc: Global,
+    rules: &[Access<'_>],
+    rows: &[Vec<usize>],
+    pooled: &[Vec<usize>],
+    number: usize,
+) -> Result<bool, AllocError>
+    requires rows { rows_of rows.now ≡ all_rows (map access_view rules.now) }
+    requires pooled { rows_of pooled.now ≡ all_pooled (map access_view rules.now) }
+    ensures { IfOk result (λ does. does ≡ is_looping (map access_view rules.now) number) }
 {
-    if number < rules.len() {
-        is_among(&rules[..number], rules[number].name) || is_set(row_at(rows, number), number)
-    } else {
-        false
+    if number >= rules.len() {
+        return Ok(false);
     }
+    let name = rules[number].name;
+    if is_among(&rules[..number], name) {
+        return Ok(true);
+    }
+    let seen = reached_from(alloc, pooled, row_at(rows, number))?;
+    Ok(is_set(seen.as_slice(), first_of(rules, name)))
 }
 
-fn first_numbered(rules: &[Access<'_>], rows: &[Vec<bool>], items: &[Item]) -> Option<u32>
-    ensures { result ≡ first_numbered (map access_view rules.now) (rows_of rows.now) 0 (map item_view items.now) }
+fn first_numbered(
+    alloc: Global,
+    rules: &[Access<'_>],
+    rows: &[Vec<usize>],
+    pooled: &[Vec<usize>],
+    items: &[Item],
+) -> Result<Option<u32>, AllocError>
+    requires rows { rows_of rows.now ≡ all_rows (map access_view rules.now) }
+    requires pooled { rows_of pooled.now ≡ all_pooled (map access_view rules.now) }
+    ensures { IfOk result (λ line. line ≡ first_numbered (map access_view rules.now) 0 (map item_view items.now)) }
 {
     let mut number = 0;
     for item in items {
         if let ItemBody::Access(_, _) = &item.body {
-            if is_looping(rules, rows, number) {
-                return Some(item.line);
+            if is_looping(alloc, rules, rows, pooled, number)? {
+                return Ok(Some(item.line));
             }
             number += 1;
         }
     }
-    None
+    Ok(None)
 }
 
 /// The line of the first item whose access rule loops or is repeated.
@@ -229,6 +232,7 @@ pub fn first_looping(
     ensures { IfOk result (λ line. line ≡ option_map (λ i. i.line) (spec.first_looping (map access_view rules.now) [] (map item_view items.now))) }
 {
     let rows = rows_among(alloc, rules, items)?;
-    let rows = all_rows(alloc, rules, rows)?;
-    Ok(first_numbered(rules, rows.as_slice(), items))
+    let firsts = firsts_of(alloc, rules)?;
+    let pooled = pooled_of(alloc, firsts.as_slice(), rows.as_slice())?;
+    first_numbered(alloc, rules, rows.as_slice(), pooled.as_slice(), items)
 }

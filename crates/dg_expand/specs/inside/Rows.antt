@@ -1,69 +1,87 @@
--- Which access rule reaches which, as rows of answers. The proofs alone rest on it.
-use Rattle.std.specs.Prelude.{ℕ, zero, suc, ◌+◌, ◌||◌, ◌&&◌, List, [], ◌∷◌, ◌++◌, Bool, false, Option, Some, None, Vec, map, take, drop, if◌then◌else◌}
-use Rattle.std.specs.Global.{Global}
+-- Which access rules ask for which, by number, those of one name standing for the first of them. The proofs alone rest on it.
+use Rattle.std.specs.Prelude.{ℕ, ◌+◌, ◌&&◌, List, [], ◌∷◌, ◌++◌, Bool, false, Option, Some, None, map, take, drop, length, nat_eq, nat_lt, if◌then◌else◌}
 use Rattle.std.specs.List.{list_any}
 use Rattle.std.specs.Str.{bytes_eq}
 use Rattle.dg_access.specs.Rewritten.{is_access}
+use Rattle.dg_base.specs.Heads.{name_of}
+use Rattle.dg_base.specs.Tree as tree
 use Rattle.dg_base.specs.Tree.{Item}
-use Rattle.dg_base.specs.Mentions.{Thing, things_in}
+use Rattle.dg_base.specs.Mentions.{Thing, query, things_in}
+use Rattle.dg_base.specs.declared.mentions.Role.{Role}
+use Rattle.dg_base.specs.declared.mentions.Role.TheVariants as role
 use Rattle.dg_expand.specs.Put.{Access}
 use Rattle.dg_expand.specs.Expanded.{access_in}
-use Rattle.dg_expand.specs.Loops.{asks_for, reaches}
+use Rattle.dg_expand.specs.Loops.{loops}
 
--- Which predicates of access rules these mention.
-abbrev pub first_row : List Access → List Thing → List Bool
-first_row [] ts = []
-first_row (t ∷ rules) ts = list_any (asks_for t.name) ts ∷ first_row rules ts
+-- The number of the first access rule of this name, or else how many there are.
+abbrev pub first_of : List Access → List ℕ → ℕ
+first_of [] name = 0
+first_of (r ∷ rules) name = if bytes_eq r.name name then 0 else first_of rules name + 1
+
+-- The number of an access rule's name.
+abbrev pub number_in : List Access → List ℕ → List ℕ
+number_in rules name = if nat_lt (first_of rules name) (length rules) then first_of rules name ∷ [] else []
+
+-- The access rule that a query or a change asks for.
+abbrev pub asked_as : List Access → Role → List ℕ → List ℕ
+asked_as rules role.Access name = []
+asked_as rules r name = number_in rules name
+
+abbrev pub asked_at : List Access → Thing → List ℕ
+asked_at rules (query r ps) = asked_as rules r (name_of ps)
+asked_at rules t = []
+
+abbrev pub asked : List Access → List Thing → List ℕ
+asked rules [] = []
+asked rules (t ∷ ts) = asked_at rules t ++ asked rules ts
 
 -- A row for each access rule of an item.
-abbrev pub item_rows : List Access → Item → List (List Bool)
-item_rows rules i = map (λ (r : Access). first_row rules (things_in i.said)) (access_in i.said)
+abbrev pub item_rows : List Access → Item → List (List ℕ)
+item_rows rules i = map (λ (r : Access). asked rules (things_in i.said)) (access_in i.said)
 
-abbrev pub first_rows : List Access → List Item → List (List Bool)
+abbrev pub first_rows : List Access → List Item → List (List ℕ)
 first_rows rules [] = []
 first_rows rules (i ∷ is) = item_rows rules i ++ first_rows rules is
 
-abbrev pub rows_of : List (Vec Bool Global) → List (List Bool)
-rows_of rows = map (λ (row : Vec Bool Global). row.items) rows
+-- What an access rule asks for.
+abbrev pub asked_by : List Access → Access → List ℕ
+asked_by rules r = asked rules (things_in (tree.access r.head r.body))
 
--- A row, with all that another one has where this way leads there.
-abbrev pub joined : Bool → List Bool → List Bool → List Bool
-joined over [] ys = []
-joined over (x ∷ xs) [] = (x || (over && false)) ∷ joined over xs []
-joined over (x ∷ xs) (y ∷ ys) = (x || (over && y)) ∷ joined over xs ys
+abbrev pub all_rows : List Access → List (List ℕ)
+all_rows rules = map (asked_by rules) rules
 
-abbrev pub is_set : List Bool → ℕ → Bool
-is_set [] k = false
-is_set (x ∷ xs) zero = x
-is_set (x ∷ xs) (suc k) = is_set xs k
+-- Of each of these, the first access rule of its name.
+abbrev pub firsts : List Access → List Access → List ℕ
+firsts rules rs = map (λ (r : Access). first_of rules r.name) rs
 
-abbrev pub row_at : List (List Bool) → ℕ → List Bool
-row_at [] k = []
-row_at (row ∷ rows) zero = row
-row_at (row ∷ rows) (suc k) = row_at rows k
+-- The rows of those that have this number, together.
+abbrev pub pooled : ℕ → List ℕ → List (List ℕ) → List ℕ
+pooled k [] rows = []
+pooled k (n ∷ ns) [] = []
+pooled k (n ∷ ns) (row ∷ rows) = (if nat_eq n k then row else []) ++ pooled k ns rows
 
--- The rows with one more access rule in between.
-abbrev pub with_one : List (List Bool) → List Bool → ℕ → List (List Bool)
-with_one rows through k = map (λ (row : List Bool). joined (is_set row k) row through) rows
+-- The same for each number from this one on, as many as the first list has.
+abbrev pub pooled_from : ℕ → List ℕ → List ℕ → List (List ℕ) → List (List ℕ)
+pooled_from k [] ns rows = []
+pooled_from k (c ∷ cs) ns rows = pooled k ns rows ∷ pooled_from (k + 1) cs ns rows
 
--- Of each access rule, which it reaches with these in between.
-abbrev pub rows_at : List Access → List Access → List (List Bool)
-rows_at between rules = map (λ (r : Access). map (λ (t : Access). reaches between r t.name) rules) rules
+abbrev pub all_pooled : List Access → List (List ℕ)
+all_pooled rules = pooled_from 0 (firsts rules rules) (firsts rules rules) (all_rows rules)
 
 -- Whether one of these has this name.
 abbrev pub is_among : List Access → List ℕ → Bool
 is_among rules name = list_any (λ (r : Access). bytes_eq r.name name) rules
 
 -- Whether the access rule that stands here, behind these, is the second of its predicate, or reaches it.
-abbrev pub is_here_looping : List Access → List Access → List (List Bool) → ℕ → Bool
-is_here_looping before [] rows number = false
-is_here_looping before (r ∷ rs) rows number = is_among before r.name || is_set (row_at rows number) number
+abbrev pub is_here_looping : List Access → List Access → List Access → Bool
+is_here_looping rules before [] = false
+is_here_looping rules before (r ∷ rs) = loops rules before r
 
-abbrev pub is_looping : List Access → List (List Bool) → ℕ → Bool
-is_looping rules rows number = is_here_looping (take number rules) (drop number rules) rows number
+abbrev pub is_looping : List Access → ℕ → Bool
+is_looping rules number = is_here_looping rules (take number rules) (drop number rules)
 
 -- The line of the first item whose access rule loops or is repeated, the access rules being numbered from here on.
-abbrev pub first_numbered : List Access → List (List Bool) → ℕ → List Item → Option ℕ
-first_numbered rules rows number [] = None
-first_numbered rules rows number (i ∷ is) =
-    if is_access i.said && is_looping rules rows number then Some i.line else first_numbered rules rows (if is_access i.said then number + 1 else number) is
+abbrev pub first_numbered : List Access → ℕ → List Item → Option ℕ
+first_numbered rules number [] = None
+first_numbered rules number (i ∷ is) =
+    if is_access i.said && is_looping rules number then Some i.line else first_numbered rules (if is_access i.said then number + 1 else number) is

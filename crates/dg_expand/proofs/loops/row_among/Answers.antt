@@ -1,20 +1,21 @@
-use Rattle.std.proofs.Common.{◌+◌, List, [], ◌∷◌, ◌++◌, Bool, map, drop, refl, sym, ◌∙◌, ap, append_assoc}
-use Rattle.dg_base.specs.Walk.{seen, things_at}
+use Rattle.std.proofs.Common.{◌+◌, List, ℕ, ◌++◌, map, drop, sym, refl, ◌∙◌, ap, append_assoc}
+use Rattle.dg_base.specs.Walk.{mention_view, seen, thing_at, things_at}
+use Rattle.dg_base.specs.declared.mentions.Mention.{Mention}
 use Rattle.dg_expand.specs.inside.Putting.{access_view}
-use Rattle.dg_expand.specs.inside.Rows.{first_row}
-use Rattle.dg_expand.specs.declared.place.Access.{Access as CodeAccess}
-use Rattle.dg_expand.proofs.RowLemmas.{dropped_item}
+use Rattle.dg_expand.specs.inside.Rows.{asked}
+use Rattle.dg_expand.proofs.RowLemmas.{asked_append, dropped_item}
 use Rattle.dg_expand.proofs.loops.row_among.Goals as goal
 
-pub loop-rule-preserved : goal.loop-rule-preserved
-loop-rule-preserved c =
-    let rs = c.args.rules.now in
-    let i = c.loop-rule.rule-index in
-    let ts = things_at (seen c.args.mentions.now) in
-    let made = c.loop-rule.row.items in
-    let others = first_row (map access_view (drop (i + 1) rs)) ts in
-    ap (λ (l : List Bool). l ++ others) c.in_ok-push.ensures.items
-    ∙ append_assoc made (c.any_asks.result ∷ []) others
-    ∙ ap (λ (b : Bool). made ++ (b ∷ others)) c.any_asks.ensures
-    ∙ sym (ap (λ (l : List CodeAccess). made ++ first_row (map access_view l) ts) (dropped_item rs i (i + 1) c.rule-item.result refl c.rule-item.is c.loop-rule-test.true))
-    ∙ c.loop-rule.invariant
+pub loop-mention-preserved : goal.loop-mention-preserved
+loop-mention-preserved c =
+    let rules = map access_view c.args.rules.now in
+    let ms = c.args.mentions.now in
+    let i = c.loop-mention.mention-index in
+    let m = c.mention-item.result in
+    let made = c.loop-mention.row.items in
+    let others = things_at (seen (drop (i + 1) ms)) in
+    ap (λ (l : List ℕ). l ++ asked rules others) c.in_ok-add_asked.ensures
+    ∙ append_assoc made (asked rules (thing_at (mention_view m))) (asked rules others)
+    ∙ ap (λ (l : List ℕ). made ++ l) (sym (asked_append rules (thing_at (mention_view m)) others))
+    ∙ sym (ap (λ (l : List Mention). made ++ asked rules (things_at (seen l))) (dropped_item ms i (i + 1) m refl c.mention-item.is c.loop-mention-test.true))
+    ∙ c.loop-mention.invariant

@@ -1,8 +1,8 @@
 use Rattle.std.proofs.Common.{◌≡◌, ◌++◌, drop, map}
 use Rattle.dg_base.specs.Walk.{seen, things_at}
 use Rattle.dg_expand.specs.inside.Putting.{access_view}
-use Rattle.dg_expand.specs.inside.Rows.{first_row}
+use Rattle.dg_expand.specs.inside.Rows.{asked}
 use Rattle.dg_expand.proofs.loops.row_among.Given as goal
 
-abbrev pub invariant-loop-rule : goal.invariant-loop-rule
-invariant-loop-rule l = l.row.items ++ first_row (map access_view (drop l.rule-index l.rules)) (things_at (seen l.mentions)) ≡ first_row (map access_view l.rules) (things_at (seen l.mentions))
+abbrev pub invariant-loop-mention : goal.invariant-loop-mention
+invariant-loop-mention l = l.row.items ++ asked (map access_view l.rules) (things_at (seen (drop l.mention-index l.mentions))) ≡ asked (map access_view l.rules) (things_at (seen l.mentions))

@@ -1,7 +1,8 @@
 use Rattle.std.proofs.Common.{◌≡◌, ◌++◌, drop, map}
 use Rattle.dg_base.specs.TreeView.{item_view}
 use Rattle.dg_expand.specs.inside.Putting.{access_view}
-use Rattle.dg_expand.specs.inside.Rows.{first_rows, rows_of}
+use Rattle.dg_expand.specs.inside.Reached.{rows_of}
+use Rattle.dg_expand.specs.inside.Rows.{first_rows}
 use Rattle.dg_expand.proofs.loops.rows_among.Given as goal
 
 abbrev pub invariant-loop-item : goal.invariant-loop-item
