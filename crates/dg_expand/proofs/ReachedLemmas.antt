@@ -2,7 +2,6 @@
 use Rattle.std.proofs.Common.{◌≡◌, ◌+◌, ◌<◌, ◌≤◌, ◌⊎◌, ℕ, zero, suc, List, [], ◌∷◌, ◌++◌, ◌&&◌, ◌||◌, Bool, true, false, not, length, set, take, get_or, replicate, nat_eq, nat_lt, refl, sym, ◌∙◌, ap, subst, inl, inr, append_assoc, append-nil, take-append-drop, drop, ltb-true, take_all, length-set, eqb-true, eq-eqb, lt-ltb, arith}
 use Rattle.std.specs.Prelude.{Vec, if◌then◌else◌}
 use Rattle.std.specs.Global.{Global}
-use Rattle.std.specs.List.{list_any}
 use Rattle.std.proofs.lemmas.Bool.{or_cases, or_left, or_right}
 use Rattle.std.proofs.lemmas.List.{length-replicate, take_more, take-append-le}
 use Rattle.dg_expand.specs.inside.Reached.{is_set, is_in, row_at, rows_of, Places, noted, all_noted, Leads, begins, goes, IsReached}

@@ -1,5 +1,5 @@
 -- What the access rules ask for by number is what they reach.
-use Rattle.std.proofs.Common.{◌≡◌, ◌+◌, ◌<◌, ◌≤◌, ◌⊎◌, ℕ, zero, suc, List, [], ◌∷◌, ◌++◌, ◌||◌, ◌&&◌, Bool, true, false, Option, Some, length, map, take, drop, get_or, nat_eq, nat_lt, refl, sym, ◌∙◌, ap, subst, inl, inr, append_assoc, append-nil, add-zero, eqb-true, eq-eqb, ltb-true, lt-ltb, arith}
+use Rattle.std.proofs.Common.{◌≡◌, ◌+◌, ◌<◌, ◌≤◌, ◌⊎◌, ℕ, zero, suc, List, [], ◌∷◌, ◌++◌, ◌||◌, ◌&&◌, Bool, true, false, Option, Some, length, map, take, drop, get_or, nat_eq, nat_lt, refl, sym, ◌∙◌, ap, subst, inl, inr, append_assoc, append-nil, add-zero, eqb-true, eq-eqb, ne_eqb, lt-ltb, arith}
 use Rattle.std.specs.Prelude.{Vec, if◌then◌else◌}
 use Rattle.std.specs.Global.{Global}
 use Rattle.std.specs.List.{list_any}
@@ -9,7 +9,7 @@ use Rattle.std.specs.Cmp.Lexicographic.{bytes_decides}
 use Rattle.std.proofs.Math.ListN.{drop_of_length-le}
 use Rattle.std.proofs.lemmas.Bool.{or_cases, or_left, or_right, and_parts, and_from}
 use Rattle.std.proofs.lemmas.List.Folds.{list_any-append}
-use Rattle.std.proofs.lemmas.List.{take_at, drop_at, length-append, length-map}
+use Rattle.std.proofs.lemmas.List.{get_or_default, take_at, drop_at, length-append, length-map}
 use Rattle.dg_base.specs.Heads.{name_of}
 use Rattle.dg_base.specs.Mentions as thing
 use Rattle.dg_base.specs.Mentions.{Thing, things_in}
@@ -23,7 +23,7 @@ use Rattle.dg_expand.specs.declared.place.Access.{Access as CodeAccess}
 use Rattle.dg_expand.specs.Expanded.{access_in, access_rules}
 use Rattle.dg_expand.specs.Loops.{asks, asks_for, mentions, reaches, loops, first_looping}
 use Rattle.dg_expand.specs.inside.Reached.{is_set, is_in, row_at, rows_of, Leads, begins, goes, IsReached}
-use Rattle.dg_expand.specs.inside.Rows.{first_of, number_in, asked_as, asked_at, asked, first_rows, asked_by, all_rows, firsts, pooled, pooled_from, all_pooled, is_among, is_here_looping, is_looping, first_numbered}
+use Rattle.dg_expand.specs.inside.Rows.{first_of, number_in, asked_as, asked_at, asked, first_rows, asked_by, all_rows, firsts, pooled, pooled_from, all_pooled, is_here_looping, is_looping, first_numbered}
 
 map_append : {X Y : Type 0} (f : X → Y) (xs ys : List X) → map f (xs ++ ys) ≡ map f xs ++ map f ys
 map_append f [] ys = refl
@@ -96,6 +96,25 @@ pooled_behind k (m ∷ ns) (row ∷ rows) (suc i) n h e = pooled_behind k ns row
 -- what is pooled of the rest, from its first element on
 pub pooled_on : (k : ℕ) (ns : List ℕ) (rows : List (List ℕ)) (i n : ℕ) → i < length ns → n ≡ get_or ns i n → pooled k (drop i ns) (drop i rows) ≡ (if nat_eq n k then row_at rows i else []) ++ pooled k (drop (i + 1) ns) (drop (i + 1) rows)
 pooled_on k ns rows i n h e = pooled_behind k ns rows i n h e ∙ ap (λ (j : ℕ). (if nat_eq n k then row_at rows i else []) ++ pooled k (drop j ns) (drop j rows)) (after_one i)
+
+row_if : (b : Bool) (made row others rest all : List ℕ) → rest ≡ (if b then row else []) ++ others → made ++ rest ≡ all → (if b then made ++ row else made) ++ others ≡ all
+row_if true made row others rest all e f = append_assoc made row others ∙ ap (λ (l : List ℕ). made ++ l) (sym e) ∙ f
+row_if false made row others rest all e f = ap (λ (l : List ℕ). made ++ l) (sym e) ∙ f
+
+-- what is pooled so far, with the next row where it is one of them
+pub pooled_with : (k : ℕ) (ns : List ℕ) (rows : List (List ℕ)) (i : ℕ) (made all : List ℕ) → i < length ns → get_or ns i 0 ≡ k → made ++ pooled k (drop i ns) (drop i rows) ≡ all → (made ++ row_at rows i) ++ pooled k (drop (i + 1) ns) (drop (i + 1) rows) ≡ all
+pooled_with k ns rows i made all h e f =
+    let n = get_or ns i 0 in
+    let others = pooled k (drop (i + 1) ns) (drop (i + 1) rows) in
+    let one = row_if (nat_eq n k) made (row_at rows i) others (pooled k (drop i ns) (drop i rows)) all (pooled_on k ns rows i n h (get_or_default ns i 0 n h)) f in
+    ap (λ (b : Bool). (if b then made ++ row_at rows i else made) ++ others) (sym (eq-eqb n k e)) ∙ one
+
+pub pooled_without : (k : ℕ) (ns : List ℕ) (rows : List (List ℕ)) (i : ℕ) (made all : List ℕ) → i < length ns → (get_or ns i 0 ≡ k → ⊥) → made ++ pooled k (drop i ns) (drop i rows) ≡ all → made ++ pooled k (drop (i + 1) ns) (drop (i + 1) rows) ≡ all
+pooled_without k ns rows i made all h other f =
+    let n = get_or ns i 0 in
+    let others = pooled k (drop (i + 1) ns) (drop (i + 1) rows) in
+    let one = row_if (nat_eq n k) made (row_at rows i) others (pooled k (drop i ns) (drop i rows)) all (pooled_on k ns rows i n h (get_or_default ns i 0 n h)) f in
+    ap (λ (b : Bool). (if b then made ++ row_at rows i else made) ++ others) (sym (ne_eqb n k other)) ∙ one
 
 from_behind : (k i : ℕ) (cs ns : List ℕ) (rows : List (List ℕ)) → i < length cs → pooled_from k (drop i cs) ns rows ≡ pooled k ns rows ∷ pooled_from (k + 1) (drop (suc i) cs) ns rows
 from_behind k i [] ns rows h = absurd (omega arith)

@@ -1,5 +1,5 @@
 // Access rules that loop or are repeated.
-ghost use Rattle.std.specs.Prelude.{◌≡◌, ◌++◌, [], map, if◌then◌else◌, IfOk, OnOk};
+ghost use Rattle.std.specs.Prelude.{◌≡◌, ◌++◌, [], map, IfOk, OnOk};
 ghost use Rattle.std.specs.Option.{option_map};
 ghost use Rattle.dg_base.specs.Heads as heads;
 ghost use Rattle.dg_base.specs.Mentions.{query, things_in};
@@ -124,15 +124,6 @@ fn firsts_of(alloc: Global, rules: &[Access<'_>]) -> Result<Vec<usize>, AllocErr
     Ok(numbers)
 }
 
-fn add_row(row: &mut Vec<usize>, is_one: bool, asked: &[usize]) -> Result<(), AllocError>
-    ensures { OnOk result (row.new.items ≡ row.old.items ++ (if is_one then asked.now else [])) }
-{
-    if is_one {
-        row.extend_from_slice(asked)?;
-    }
-    Ok(())
-}
-
 // What all access rules ask for together that are of one name, the first of which has this number.
 fn pooled_at(
     alloc: Global,
@@ -144,8 +135,9 @@ fn pooled_at(
 {
     let mut row = Vec::new(alloc);
     for number in 0..firsts.len() {
-        let here = firsts[number];
-        add_row(&mut row, here == first, row_at(rows, number))?;
+        if firsts[number] == first {
+            row.extend_from_slice(row_at(rows, number))?;
+        }
     }
     Ok(row)
 }

@@ -13,6 +13,7 @@ pub struct Reached {
 
 /// Whether a place is among these.
 #[tactic(auto, using(std::proofs::lemmas::Grind::common_steps, crate::proofs::ReachedLemmas::set_here, crate::proofs::ReachedLemmas::set_behind))]
+#[inline(always)]
 pub fn is_set(seen: &[bool], place: usize) -> bool
     ensures { result ≡ is_set seen.now place }
 {
@@ -21,6 +22,7 @@ pub fn is_set(seen: &[bool], place: usize) -> bool
 
 /// The row of this number, which is empty where there is none.
 #[tactic(auto, using(std::proofs::lemmas::Grind::common_steps, crate::proofs::ReachedLemmas::row_here, crate::proofs::ReachedLemmas::row_behind))]
+#[inline(always)]
 pub fn row_at(rows: &[Vec<usize>], number: usize) -> &[usize]
     ensures { result.now ≡ row_at (rows_of rows.now) number }
 {
@@ -32,6 +34,7 @@ pub fn row_at(rows: &[Vec<usize>], number: usize) -> &[usize]
 }
 
 // Whether there is such a place, and it wasn't reached yet.
+#[inline(always)]
 fn is_new(seen: &[bool], place: usize) -> bool
     ensures new { result ≡ is_new place seen.now }
     ensures within { result ≡ true → place < length seen.now }
@@ -39,6 +42,7 @@ fn is_new(seen: &[bool], place: usize) -> bool
     place < seen.len() && !is_set(seen, place)
 }
 
+#[inline(always)]
 fn note(reached: &mut Reached, place: usize) -> Result<(), AllocError>
     ensures { OnOk result (reached_view reached.new ≡ noted place (reached_view reached.old)) }
 {
@@ -49,6 +53,7 @@ fn note(reached: &mut Reached, place: usize) -> Result<(), AllocError>
     Ok(())
 }
 
+#[inline(always)]
 fn note_all(reached: &mut Reached, places: &[usize]) -> Result<(), AllocError>
     ensures { OnOk result (reached_view reached.new ≡ all_noted places.now (reached_view reached.old)) }
 {

@@ -1,9 +1,9 @@
-use Rattle.std.proofs.Common.{◌+◌, List, [], ℕ, ◌++◌, drop, get_or, nat_eq, sym, ◌∙◌, ap, append_assoc}
-use Rattle.std.specs.Prelude.{if◌then◌else◌}
-use Rattle.std.proofs.lemmas.List.{get_or_default}
+use Rattle.std.proofs.Common.{List, Vec, ℕ, ◌+◌, ◌++◌, drop, ◌∙◌, ap}
+use Rattle.std.specs.Global.{Global}
 use Rattle.dg_expand.specs.inside.Reached.{rows_of}
 use Rattle.dg_expand.specs.inside.Rows.{pooled}
-use Rattle.dg_expand.proofs.RowLemmas.{pooled_on}
+use Rattle.dg_expand.proofs.RowLemmas.{pooled_with, pooled_without}
+use Rattle.dg_expand.proofs.loops.pooled_at.Goals.{then-firsts-number+in_ok-extend_from_slice, else-firsts-number}
 use Rattle.dg_expand.proofs.loops.pooled_at.Goals as goal
 
 pub loop-number-preserved : goal.loop-number-preserved
@@ -12,11 +12,13 @@ loop-number-preserved c =
     let rows = rows_of c.args.rows.now in
     let k = c.args.first in
     let i = c.loop-number.number in
-    let n = get_or ns i 0 in
     let made = c.loop-number.row.items in
+    let all = pooled k ns rows in
     let others = pooled k (drop (i + 1) ns) (drop (i + 1) rows) in
-    ap (λ (l : List ℕ). l ++ others) c.in_ok-add_row.ensures
-    ∙ append_assoc made (if nat_eq n k then c.row_at.result.now else []) others
-    ∙ ap (λ (row : List ℕ). made ++ ((if nat_eq n k then row else []) ++ others)) c.row_at.ensures
-    ∙ sym (ap (λ (l : List ℕ). made ++ l) (pooled_on k ns rows i n c.loop-number-test.true (get_or_default ns i 0 n c.loop-number-test.true)))
-    ∙ c.loop-number.invariant
+    elim c.if-firsts-number.branch [
+      then-firsts-number+in_ok-extend_from_slice w ↦
+        ap (λ (v : Vec ℕ Global). v.items ++ others) w.row-is ∙ ap (λ (l : List ℕ). l ++ others) w.in_ok-extend_from_slice.ensures.items
+        ∙ ap (λ (l : List ℕ). (made ++ l) ++ others) w.row_at.ensures
+        ∙ pooled_with k ns rows i made all c.loop-number-test.true w.if-firsts-number.true c.loop-number.invariant
+    | else-firsts-number w ↦
+        ap (λ (v : Vec ℕ Global). v.items ++ others) w.row-is ∙ pooled_without k ns rows i made all c.loop-number-test.true w.if-firsts-number.false c.loop-number.invariant ]
