@@ -406,7 +406,7 @@ fn print_term<'p, K: Sink>(
     }
 }
 
-/// Does an action that stops no part.
+/// Does an action that stops no part and isn't quiet: quiet ones are done by `act`.
 fn do_action<'p, K: Sink>(
     memory: &mut Memory,
     tables: &Tables,
@@ -448,7 +448,7 @@ fn do_action<'p, K: Sink>(
     }
 }
 
-/// Does the instruction at hand, which takes a goal, and reads no line.
+/// Does the instruction at hand, which takes a goal, isn't quiet, and reads no line: quiet ones are done by `do_quiet`.
 fn goal_step<'p, K: Sink>(
     memory: &mut Memory,
     code: &'p Code,
@@ -504,7 +504,7 @@ fn goal_step<'p, K: Sink>(
     }
 }
 
-/// Does the instruction at hand, which takes a goal, with the line that it reads.
+/// Does the instruction at hand, which takes a goal and isn't quiet, with the line that it reads.
 fn next_goal<'p, S: Source, K: Sink>(
     memory: &mut Memory,
     code: &'p Code,
@@ -611,7 +611,11 @@ fn settle<'p>(
     ensures rests { rests result ≡ true }
     ensures stays { IsEnd start.entry → IsEnd result }
 {
-    let mut now = settle_first(memory, code, tables, start);
+    let first = settle_first(memory, code, tables, start);
+    if rests(first) {
+        return first;
+    }
+    let mut now = first;
     'marks: while !rests(now) {
         if is_quick(now) {
             now = quick_mark(memory, code, tables, now);
@@ -685,7 +689,7 @@ fn is_quiet(op: &Op) -> bool
     }
 }
 
-/// Does the instruction at hand, which takes a goal, and steps up to the next goal, or the end.
+/// Does the instruction at hand, which takes a goal and isn't quiet, and steps up to the next goal, or the end.
 #[inline(never)]
 fn turn<'p, S: Source, K: Sink>(
     memory: &mut Memory,

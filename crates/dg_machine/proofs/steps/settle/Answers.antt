@@ -6,17 +6,17 @@ use Rattle.dg_machine.proofs.Turns.{somewhere_marked, somewhere_settled, end_res
 use Rattle.dg_machine.proofs.Failing.{settled_then, failing_left}
 use Rattle.dg_machine.proofs.steps.settle.Goals as goal
 
-pub settle_first-now-requires-clause-some : goal.settle_first-now-requires-clause-some
-settle_first-now-requires-clause-some c = (c.args.outside.now, c.requires.some)
+pub settle_first-first-requires-clause-some : goal.settle_first-first-requires-clause-some
+settle_first-first-requires-clause-some c = (c.args.outside.now, c.requires.some)
 
 pub marks-init : goal.marks-init
 marks-init c =
-    let comes = c.settle_first-now.ensures.comes c.args.outside.now in
+    let comes = c.settle_first-first.ensures.comes c.args.outside.now in
     record {
       settles = comes;
-      somewhere = somewhere_settled c.args.tables.now c.args.code.now c.args.memory.now c.settle_first-now.new.memory c.args.outside.now c.args.outside.now c.args.start c.settle_first-now.result comes c.requires.some;
+      somewhere = somewhere_settled c.args.tables.now c.args.code.now c.args.memory.now c.settle_first-first.new.memory c.args.outside.now c.args.outside.now c.args.start c.settle_first-first.result comes c.requires.some;
       sites = refl;
-      stays = c.settle_first-now.ensures.stays;
+      stays = c.settle_first-first.ensures.stays;
     }
 
 pub marks-preserved : goal.marks-preserved
