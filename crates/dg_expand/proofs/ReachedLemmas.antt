@@ -16,7 +16,8 @@ set_behind [] i h = refl
 set_behind (y ∷ row) zero h = absurd (omega arith)
 set_behind (y ∷ row) (suc i) h = set_behind row i (omega arith)
 
-pub row_here : (rows : List (Vec ℕ Global)) (i : ℕ) (row : Vec ℕ Global) → row ≡ get_or rows i row → i < length rows → row_at (rows_of rows) i ≡ row.items
+pub row_here : (rows : List (Vec ℕ Global)) (i : ℕ) (row : Vec ℕ Global) → row ≡ get_or rows i row → i < length rows
+    → row_at (rows_of rows) i ≡ row.items
 row_here [] i row e h = absurd (omega arith)
 row_here (y ∷ rows) zero row e h = ap (λ (v : Vec ℕ Global). v.items) (sym e)
 row_here (y ∷ rows) (suc i) row e h = row_here rows i row e (omega arith)
@@ -32,7 +33,8 @@ in_left : (k : ℕ) (xs ys : List ℕ) → is_in k xs ≡ true → is_in k (xs +
 in_left k [] ys e = cc
 in_left k (x ∷ xs) ys e = by (λ f. in_left k xs ys f) (or_cases (nat_eq k x) (is_in k xs) e)
   where
-    by : (is_in k xs ≡ true → is_in k (xs ++ ys) ≡ true) → (nat_eq k x ≡ true) ⊎ (is_in k xs ≡ true) → (nat_eq k x || is_in k (xs ++ ys)) ≡ true
+    by : (is_in k xs ≡ true → is_in k (xs ++ ys) ≡ true) → (nat_eq k x ≡ true) ⊎ (is_in k xs ≡ true)
+        → (nat_eq k x || is_in k (xs ++ ys)) ≡ true
     by on (inl f) = or_left (nat_eq k x) (is_in k (xs ++ ys)) f
     by on (inr f) = or_right (nat_eq k x) (is_in k (xs ++ ys)) (on f)
 
@@ -52,7 +54,8 @@ in_more k j (x ∷ xs) e = by (λ f. in_more k j xs f) (or_cases (nat_eq k x) (i
     then_on (inl f) = inl (or_right (nat_eq k x) (is_in k xs) f)
     then_on (inr f) = inr f
 
-    by : (is_in k (xs ++ j ∷ []) ≡ true → (is_in k xs ≡ true) ⊎ (k ≡ j)) → (nat_eq k x ≡ true) ⊎ (is_in k (xs ++ j ∷ []) ≡ true) → ((nat_eq k x || is_in k xs) ≡ true) ⊎ (k ≡ j)
+    by : (is_in k (xs ++ j ∷ []) ≡ true → (is_in k xs ≡ true) ⊎ (k ≡ j)) → (nat_eq k x ≡ true) ⊎ (is_in k (xs ++ j ∷ []) ≡ true)
+        → ((nat_eq k x || is_in k xs) ≡ true) ⊎ (k ≡ j)
     by on (inl f) = inl (or_left (nat_eq k x) (is_in k xs) f)
     by on (inr f) = then_on (on f)
 
@@ -134,18 +137,21 @@ comes k r h = record {
     from_one j (inl f) = inl f
     from_one j (inr f) = inr (or_left (nat_eq j k) false (eq-eqb j k f))
 
-    told_one : ((j : ℕ) → is_set r.seen j ≡ true → is_in j r.found ≡ true) → (j : ℕ) → (is_set r.seen j ≡ true) ⊎ (j ≡ k) → is_in j (r.found ++ k ∷ []) ≡ true
+    told_one : ((j : ℕ) → is_set r.seen j ≡ true → is_in j r.found ≡ true) → (j : ℕ) → (is_set r.seen j ≡ true) ⊎ (j ≡ k)
+        → is_in j (r.found ++ k ∷ []) ≡ true
     told_one all j (inl f) = in_left j r.found (k ∷ []) (all j f)
     told_one all j (inr f) = subst (λ (n : ℕ). is_in n (r.found ++ k ∷ []) ≡ true) (sym f) (in_last k r.found)
 
-    shown_one : ((j : ℕ) → is_in j r.found ≡ true → is_set r.seen j ≡ true) → (j : ℕ) → (is_in j r.found ≡ true) ⊎ (j ≡ k) → is_set (set r.seen k true) j ≡ true
+    shown_one : ((j : ℕ) → is_in j r.found ≡ true → is_set r.seen j ≡ true) → (j : ℕ) → (is_in j r.found ≡ true) ⊎ (j ≡ k)
+        → is_set (set r.seen k true) j ≡ true
     shown_one all j (inl f) = set_kept r.seen k j (all j f)
     shown_one all j (inr f) = subst (λ (n : ℕ). is_set (set r.seen k true) n ≡ true) (sym f) (set_same r.seen k h)
 
 one_grows : (k : ℕ) (r : Places) → Grows (k ∷ []) r (noted k r)
 one_grows k r = by (nat_lt k (length r.seen)) (is_set r.seen k) refl refl
   where
-    by : (b c : Bool) → nat_lt k (length r.seen) ≡ b → is_set r.seen k ≡ c → Grows (k ∷ []) r (if b && not c then record { seen = set r.seen k true; found = r.found ++ k ∷ [] } else r)
+    by : (b c : Bool) → nat_lt k (length r.seen) ≡ b → is_set r.seen k ≡ c
+        → Grows (k ∷ []) r (if b && not c then record { seen = set r.seen k true; found = r.found ++ k ∷ [] } else r)
     by true false e f = comes k r (ltb-true k (length r.seen) e)
     by true true e f = stays k r (λ h. f)
     by false c e f = stays k r (λ h. absurd (let bad : false ≡ true = sym e ∙ lt-ltb k (length r.seen) h in cc))
@@ -206,7 +212,8 @@ none_set zero k = refl
 none_set (suc n) zero = refl
 none_set (suc n) (suc k) = none_set n k
 
-start_grown : (rows : List (List ℕ)) (start : List ℕ) (old new : Places) → old.found ≡ [] → length old.seen ≡ length rows → ((k : ℕ) → is_set old.seen k ≡ false) → Grows start old new → IsGoing rows start 0 new
+start_grown : (rows : List (List ℕ)) (start : List ℕ) (old new : Places) → old.found ≡ [] → length old.seen ≡ length rows
+    → ((k : ℕ) → is_set old.seen k ≡ false) → Grows start old new → IsGoing rows start 0 new
 start_grown rows start old new none size off g = record {
   size = g.size ∙ size;
   led = λ k e. by k (g.from k e);
@@ -220,13 +227,15 @@ start_grown rows start old new none size off g = record {
     by k (inl f) = absurd (let bad : false ≡ true = sym (off k) ∙ f in cc)
     by k (inr f) = begins k f
 
-pub started : (rows : List (List ℕ)) (start : List ℕ) (n : ℕ) (seen : List Bool) (found : List ℕ) (new : Places) → seen ≡ replicate n false → n ≡ length rows → found ≡ [] → new ≡ all_noted start (record { seen = seen; found = found }) → IsGoing rows start 0 new
+pub started : (rows : List (List ℕ)) (start : List ℕ) (n : ℕ) (seen : List Bool) (found : List ℕ) (new : Places) → seen ≡ replicate n false
+    → n ≡ length rows → found ≡ [] → new ≡ all_noted start (record { seen = seen; found = found }) → IsGoing rows start 0 new
 started rows start n seen found new e size none is =
     let old : Places = record { seen = seen; found = found } in
     start_grown rows start old new none (ap length e ∙ length-replicate n false ∙ size) (λ k. ap (λ (l : List Bool). is_set l k) e ∙ none_set n k)
     (subst (λ (r : Places). Grows start old r) (sym is) (all_grow start old))
 
-grown : (rows : List (List ℕ)) (start : List ℕ) (n place : ℕ) (old new : Places) → n < length old.found → place ≡ get_or old.found n place → IsGoing rows start n old → Grows (row_at rows place) old new → IsGoing rows start (n + 1) new
+grown : (rows : List (List ℕ)) (start : List ℕ) (n place : ℕ) (old new : Places) → n < length old.found → place ≡ get_or old.found n place
+    → IsGoing rows start n old → Grows (row_at rows place) old new → IsGoing rows start (n + 1) new
 grown rows start n place old new h at w g = record {
   size = g.size ∙ w.size;
   led = λ k e. by_led k (g.from k e);
@@ -253,14 +262,18 @@ grown rows start n place old new h at w g = record {
     by_led k (inl f) = w.led k f
     by_led k (inr f) = goes place k (w.led place (w.shown place is_found)) f
 
-    by_gone : (k to : ℕ) → to < length rows → is_in to (row_at rows k) ≡ true → (is_in k (take n old.found) ≡ true) ⊎ (k ≡ place) → is_set new.seen to ≡ true
+    by_gone : (k to : ℕ) → to < length rows → is_in to (row_at rows k) ≡ true → (is_in k (take n old.found) ≡ true) ⊎ (k ≡ place)
+        → is_set new.seen to ≡ true
     by_gone k to l i (inl f) = g.kept to (w.gone k to f l i)
     by_gone k to l i (inr f) = g.here to (subst (λ (p : ℕ). is_in to (row_at rows p) ≡ true) f i) (subst (λ (m : ℕ). to < m) (sym w.size) l)
 
-pub stepped : (rows : List (List ℕ)) (start : List ℕ) (n place : ℕ) (old new : Places) → n < length old.found → place ≡ get_or old.found n place → new ≡ all_noted (row_at rows place) old → IsGoing rows start n old → IsGoing rows start (n + 1) new
-stepped rows start n place old new h at e w = grown rows start n place old new h at w (subst (λ (r : Places). Grows (row_at rows place) old r) (sym e) (all_grow (row_at rows place) old))
+pub stepped : (rows : List (List ℕ)) (start : List ℕ) (n place : ℕ) (old new : Places) → n < length old.found → place ≡ get_or old.found n place
+    → new ≡ all_noted (row_at rows place) old → IsGoing rows start n old → IsGoing rows start (n + 1) new
+stepped rows start n place old new h at e w =
+    grown rows start n place old new h at w (subst (λ (r : Places). Grows (row_at rows place) old r) (sym e) (all_grow (row_at rows place) old))
 
-pub ended : (rows : List (List ℕ)) (start : List ℕ) (n : ℕ) (r : Places) → length r.found ≤ n → IsGoing rows start n r → IsReached rows start r.seen
+pub ended : (rows : List (List ℕ)) (start : List ℕ) (n : ℕ) (r : Places) → length r.found ≤ n → IsGoing rows start n r
+    → IsReached rows start r.seen
 ended rows start n r h w = record {
   led = w.led;
   begun = w.begun;

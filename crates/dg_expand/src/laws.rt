@@ -40,7 +40,8 @@ pub fn declared_heads_keep_names()
 
 /// No head and no change stands in a rewritten tree where none may.
 pub fn none_is_closed()
-    ensures { (is new : List Item) → IsRewritten is (Ok new) → All (λ t. is_misplaced (access_rules (plain_items Option.None is)) t ≡ false) (mentioned new) }
+    ensures { (is new : List Item) → IsRewritten is (Ok new)
+        → All (λ t. is_misplaced (access_rules (plain_items Option.None is)) t ≡ false) (mentioned new) }
 {}
 
 /// Nothing is left to put in in a rewritten tree.

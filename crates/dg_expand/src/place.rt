@@ -100,7 +100,8 @@ fn value_in(part: &Part) -> Option<&Value>
 
 // The value of a part, where another is the parameter of this name.
 fn argument_or<'a>(param: &Part, arg: &'a Part, name: &[u8]) -> Option<&'a Value>
-    ensures { option_map (λ v. value_view v.now) result ≡ argument_or (spec.parameter_of (part_view param.now)) (value_in (part_view arg.now)) name.now None }
+    ensures { option_map (λ v. value_view v.now) result
+        ≡ argument_or (spec.parameter_of (part_view param.now)) (value_in (part_view arg.now)) name.now None }
 {
     match parameter_of(param) {
         Some(parameter) if parameter == name => value_in(arg),
@@ -231,7 +232,8 @@ pub fn changing_rule_at<'a>(
     set: bool,
     parts: &[Part],
 ) -> Option<Access<'a>>
-    ensures { option_map access_view result ≡ spec.change_access set (spec.rule_for (around uses.entry at.now).at.rules (parts_of (map part_view parts.now))) }
+    ensures { option_map access_view result
+        ≡ spec.change_access set (spec.rule_for (around uses.entry at.now).at.rules (parts_of (map part_view parts.now))) }
 {
     let rule = rule_at(uses, at, parts)?;
     if set || is_one(queries_of(rule.body)) {

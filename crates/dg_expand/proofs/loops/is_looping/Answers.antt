@@ -15,7 +15,8 @@ returns-then-is_among c =
     let k = c.args.number in
     let d = c.index-rules-number.result in
     let within : k < length rs = search rules in
-    let other = ap (λ (x : CodeAccess). is_among (map access_view (take k rs)) x.name.now) c.index-rules-number.is ∙ sym c.is_among.ensures ∙ c.if-is_among.true in
+    let other = ap (λ (x : CodeAccess). is_among (map access_view (take k rs)) x.name.now) c.index-rules-number.is ∙ sym c.is_among.ensures
+    ∙ c.if-is_among.true in
     sym (looping_here rs k d within c.index-rules-number.is ∙ or_left (is_among (map access_view (take k rs)) d.name.now) (reaches all (access_view d) d.name.now) other)
 
 pub returns : goal.returns
@@ -26,7 +27,8 @@ returns c =
     let d = c.index-rules-number.result in
     let seen = c.in_ok-seen.seen.items in
     let within : k < length rs = search rules in
-    let other = ap (λ (x : CodeAccess). is_among (map access_view (take k rs)) x.name.now) c.index-rules-number.is ∙ sym c.is_among.ensures ∙ c.if-is_among.false in
+    let other = ap (λ (x : CodeAccess). is_among (map access_view (take k rs)) x.name.now) c.index-rules-number.is ∙ sym c.is_among.ensures
+    ∙ c.if-is_among.false in
     let row = c.row_at.ensures ∙ ap (λ (rows : List (List ℕ)). row_at rows k) c.requires.rows in
     let given = subst (λ (l : List ℕ). IsReached (all_pooled all) l seen) row (subst (λ (rows : List (List ℕ)). IsReached rows c.row_at.result.now seen) c.requires.pooled c.in_ok-seen.ensures) in
     c.is_set.ensures

@@ -16,9 +16,10 @@ loop-number-preserved c =
     let all = pooled k ns rows in
     let others = pooled k (drop (i + 1) ns) (drop (i + 1) rows) in
     elim c.if-firsts-number.branch [
-      then-firsts-number+in_ok-extend_from_slice w ↦
-        ap (λ (v : Vec ℕ Global). v.items ++ others) w.row-is ∙ ap (λ (l : List ℕ). l ++ others) w.in_ok-extend_from_slice.ensures.items
-        ∙ ap (λ (l : List ℕ). (made ++ l) ++ others) w.row_at.ensures
-        ∙ pooled_with k ns rows i made all c.loop-number-test.true w.if-firsts-number.true c.loop-number.invariant
-    | else-firsts-number w ↦
-        ap (λ (v : Vec ℕ Global). v.items ++ others) w.row-is ∙ pooled_without k ns rows i made all c.loop-number-test.true w.if-firsts-number.false c.loop-number.invariant ]
+      | then-firsts-number+in_ok-extend_from_slice w ↦
+          ap (λ (v : Vec ℕ Global). v.items ++ others) w.row-is ∙ ap (λ (l : List ℕ). l ++ others) w.in_ok-extend_from_slice.ensures.items
+          ∙ ap (λ (l : List ℕ). (made ++ l) ++ others) w.row_at.ensures
+          ∙ pooled_with k ns rows i made all c.loop-number-test.true w.if-firsts-number.true c.loop-number.invariant
+      | else-firsts-number w ↦
+          ap (λ (v : Vec ℕ Global). v.items ++ others) w.row-is ∙ pooled_without k ns rows i made all c.loop-number-test.true w.if-firsts-number.false c.loop-number.invariant
+    ]
