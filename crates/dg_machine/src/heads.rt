@@ -87,6 +87,21 @@ fn match_written(arena: &mut Arena, row: Row, term: &Term, arg: Ref) -> Joined
     }
 }
 
+/// The same; the row is handed over here, where something is written.
+#[inline(always)]
+fn write_apart(arena: &mut Arena, row: &Row, term: &Term, arg: Ref) -> Joined
+    requires flat { Flat term.now }
+    requires row { (vs : List Value) × RowAt (meaning_of arena.old) row.now vs }
+    requires arg { Holds (meaning_of arena.old) arg }
+    requires room { (p : CoreProgram) → (meaning_of arena.old).state.heap + cells p (term.now ∷ []) ≤ (meaning_of arena.old).heap_limit }
+    ensures keeps { Keeps arena.old arena.new }
+    ensures matched { (p : CoreProgram) → (vs : List Value) → RowAt (meaning_of arena.old) row.now vs →
+        Follows (at_heap ((meaning_of arena.old).state.heap + cells p (term.now ∷ [])) (meaning_of arena.old)) (meaning_of arena.new)
+        (unified (meaning_of arena.old).state.subst (told (meaning_of arena.old) arg) (value_of p vs term.now)) (answer_of result) }
+{
+    match_written(arena, *row, term, arg)
+}
+
 /// Unifies a value that leads to an unbound variable with a pair of terms without parts.
 #[inline(always)]
 fn match_unbound(
@@ -195,7 +210,7 @@ fn match_flat(arena: &mut Arena, row: &Row, number: u32, term: &Term, arg: Ref) 
             View::Unbound(var) if is_plain(tail.get()) => {
                 return match_unbound(arena, row, head.get(), tail.get(), at, var);
             }
-            _ => return match_written(arena, *row, rest, at),
+            _ => return write_apart(arena, row, rest, at),
         }
     }
     match_plain(arena, row, number, rest, at)

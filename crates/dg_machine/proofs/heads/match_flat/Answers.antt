@@ -158,8 +158,8 @@ returns-in-Unbound-clause-few c =
     heap_few s (meaning_of c.match_unbound.new.arena) (λ p. s.state.heap + 3) (λ p. old.state.heap + cells_of p c.args.term.now) (λ p. unify s.state.subst (told s c.pairs.at) (value_of p vs whole)) (answer_of c.match_unbound.result) (λ p. c.match_unbound.ensures.matched p vs some)
     (λ p. omega (arith, c.pairs.invariant.heap, c.pairs.invariant.cells p, cells_pair p c.pairs.rest.now c.in-Pair.head c.in-Pair.tail c.in-Pair.is))
 
-pub match_written-requires : goal.match_written-requires
-match_written-requires c = record {
+pub write_apart-requires : goal.write_apart-requires
+write_apart-requires c = record {
   flat = c.pairs.invariant.flat;
   row = (c.requires.row.0, row_kept (meaning_of c.args.arena.now) (meaning_of c.pairs.arena) c.args.row.now c.requires.row.0 c.pairs.invariant.keeps.kept c.requires.row.1);
   arg = c.pairs.invariant.there;
@@ -170,19 +170,19 @@ pub returns-in_default-walk : goal.returns-in_default-walk
 returns-in_default-walk c =
     let old = c.args.arena.now in
     let now = c.pairs.arena in
-    let new = c.match_written.new.arena in
+    let new = c.write_apart.new.arena in
     let vs = c.requires.row.0 in
     let some = row_kept (meaning_of old) (meaning_of now) c.args.row.now vs c.pairs.invariant.keeps.kept c.requires.row.1 in
     record {
-      keeps = keeps_on old now new c.pairs.invariant.keeps c.match_written.ensures.keeps;
+      keeps = keeps_on old now new c.pairs.invariant.keeps c.write_apart.ensures.keeps;
       matched = λ p vs at.
           let here = row_kept (meaning_of old) (meaning_of now) c.args.row.now vs c.pairs.invariant.keeps.kept at in
           left_last old now c.pairs.invariant.keeps ((told (meaning_of old) c.args.arg, value_of p vs c.args.term.now) ∷ []) c.pairs.at (value_of p vs c.pairs.rest.now) (c.pairs.invariant.left p vs at)
-          ((meaning_of now).state.heap + cells_of p c.pairs.rest.now) (meaning_of new) (answer_of c.match_written.result) (c.match_written.ensures.matched p vs here);
+          ((meaning_of now).state.heap + cells_of p c.pairs.rest.now) (meaning_of new) (answer_of c.write_apart.result) (c.write_apart.ensures.matched p vs here);
       more = heap_grown (meaning_of now) (meaning_of new) ((meaning_of now).state.heap + cells_of no_program c.pairs.rest.now) (meaning_of old).state.heap
-          (unify (meaning_of now).state.subst (told (meaning_of now) c.pairs.at) (value_of no_program vs c.pairs.rest.now)) (answer_of c.match_written.result) (c.match_written.ensures.matched no_program vs some) (omega (arith, c.pairs.invariant.heap));
+          (unify (meaning_of now).state.subst (told (meaning_of now) c.pairs.at) (value_of no_program vs c.pairs.rest.now)) (answer_of c.write_apart.result) (c.write_apart.ensures.matched no_program vs some) (omega (arith, c.pairs.invariant.heap));
       few = heap_few (meaning_of now) (meaning_of new) (λ p. (meaning_of now).state.heap + cells_of p c.pairs.rest.now) (λ p. (meaning_of old).state.heap + cells_of p c.args.term.now)
-          (λ p. unify (meaning_of now).state.subst (told (meaning_of now) c.pairs.at) (value_of p vs c.pairs.rest.now)) (answer_of c.match_written.result) (λ p. c.match_written.ensures.matched p vs some) (λ p. omega (arith, c.pairs.invariant.heap, c.pairs.invariant.cells p));
+          (λ p. unify (meaning_of now).state.subst (told (meaning_of now) c.pairs.at) (value_of p vs c.pairs.rest.now)) (answer_of c.write_apart.result) (λ p. c.write_apart.ensures.matched p vs some) (λ p. omega (arith, c.pairs.invariant.heap, c.pairs.invariant.cells p));
     }
 
 pub match_plain-requires-2 : goal.match_plain-requires-2
