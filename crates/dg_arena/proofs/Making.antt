@@ -82,6 +82,13 @@ makes_pair f slots h t k is room es marks hh ht =
     makes f slots (slot.Pair h t k) [] 3 (pair (told (store_of false f) h) (told (store_of false f) t)) is room es (omega arith) (tt, tt) tt (pair_marks f.slots h t k marks)
     (pair_at f.slots slots h t k (length f.slots) es refl (below f 3 is (omega arith) room) hh ht)
 
+-- a pair that isn't marked
+pub makes_open : (f : Fields) (slots : List Slot) (h t : Ref) → IsCounted f → f.heap + 3 ≤ f.heap_limit → slots ≡ f.slots ++ slot.Pair h t false ∷ [] → IsTold (value_in f.slots h.0) → IsTold (value_in f.slots t.0) →
+    Makes f slots 3 (pair (told (store_of false f) h) (told (store_of false f) t))
+makes_open f slots h t is room es hh ht =
+    makes f slots (slot.Pair h t false) [] 3 (pair (told (store_of false f) h) (told (store_of false f) t)) is room es (omega arith) (tt, tt) tt (no_marks f.slots (slot.Pair h t false) refl)
+    (pair_at f.slots slots h t false (length f.slots) es refl (below f 3 is (omega arith) room) hh ht)
+
 pub makes_closure : (f : Fields) (slots : List Slot) (place : ℕ) (rs : List Ref) → IsCounted f → f.heap + (3 + length rs) ≤ f.heap_limit → slots ≡ f.slots ++ slot.Closure place (length rs) ∷ captured_slots rs → length rs ≤ 65535 → All (λ (r : Ref). IsTold (value_in f.slots r.0)) rs →
     Makes f slots (3 + length rs) (Node (Closure place) (told_parts (store_of false f) rs))
 makes_closure f slots place rs is room es few held =

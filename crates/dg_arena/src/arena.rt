@@ -14,7 +14,7 @@ ghost use Rattle.dg_arena.specs.Rows.{MadeVars};
 
 mod joining;
 
-use crate::marks::{count_link, move_fence};
+use crate::marks::{bind_fence, count_link, move_fence};
 use crate::rows::push_vars;
 use crate::words::push_words;
 use dg_base::Simple;
@@ -171,6 +171,23 @@ impl Arena {
         let constant = self.are_constant(head, tail);
         let at = self.cells.len() as u32;
         self.cells.push_reserved(Slot::Pair(head, tail, constant));
+        self.heap += 3;
+        Ref(at)
+    }
+
+    /// The same; that it has no variables isn't marked.
+    #[inline(always)]
+    pub fn fit_open(&mut self, head: Ref, tail: Ref) -> Ref
+        requires head_in { Holds (meaning_of self.old) head }
+        requires tail_in { Holds (meaning_of self.old) tail }
+        requires room { (meaning_of self.old).state.heap + 3 ≤ (meaning_of self.old).heap_limit }
+        ensures kept { Kept (meaning_of self.old) (meaning_of self.new) }
+        ensures saved { (ms : List Saved) → saves_of self.old ms → saves_of self.new ms }
+        ensures waits { self.new.waits ≡ self.old.waits }
+        ensures made { Made 3 (meaning_of self.old) (meaning_of self.new) result (pair (told (meaning_of self.old) head) (told (meaning_of self.old) tail)) }
+    {
+        let at = self.cells.len() as u32;
+        self.cells.push_reserved(Slot::Pair(head, tail, false));
         self.heap += 3;
         Ref(at)
     }
@@ -459,7 +476,8 @@ impl Arena {
         ensures made { MatchResult result (λ _. Bound (meaning_of self.old) (meaning_of self.new) var (told_in (fields_of self.old) to))
             (λ e. TrailFull (meaning_of self.old) (meaning_of self.new) var e) }
     {
-        self.fence = self.fence.for_link(var, bound, self.fence_now());
+        let now = self.fence_now();
+        bind_fence(&mut self.fence, var, bound, now);
         self.link_fenced(var, to)
     }
 

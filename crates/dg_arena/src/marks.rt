@@ -2,7 +2,7 @@
 
 ghost use Rattle.std.specs.Prelude.{◌≡◌, ◌+◌, ◌<◌, ◌≤◌, true, false};
 ghost use Rattle.dg_unify.specs.Store.{trail_for};
-ghost use Rattle.dg_unify.specs.Fences.{fence_for_new};
+ghost use Rattle.dg_unify.specs.Fences.{fence_for_new, fence_for_link};
 
 use dg_unify::Fence;
 
@@ -19,6 +19,21 @@ pub fn move_fence(fence: &mut Fence, slots: usize, vars: usize)
             vars,
             reach: vars,
         };
+    }
+}
+
+/// Moves the fence where a variable is bound to a value with variables below `top`.
+#[inline(always)]
+pub fn bind_fence(fence: &mut Fence, var: u32, top: usize, now: Fence)
+    ensures { fence.new ≡ fence_for_link fence.old var top now }
+{
+    if var as usize >= fence.vars || top <= fence.vars {
+        fence.reach = fence.reach.max(top);
+    } else if top >= now.vars || fence.reach >= now.vars {
+        *fence = now;
+    } else {
+        fence.vars = fence.reach.max(top);
+        fence.reach = fence.vars;
     }
 }
 

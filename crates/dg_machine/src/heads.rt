@@ -125,7 +125,7 @@ fn match_unbound(
 {
     let first = plain_value(arena, row, head);
     let second = plain_value(arena, row, tail);
-    let whole = arena.fit_pair(first, second);
+    let whole = arena.fit_open(first, second);
     join_pair(arena, arg, var, whole, first, second)
 }
 

@@ -126,6 +126,21 @@ pub fn unify_apart(arena: &mut Arena, a: Ref, b: Ref) -> Joined
     from_answer(unify(arena, a, b))
 }
 
+/// Unifies a value with one that is seldom an unbound variable.
+#[inline(always)]
+fn join_bound(arena: &mut Arena, a: Ref, b: Ref) -> Joined
+    requires a_in { Holds (meaning_of arena.old) a }
+    requires b_in { Holds (meaning_of arena.old) b }
+    ensures keeps { Keeps arena.old arena.new }
+    ensures unified { Follows (meaning_of arena.old) (meaning_of arena.new)
+        (unified (meaning_of arena.old).state.subst (told (meaning_of arena.old) a) (told (meaning_of arena.old) b)) (answer_of result) }
+{
+    match arena.join_known(a, b) {
+        Some(given) => from_answer(given),
+        None => pairs_apart(arena, a, b),
+    }
+}
+
 /// Unifies a value with a variable of this number.
 #[inline(always)]
 pub fn join_var(arena: &mut Arena, a: Ref, var: Ref, number: u32) -> Joined
@@ -135,9 +150,9 @@ pub fn join_var(arena: &mut Arena, a: Ref, var: Ref, number: u32) -> Joined
     ensures unified { Follows (meaning_of arena.old) (meaning_of arena.new)
         (unified (meaning_of arena.old).state.subst (told (meaning_of arena.old) a) (told (meaning_of arena.old) var)) (answer_of result) }
 {
-    match arena.join_var(a, var, number) {
+    match arena.join_new(a, var, number) {
         Some(given) => from_answer(given),
-        None => pairs_apart(arena, a, var),
+        None => join_bound(arena, a, var),
     }
 }
 

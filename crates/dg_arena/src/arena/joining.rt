@@ -67,6 +67,21 @@ impl Arena {
         }
     }
 
+    /// The same, where the second is a variable of this number; where that is bound, nothing is done.
+    #[inline(always)]
+    pub fn join_new(&mut self, to: Ref, var: Ref, number: u32) -> Option<Result<bool, Full>>
+        requires to_in { Holds (meaning_of self.old) to }
+        requires var_in { (meaning_of self.old).value var ≡ Some (Var number) }
+        ensures kept { Kept (meaning_of self.old) (meaning_of self.new) }
+        ensures saved { (ms : List Saved) → saves_of self.old ms → saves_of self.new ms }
+        ensures joined { Joins (meaning_of self.old) (meaning_of self.new) to var result }
+    {
+        match self.links.to(number) {
+            None => self.join_unbound(to, var, number),
+            Some(_) => None,
+        }
+    }
+
     // The same, where the second is an unbound variable of this number.
     #[inline(always)]
     fn join_unbound(&mut self, to: Ref, var: Ref, number: u32) -> Option<Result<bool, Full>>
@@ -178,9 +193,9 @@ impl Arena {
         }
     }
 
-    // What `join` does, where the second value may be anything.
+    /// The same, where the second value is seldom an unbound variable.
     #[inline(always)]
-    fn join_known(&mut self, to: Ref, from: Ref) -> Option<Result<bool, Full>>
+    pub fn join_known(&mut self, to: Ref, from: Ref) -> Option<Result<bool, Full>>
         requires to_in { Holds (meaning_of self.old) to }
         requires from_in { Holds (meaning_of self.old) from }
         ensures kept { Kept (meaning_of self.old) (meaning_of self.new) }
