@@ -52,21 +52,6 @@ impl Arena {
         }
     }
 
-    /// The same, where the second is a variable of this number, which may be bound.
-    #[inline(always)]
-    pub fn join_var(&mut self, to: Ref, var: Ref, number: u32) -> Option<Result<bool, Full>>
-        requires to_in { Holds (meaning_of self.old) to }
-        requires var_in { (meaning_of self.old).value var ≡ Some (Var number) }
-        ensures kept { Kept (meaning_of self.old) (meaning_of self.new) }
-        ensures saved { (ms : List Saved) → saves_of self.old ms → saves_of self.new ms }
-        ensures joined { Joins (meaning_of self.old) (meaning_of self.new) to var result }
-    {
-        match self.links.to(number) {
-            None => self.join_unbound(to, var, number),
-            Some(_) => self.join_known(to, var),
-        }
-    }
-
     /// The same, where the second is a variable of this number; where that is bound, nothing is done.
     #[inline(always)]
     pub fn join_new(&mut self, to: Ref, var: Ref, number: u32) -> Option<Result<bool, Full>>
