@@ -3,7 +3,7 @@ use Rattle.std.proofs.Common.{◌≡◌, ◌+◌, ◌<◌, ◌≤◌, ◌⊎◌,
 use Rattle.std.specs.Prelude.{Vec, if◌then◌else◌}
 use Rattle.std.specs.Global.{Global}
 use Rattle.std.proofs.lemmas.Bool.{or_cases, or_left, or_right}
-use Rattle.std.proofs.lemmas.List.{length-replicate, take_more, take-append-le}
+use Rattle.std.proofs.lemmas.List.{length-append, length-replicate, take_more, take-append-le}
 use Rattle.dg_expand.specs.inside.Reached.{is_set, is_in, row_at, rows_of, Places, noted, all_noted, Leads, begins, goes, IsReached}
 
 pub set_here : (row : List Bool) (i : ℕ) (d : Bool) → i < length row → is_set row i ≡ get_or row i d
@@ -84,9 +84,32 @@ set_from (x ∷ seen) (suc i) (suc j) e = by (set_from seen i j e)
     by (inl f) = inl f
     by (inr f) = inr (ap (λ (n : ℕ). suc n) f)
 
+-- how many places were reached
+abbrev many_set : List Bool → ℕ
+many_set [] = 0
+many_set (true ∷ seen) = many_set seen + 1
+many_set (false ∷ seen) = many_set seen
+
+none_many : (n : ℕ) → many_set (replicate n false) ≡ 0
+none_many zero = refl
+none_many (suc n) = none_many n
+
+few_set : (seen : List Bool) → many_set seen ≤ length seen
+few_set [] = omega arith
+few_set (true ∷ seen) = let h = few_set seen in omega (arith, h)
+few_set (false ∷ seen) = let h = few_set seen in omega (arith, h)
+
+one_set : (seen : List Bool) (k : ℕ) → k < length seen → is_set seen k ≡ false → many_set (set seen k true) ≡ many_set seen + 1
+one_set [] k h e = absurd (omega arith)
+one_set (true ∷ seen) zero h e = absurd (let bad : true ≡ false = e in cc)
+one_set (false ∷ seen) zero h e = refl
+one_set (true ∷ seen) (suc k) h e = ap (λ (n : ℕ). n + 1) (one_set seen k (omega (arith, h)) e)
+one_set (false ∷ seen) (suc k) h e = one_set seen k (omega (arith, h)) e
+
 -- what is known where these come to the places that were reached
 record Grows (ks : List ℕ) (old new : Places) : Type 0 where
   size : length new.seen ≡ length old.seen
+  many : length old.found ≡ many_set old.seen → length new.found ≡ many_set new.seen
   kept : (j : ℕ) → is_set old.seen j ≡ true → is_set new.seen j ≡ true
   from : (j : ℕ) → is_set new.seen j ≡ true → (is_set old.seen j ≡ true) ⊎ (is_in j ks ≡ true)
   here : (j : ℕ) → is_in j ks ≡ true → j < length old.seen → is_set new.seen j ≡ true
@@ -98,6 +121,7 @@ record Grows (ks : List ℕ) (old new : Places) : Type 0 where
 stays : (k : ℕ) (r : Places) → (k < length r.seen → is_set r.seen k ≡ true) → Grows (k ∷ []) r r
 stays k r there = record {
   size = refl;
+  many = λ all. all;
   kept = λ j e. e;
   from = λ j e. inl e;
   here = λ j e h. let is = only j e in subst (λ (n : ℕ). is_set r.seen n ≡ true) (sym is) (there (subst (λ (n : ℕ). n < length r.seen) is h));
@@ -114,9 +138,11 @@ stays k r there = record {
         by (inl f) = eqb-true j k f
         by (inr f) = absurd (let bad : false ≡ true = f in cc)
 
-comes : (k : ℕ) (r : Places) → k < length r.seen → Grows (k ∷ []) r (record { seen = set r.seen k true; found = r.found ++ k ∷ [] })
-comes k r h = record {
+comes : (k : ℕ) (r : Places) → k < length r.seen → is_set r.seen k ≡ false
+    → Grows (k ∷ []) r (record { seen = set r.seen k true; found = r.found ++ k ∷ [] })
+comes k r h off = record {
   size = length-set r.seen k true;
+  many = λ e. length-append r.found (k ∷ []) ∙ ap (λ (n : ℕ). n + 1) e ∙ sym (one_set r.seen k h off);
   kept = λ j e. set_kept r.seen k j e;
   from = λ j e. from_one j (set_from r.seen k j e);
   here = λ j e l. subst (λ (n : ℕ). is_set (set r.seen k true) n ≡ true) (sym (only j e)) (set_same r.seen k h);
@@ -152,13 +178,14 @@ one_grows k r = by (nat_lt k (length r.seen)) (is_set r.seen k) refl refl
   where
     by : (b c : Bool) → nat_lt k (length r.seen) ≡ b → is_set r.seen k ≡ c
         → Grows (k ∷ []) r (if b && not c then record { seen = set r.seen k true; found = r.found ++ k ∷ [] } else r)
-    by true false e f = comes k r (ltb-true k (length r.seen) e)
+    by true false e f = comes k r (ltb-true k (length r.seen) e) f
     by true true e f = stays k r (λ h. f)
     by false c e f = stays k r (λ h. absurd (let bad : false ≡ true = sym e ∙ lt-ltb k (length r.seen) h in cc))
 
 one_more : (k : ℕ) (ks : List ℕ) (old mid new : Places) → Grows (k ∷ []) old mid → Grows ks mid new → Grows (k ∷ ks) old new
 one_more k ks old mid new a b = record {
   size = b.size ∙ a.size;
+  many = λ e. b.many (a.many e);
   kept = λ j e. b.kept j (a.kept j e);
   from = λ j e. by_from j (b.from j e);
   here = λ j e h. by_here j h (or_cases (nat_eq j k) (is_in j ks) e);
@@ -183,6 +210,7 @@ one_more k ks old mid new a b = record {
 none_grows : (r : Places) → Grows [] r r
 none_grows r = record {
   size = refl;
+  many = λ all. all;
   kept = λ j e. e;
   from = λ j e. inl e;
   here = λ j e h. absurd (let bad : false ≡ true = e in cc);
@@ -201,6 +229,7 @@ all_grow (k ∷ ks) r = one_more k ks r (noted k r) (all_noted ks (noted k r)) (
 -- Where the first n of the places that were reached have led on.
 pub record IsGoing (rows : List (List ℕ)) (start : List ℕ) (n : ℕ) (r : Places) : Type 0 where
   pub size : length r.seen ≡ length rows
+  pub many : length r.found ≡ many_set r.seen
   pub led : (k : ℕ) → is_set r.seen k ≡ true → Leads rows start k
   pub begun : (k : ℕ) → k < length rows → is_in k start ≡ true → is_set r.seen k ≡ true
   pub gone : (k to : ℕ) → is_in k (take n r.found) ≡ true → to < length rows → is_in to (row_at rows k) ≡ true → is_set r.seen to ≡ true
@@ -213,9 +242,10 @@ none_set (suc n) zero = refl
 none_set (suc n) (suc k) = none_set n k
 
 start_grown : (rows : List (List ℕ)) (start : List ℕ) (old new : Places) → old.found ≡ [] → length old.seen ≡ length rows
-    → ((k : ℕ) → is_set old.seen k ≡ false) → Grows start old new → IsGoing rows start 0 new
-start_grown rows start old new none size off g = record {
+    → many_set old.seen ≡ 0 → ((k : ℕ) → is_set old.seen k ≡ false) → Grows start old new → IsGoing rows start 0 new
+start_grown rows start old new none size few off g = record {
   size = g.size ∙ size;
+  many = g.many (ap length none ∙ sym few);
   led = λ k e. by k (g.from k e);
   begun = λ k h e. g.here k e (subst (λ (n : ℕ). k < n) (sym size) h);
   gone = λ k to e h i. absurd (let bad : false ≡ true = e in cc);
@@ -231,13 +261,14 @@ pub started : (rows : List (List ℕ)) (start : List ℕ) (n : ℕ) (seen : List
     → n ≡ length rows → found ≡ [] → new ≡ all_noted start (record { seen = seen; found = found }) → IsGoing rows start 0 new
 started rows start n seen found new e size none is =
     let old : Places = record { seen = seen; found = found } in
-    start_grown rows start old new none (ap length e ∙ length-replicate n false ∙ size) (λ k. ap (λ (l : List Bool). is_set l k) e ∙ none_set n k)
+    start_grown rows start old new none (ap length e ∙ length-replicate n false ∙ size) (ap many_set e ∙ none_many n) (λ k. ap (λ (l : List Bool). is_set l k) e ∙ none_set n k)
     (subst (λ (r : Places). Grows start old r) (sym is) (all_grow start old))
 
 grown : (rows : List (List ℕ)) (start : List ℕ) (n place : ℕ) (old new : Places) → n < length old.found → place ≡ get_or old.found n place
     → IsGoing rows start n old → Grows (row_at rows place) old new → IsGoing rows start (n + 1) new
 grown rows start n place old new h at w g = record {
   size = g.size ∙ w.size;
+  many = g.many w.many;
   led = λ k e. by_led k (g.from k e);
   begun = λ k l e. g.kept k (w.begun k l e);
   gone = λ k to e l i. by_gone k to l i (in_more k place (take n old.found) (sym (ap (is_in k) firsts) ∙ e));
@@ -279,3 +310,11 @@ ended rows start n r h w = record {
   begun = w.begun;
   gone = λ k to e l i. w.gone k to (ap (is_in k) (take_all n r.found h) ∙ w.told k e) l i;
 }
+
+-- no more places are reached than there are
+pub all_gone : (rows : List (List ℕ)) (start : List ℕ) (n : ℕ) (r : Places) → length rows ≤ n → IsGoing rows start n r
+    → IsReached rows start r.seen
+all_gone rows start n r h w = ended rows start n r (few (few_set r.seen) w.many w.size) w
+  where
+    few : many_set r.seen ≤ length r.seen → length r.found ≡ many_set r.seen → length r.seen ≡ length rows → length r.found ≤ n
+    few f m s = omega (arith, f, m, s, h)

@@ -76,12 +76,12 @@ pub fn reached_from(
         found: Vec::new(alloc),
     };
     note_all(&mut reached, start)?;
-    for at in 0..usize::MAX {
+    for at in 0..rows.len() {
         if at >= reached.found.len() {
             return Ok(reached.seen);
         }
         let place = reached.found[at];
         note_all(&mut reached, row_at(rows, place))?;
     }
-    Err(AllocError)
+    Ok(reached.seen)
 }

@@ -1,7 +1,7 @@
-use Rattle.std.proofs.Common.{rules, ap, ◌∙◌, List, ℕ, ◌≡◌, ◌<◌, false, length, replicate}
+use Rattle.std.proofs.Common.{rules, ap, ◌∙◌, List, ℕ, ◌≡◌, ◌<◌, ◌≤◌, false, length, replicate}
 use Rattle.std.proofs.lemmas.List.{length-map}
 use Rattle.dg_expand.specs.inside.Reached.{all_noted, reached_view, rows_of}
-use Rattle.dg_expand.proofs.ReachedLemmas.{started, stepped}
+use Rattle.dg_expand.proofs.ReachedLemmas.{all_gone, started, stepped}
 use Rattle.dg_expand.proofs.reached.reached_from.Goals as goal
 
 pub loop-at-init : goal.loop-at-init
@@ -17,3 +17,8 @@ loop-at-preserved c =
     let old = reached_view c.loop-at.reached in
     stepped rows c.args.start.now c.loop-at.at c.index-place.result.now old (reached_view c.note_all-in-loop-at.new.reached) within c.index-place.ensures
     (c.in_ok-note_all-2.ensures ∙ ap (λ (l : List ℕ). all_noted l old) c.row_at.ensures) c.loop-at.invariant
+
+pub returns : goal.returns
+returns c =
+    let all : length (rows_of c.args.rows.now) ≤ c.loop-at.at = search (rules, length-map) in
+    all_gone (rows_of c.args.rows.now) c.args.start.now c.loop-at.at (reached_view c.loop-at.reached) all c.loop-at.invariant
