@@ -15,6 +15,7 @@ mod now;
 mod pairs;
 mod passing;
 mod program;
+mod quiet;
 mod reading;
 mod refs;
 mod register;

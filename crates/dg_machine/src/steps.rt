@@ -28,6 +28,7 @@ ghost use Rattle.dg_machine.specs.inside.Running.{IsQuick, IsFailing, IsSomewher
 use crate::doing::code_at;
 use crate::memory::Memory;
 use crate::now::{Now, Search};
+use crate::quiet::begins_quietly;
 use crate::reading::{line_term, read_line};
 use crate::selecting::select;
 use crate::tables::Tables;
@@ -648,47 +649,6 @@ fn settle_apart<'p>(
     settle(memory, code, tables, outside, now)
 }
 
-/// Whether an action prints and reads nothing, stops no part, and leaves what is outside.
-#[inline(always)]
-fn is_quiet_action(action: &Action) -> bool
-    ensures quiet { result ≡ true → IsQuiet action.now }
-    ensures noisy { result ≡ false → IsQuiet action.now → ⊥ }
-{
-    match action {
-        Action::Text(_)
-        | Action::Gap(_)
-        | Action::GapN(_)
-        | Action::Print(_)
-        | Action::Random(_, _, _)
-        | Action::Now(_, _, _)
-        | Action::Input(_)
-        | Action::Stop => false,
-        _ => true,
-    }
-}
-
-/// Whether an instruction takes a goal, prints and reads nothing, and leaves what is outside.
-#[inline(always)]
-fn is_quiet(op: &Op) -> bool
-    ensures goal { result ≡ true → takes_goal op.now ≡ true }
-    ensures quiet { result ≡ true → IsQuietOp op.now }
-    ensures noisy { result ≡ false → takes_goal op.now ≡ true → IsQuietOp op.now → ⊥ }
-{
-    match op {
-        Op::Do(action) => is_quiet_action(action),
-        Op::Ask(_, _, _, _)
-        | Op::LastAsk(_, _, _)
-        | Op::Query(_, _, _, _)
-        | Op::LastQuery(_, _, _)
-        | Op::Take
-        | Op::Branch(_)
-        | Op::Once
-        | Op::Try(_)
-        | Op::Shield(_) => true,
-        _ => false,
-    }
-}
-
 /// Does the instruction at hand, which takes a goal and isn't quiet, and steps up to the next goal, or the end.
 #[inline(never)]
 fn turn<'p, S: Source, K: Sink>(
@@ -722,19 +682,7 @@ fn turn<'p, S: Source, K: Sink>(
     }
 }
 
-/// Whether the first of some instructions is such.
-#[inline(always)]
-fn begins_quietly(ops: &[Op]) -> bool
-    ensures quiet { result ≡ true → BeginsQuietly ops.now }
-    ensures noisy { result ≡ false → at_goal ops.now ≡ true → BeginsQuietly ops.now → ⊥ }
-{
-    match ops {
-        [] => false,
-        [op, ..] => is_quiet(op),
-    }
-}
-
-/// The same where it prints and reads nothing, and leaves what is outside.
+/// The same where the instruction at hand is quiet.
 #[inline(always)]
 fn quiet_turn<'p>(
     memory: &mut Memory,
