@@ -392,11 +392,11 @@ impl Memory {
         requires built { IsBuilt code.now }
         ensures { EntersWith code.now self.old call block pred left self.new result }
     {
-        let ops = code_at(code, block);
         if left == 0 {
             self.keep_call(call);
-            return Now::Enters(ops);
+            return Now::Enters(code_at(code, block));
         }
+        let ops = code_at(code, block);
         let count = self.args.len();
         match self.open(Way::Calls(call, pred, left), count) {
             Ok(()) => {

@@ -19,9 +19,9 @@ returns-then-left-eq0 c g l m call rule rules h block at =
     let s = meaning_of r.arena in
     let zero = c.if-left-eq0.true in
     let none : length rules ≡ 0 = omega (arith, zero, rules_count code s r.args.items k c.args.pred c.args.left call rules at) in
-    subst (λ n. CallBegins code l r k c.args.pred (suc n) c.keep_call.new.self (Enters c.code_at-ops.result) (enters_of (setting g code l) call rule rules m)) (sym zero)
-    (subst (λ y. CallBegins code l r k c.args.pred 1 y (Enters c.code_at-ops.result) (enters_of (setting g code l) call rule rules m)) (sym c.keep_call.ensures)
-    (enters_last code g l m k c.args.pred c.args.left r r c.code_at-ops.result c.requires.built h call rule rules none at.call (c.code_at-ops.ensures ∙ ap (block_at code) (sym block))))
+    subst (λ n. CallBegins code l r k c.args.pred (suc n) c.keep_call.new.self (Enters c.code_at.result) (enters_of (setting g code l) call rule rules m)) (sym zero)
+    (subst (λ y. CallBegins code l r k c.args.pred 1 y (Enters c.code_at.result) (enters_of (setting g code l) call rule rules m)) (sym c.keep_call.ensures)
+    (enters_last code g l m k c.args.pred c.args.left r r c.code_at.result c.requires.built h call rule rules none at.call (c.code_at.ensures ∙ ap (block_at code) (sym block))))
 
 pub returns-in-Ok : goal.returns-in-Ok
 returns-in-Ok c g l m call rule rules h block at =
