@@ -1,7 +1,7 @@
 -- A variable that is joined to the end of a value, and values in which it doesn't stand.
 use Rattle.std.proofs.lemmas.Bool.{ne_eqb}
 use Rattle.std.proofs.Common.{◌-◌, ◌+◌, ◌≤◌, ◌≡◌, ℕ, ◌<◌, refl, sym, ap, ◌∙◌, subst, arith, Some, false, length, get_or, reverse}
-use Rattle.std.specs.Prelude.{Bool, Result, Ok, Err, Option, None, max}
+use Rattle.std.specs.Prelude.{Bool, IfSome, Result, Ok, Err, Option, None, max}
 use Rattle.dg_meaning.specs.Values.{Value, Values, Var, Node, Pair, More, NoMore, pair}
 use Rattle.dg_meaning.specs.Substitutions.{walk, resolved, contains, is_bound, IsSubstitution}
 use Rattle.dg_meaning.specs.Unify.{unify, Binds, binds, top}
@@ -9,7 +9,7 @@ use Rattle.dg_meaning.proofs.LookUps.{walk_node}
 use Rattle.dg_meaning.proofs.Walks.{walked, resolved_node}
 use Rattle.dg_unify.specs.Store.{Store, told, or_nil, ShowsVar, ShowsPair, Follows}
 use Rattle.dg_unify.specs.Slots.{label_at, value_in, Fields, AreSound, store_of}
-use Rattle.dg_unify.specs.inside.Ends.{subst_in, told_in, TellsOf, IsEnd, LeadsTo, EndsAt, MayLink}
+use Rattle.dg_unify.specs.inside.Ends.{subst_in, told_in, TellsOf, IsEnd, LeadsTo, Leads, EndsAt, MayLink}
 use Rattle.dg_unify.specs.inside.Turns.{IsUnbound, FollowsTurn, TurnsInto, met_of}
 use Rattle.dg_unify.specs.Laws.{place_of_var, slots_younger}
 use Rattle.dg_unify.specs.declared.slots.Slot.{Slot}
@@ -158,6 +158,11 @@ module _ (f : Fields) (sound : AreSound f) (var whole head tail : Ref) (n : ℕ)
       turn_ends st new sound.fits.sound to whole r (met_left st new sound.fits.sound to whole var Pair parts r sx whole_walks (subst (λ k. FollowsTurn st new (binds (subst_in f) k (walked_to st whole)) r) same bound))
 
 -- ## A variable and a value that is looked along
+
+-- where a value leads it is looked further
+pub clear_on : (f : Fields) → AreSound f → (at : Ref) (n : ℕ) (o : Option Ref) → Leads f at o → IfSome o (λ next. IsClearTo f at next n)
+clear_on f sound at n None h = tt
+clear_on f sound at n (Some next) h = record { told = h.told; absent = lead_absent f sound at next h n }
 
 -- what doesn't stand in the head of a pair, nor in its tail, doesn't stand in the pair
 pub clear_to : (f : Fields) (end h t : Ref) → ShowsPair (store_of false f) (told_in f end) h t → TellsOf f t → (n : ℕ) → IsAbsent f h n → IsClearTo f end t n

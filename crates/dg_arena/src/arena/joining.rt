@@ -1,7 +1,7 @@
 // Values that are unified where it is clear at once what comes of that.
 
-ghost use Rattle.std.specs.Prelude.{◌≡◌, ◌<◌, ◌≤◌, List, ◌∷◌, Some, true, false};
-ghost use Rattle.std.specs.Prelude.{IfSome, reverse};
+ghost use Rattle.std.specs.Prelude.{◌≡◌, ◌<◌, ◌≤◌, ℕ, List, ◌∷◌, Some, true, false};
+ghost use Rattle.std.specs.Prelude.{IfSome, nat_le, if◌then◌else◌, reverse};
 ghost use Rattle.dg_unify.specs.Store.{Holds, Saved, Kept, told, ShowsVar, ShowsPair};
 ghost use Rattle.dg_unify.specs.Linked.{log_of, vars_of};
 ghost use Rattle.dg_meaning.specs.Values.{Var, pair};
@@ -315,21 +315,49 @@ impl Arena {
         self.short_clear(at, number, DEEPEST)
     }
 
-    // The tail of a pair, where it is clear from such a look that a variable of this number doesn't stand in the head.
+    // So many slots stand before the fence, where a variable of this number stands behind it; else none.
     #[inline(always)]
-    fn clear_behind(&self, end: Ref, number: u32) -> Option<Ref>
-        requires { TellsOf (fields_of self.now) end }
-        ensures { IfSome result (λ tail. IsClearTo (fields_of self.now) end tail number) }
+    fn floor_for(&self, number: u32) -> usize
+        ensures { result ≡ (if nat_le self.now.fence.vars number then self.now.fence.slots else 0) }
     {
-        if end.0 >= FIRST_SIMPLE {
+        if number as usize >= self.fence.vars {
+            return self.fence.slots;
+        }
+        0
+    }
+
+    // What a value is bound to, if it is a bound variable; else itself.
+    #[inline(always)]
+    fn step_from(&self, at: Ref) -> Ref
+        requires { TellsOf (fields_of self.now) at }
+        ensures { (n : ℕ) → IsClearTo (fields_of self.now) at result n }
+    {
+        match self.link_of(at) {
+            None => at,
+            Some(next) => next,
+        }
+    }
+
+    // Where a look along a list goes on: at what a bound variable is bound to, or behind a pair with variables in whose head a variable of
+    // this number clearly doesn't stand.
+    #[inline(always)]
+    fn further(&self, at: Ref, number: u32) -> Option<Ref>
+        requires { TellsOf (fields_of self.now) at }
+        ensures { IfSome result (λ next. IsClearTo (fields_of self.now) at next number) }
+    {
+        if at.0 >= FIRST_SIMPLE {
             return None;
         }
-        match self.cells[end.0 as usize] {
-            Slot::Pair(head, tail, _) => {
+        match self.cells[at.0 as usize] {
+            Slot::Var(other) => self.links.to(other),
+            Slot::Pair(head, tail, constant) => {
+                if constant {
+                    return None;
+                }
                 if !self.head_clear(head, number) {
                     return None;
                 }
-                Some(tail)
+                Some(self.step_from(tail))
             }
             _ => None,
         }
@@ -340,19 +368,17 @@ impl Arena {
         requires { TellsOf (fields_of self.now) at }
         ensures { result ≡ true → IsAbsent (fields_of self.now) at number }
     {
-        let mut end = self.end_of(at);
+        let floor = self.floor_for(number);
+        let mut place = at;
         let mut left = self.cells.len();
-        'pairs: while left > 0 {
-            if self.end_clear(end, number) {
-                return true;
-            }
-            match self.clear_behind(end, number) {
-                None => return false,
-                Some(tail) => end = self.end_of(tail),
+        'steps: while left > 0 && place.0 as usize >= floor {
+            match self.further(place, number) {
+                None => return self.part_clear(place, number),
+                Some(next) => place = next,
             }
             left -= 1;
         }
-        false
+        self.part_clear(place, number)
     }
 
     // Binds an unbound variable of this number to an end, where it is clear from a look along that that it doesn't stand in it. Else
