@@ -221,11 +221,11 @@ module _ (tb : Tables) (code : Code) (old : Memory) (out : Outside) (before : No
     takes = λ rest h g is_of l typed goals start at. subst (λ x. IsAt code g l typed new out' now x s start k rest) (sym (none goals)) (settled_at code g l typed tb is_of old new out out' before now goals s start k rest settles at);
   }
 
-  -- one more goal
-  pub takes_on : (n n' : ℕ) (mid new : Memory) (out1 out2 : Outside) (now next : Now) (ops : Bor (List Op)) (s1 s2 : Spacer) (k1 k2 : SinkView) (i1 i2 : SourceView) → now ≡ Runs ops → ((x : ℕ) → 1 + (n + x) ≡ n' + x) → Takes tb code n old out before s k i mid out1 now s1 k1 i1 → Takes tb code 1 mid out1 (Runs ops) s1 k1 i1 new out2 next s2 k2 i2 →
+  -- so many goals more
+  pub takes_on : (n m n' : ℕ) (mid new : Memory) (out1 out2 : Outside) (now next : Now) (ops : Bor (List Op)) (s1 s2 : Spacer) (k1 k2 : SinkView) (i1 i2 : SourceView) → now ≡ Runs ops → ((x : ℕ) → m + (n + x) ≡ n' + x) → Takes tb code n old out before s k i mid out1 now s1 k1 i1 → Takes tb code m mid out1 (Runs ops) s1 k1 i1 new out2 next s2 k2 i2 →
       Takes tb code n' old out before s k i new out2 next s2 k2 i2
   unfolding gave_on
-  takes_on n n' mid new out1 out2 now next ops s1 s2 k1 k2 i1 i2 is one first second =
+  takes_on n m n' mid new out1 out2 now next ops s1 s2 k1 k2 i1 i2 is one first second =
       let goes : IsEnd now → ⊥ = λ end. subst IsEnd is end in
       record {
         gave = gave_on i i1 i2 now next goes first.gave second.gave;

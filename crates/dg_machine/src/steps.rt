@@ -1,5 +1,5 @@
 // One step after another.
-ghost use Rattle.std.specs.Prelude.{◌≡◌, ◌<◌, ◌∷◌, IfErr, IfOk, OnErr, true, false};
+ghost use Rattle.std.specs.Prelude.{◌≡◌, ◌<◌, ◌-◌, ◌∷◌, IfErr, IfOk, OnErr, true, false};
 ghost use Rattle.dg_meaning.specs.World.{GapOf};
 ghost use Rattle.dg_base.specs.Streams.{SourceView};
 ghost use Rattle.dg_base.specs.Written.{SinkView};
@@ -28,7 +28,7 @@ ghost use Rattle.dg_machine.specs.inside.Running.{IsQuick, IsFailing, IsSomewher
 use crate::doing::code_at;
 use crate::memory::Memory;
 use crate::now::{Now, Search};
-use crate::quiet::begins_quietly;
+use crate::quiet::{at_goal, begins_quietly};
 use crate::reading::{line_term, read_line};
 use crate::selecting::select;
 use crate::tables::Tables;
@@ -36,40 +36,6 @@ use dg_base::{Ending, Fault, GapKind, Sink, Source, Term, WriteFault};
 use dg_mid::{Action, Code, Op};
 use dg_outside::Outside;
 use dg_spacing::{Event, Spacer};
-
-/// Whether an instruction takes a goal.
-#[inline(always)]
-fn is_goal(op: &Op) -> bool
-    ensures { result ≡ takes_goal op.now }
-{
-    match op {
-        Op::Do(_)
-        | Op::Ask(_, _, _, _)
-        | Op::LastAsk(_, _, _)
-        | Op::Query(_, _, _, _)
-        | Op::LastQuery(_, _, _)
-        | Op::Find(_, _, _, _)
-        | Op::Take
-        | Op::Branch(_)
-        | Op::Select(_, _, _, _)
-        | Op::Once
-        | Op::Try(_)
-        | Op::Shield(_)
-        | Op::Collect(_, _, _) => true,
-        _ => false,
-    }
-}
-
-/// Whether the first of some instructions takes a goal.
-#[inline(always)]
-fn at_goal(ops: &[Op]) -> bool
-    ensures { result ≡ at_goal ops.now }
-{
-    match ops {
-        [] => false,
-        [op, ..] => is_goal(op),
-    }
-}
 
 /// Whether a goal is next, or the run has ended.
 #[inline(always)]
@@ -712,6 +678,56 @@ fn quiet_turn<'p>(
     }
 }
 
+/// Whether a goal is next that prints and reads nothing, and leaves what is outside.
+#[inline(always)]
+fn goes_quietly(now: Now<'_>) -> bool
+    ensures { result ≡ true → IsQuick now.entry }
+{
+    match now {
+        Now::Runs(ops) => begins_quietly(ops),
+        _ => false,
+    }
+}
+
+/// Does the goal at hand and those behind it, so many at most, while they print and read nothing, and leave what is outside; and how
+/// many are left. It stands apart, since it is the same for every source and sink.
+#[inline(never)]
+fn quiet_goals<'p>(
+    memory: &mut Memory,
+    code: &'p Code,
+    tables: &Tables,
+    outside: &mut Outside<'_>,
+    start: Now<'p>,
+    steps: u64,
+) -> (Now<'p>, u64)
+    requires built { IsBuilt code.now }
+    requires tidy { Tidy code.now }
+    requires rests { rests start ≡ true }
+    requires quick { IsQuick start }
+    requires more { 0 < steps }
+    requires some { (s : TheSpacer) × (k : SinkView) × (i : SourceView) × IsSomewhereStill tables.now code.now memory.old outside.old start i }
+    ensures takes { (s : TheSpacer) → (k : SinkView) → (i : SourceView) →
+        Takes tables.now code.now (steps - result.1) memory.old outside.old start.entry s k i memory.new outside.new result.0 s k i ×
+        (IsSomewhereStill tables.now code.now memory.old outside.old start.entry i →
+        IsSomewhereStill tables.now code.now memory.new outside.new result.0 i) }
+    ensures sites { outside.new.sites ≡ outside.old.sites }
+    ensures rests { rests result.0 ≡ true }
+    ensures fewer { result.1 < steps }
+{
+    let mut now = start;
+    let mut left = steps;
+    'goals: loop {
+        match now {
+            Now::Runs(ops) => now = quiet_turn(memory, code, tables, outside, ops),
+            _ => return (now, left),
+        }
+        left -= 1;
+        if left == 0 || !goes_quietly(now) {
+            return (now, left);
+        }
+    }
+}
+
 /// Does so many goals at most, from where a run of code is.
 pub fn go<'p, S: Source, K: Sink>(
     memory: &mut Memory,
@@ -741,8 +757,9 @@ pub fn go<'p, S: Source, K: Sink>(
             Now::Ended(ending) => return Ok((ending, left)),
             Now::Runs(ops) => {
                 if begins_quietly(ops) {
-                    now = quiet_turn(memory, code, tables, outside, ops);
-                    left -= 1;
+                    let (next, rest) = quiet_goals(memory, code, tables, outside, now, left);
+                    now = next;
+                    left = rest;
                 } else {
                     match turn(memory, code, tables, outside, ops, source, spacer, sink) {
                         Err(fault) => return Err(fault),

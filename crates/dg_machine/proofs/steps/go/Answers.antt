@@ -3,7 +3,7 @@ use Rattle.dg_outside.specs.Outside.{MayPick, picks_in}
 use Rattle.dg_outside.proofs.Picks.{may_fewer}
 use Rattle.dg_machine.specs.declared.now.Now.TheVariants.{Runs}
 use Rattle.dg_machine.specs.inside.Reading.{IsEnd}
-use Rattle.dg_machine.specs.inside.Running.{IsSomewhereAt}
+use Rattle.dg_machine.specs.inside.Running.{IsSomewhereAt, Takes}
 use Rattle.dg_machine.proofs.Selects.{may_on, keeps_sites}
 use Rattle.dg_machine.proofs.Turns.{somewhere_first, left_settled, takes_none, takes_on, finishes, limits, breaks}
 use Rattle.dg_machine.proofs.steps.go.Goals as goal
@@ -29,28 +29,24 @@ turn-requires-clause-may g c = let some = c.goals-test.true in may_fewer 1 c.goa
 pub turn-requires-clause-some : goal.turn-requires-clause-some
 turn-requires-clause-some g c = subst (λ x. IsSomewhereAt c.args.tables.now c.args.code.now c.goals.memory c.goals.outside x (g.S.Source.view c.goals.source)) c.in-Runs.is (c.goals.invariant.somewhere (λ end. subst IsEnd c.in-Runs.is end))
 
-pub quiet_turn-now-requires-clause-some : goal.quiet_turn-now-requires-clause-some
-quiet_turn-now-requires-clause-some g c =
-    let i = g.S.Source.view c.goals.source in
-    let before = subst (λ x. IsSomewhereAt c.args.tables.now c.args.code.now c.goals.memory c.goals.outside x i) c.in-Runs.is (c.goals.invariant.somewhere (λ end. subst IsEnd c.in-Runs.is end)) in
-    somewhere_first c.args.tables.now c.args.code.now c.goals.memory c.goals.outside (Runs c.in-Runs.ops) i before
+pub quiet_goals-rest-requires-clause-some : goal.quiet_goals-rest-requires-clause-some
+quiet_goals-rest-requires-clause-some g c = (c.goals.spacer, g.K.Sink.view c.goals.sink, g.S.Source.view c.goals.source, c.goals.invariant.somewhere)
 
 pub goals-preserved-then-begins_quietly : goal.goals-preserved-then-begins_quietly
 goals-preserved-then-begins_quietly g c =
-    let some = c.goals-test.true in
     let within = c.goals.invariant.within in
-    let n = c.args.steps - c.goals.left in
+    let fewer = c.quiet_goals-rest.ensures.fewer in
+    let rest = c.quiet_goals-rest.result.1 in
     let k = g.K.Sink.view c.goals.sink in
     let i = g.S.Source.view c.goals.source in
-    let before = subst (λ x. IsSomewhereAt c.args.tables.now c.args.code.now c.goals.memory c.goals.outside x i) c.in-Runs.is (c.goals.invariant.somewhere (λ end. subst IsEnd c.in-Runs.is end)) in
-    let done = c.quiet_turn-now.ensures.takes c.goals.spacer k i in
+    let done = c.quiet_goals-rest.ensures.takes c.goals.spacer k i in
     record {
-      takes = takes_on c.args.tables.now c.args.code.now c.args.memory.now c.args.outside.now c.args.start c.args.spacer.now (g.K.Sink.view c.args.sink.now) (g.S.Source.view c.args.source.now) n (c.args.steps - (c.goals.left - 1)) c.goals.memory c.quiet_turn-now.new.memory c.goals.outside c.quiet_turn-now.new.outside c.goals.now c.quiet_turn-now.result c.in-Runs.ops c.goals.spacer c.goals.spacer
-          k k i i c.in-Runs.is (λ x. omega (arith, some, within)) c.goals.invariant.takes done.0;
-      somewhere = done.1 before;
-      may = keeps_sites c.goals.outside c.quiet_turn-now.new.outside c.quiet_turn-now.ensures.sites (c.goals.left - 1) (subst (λ n. MayPick n (picks_in c.goals.outside)) (let same : c.goals.left ≡ c.goals.left - 1 + 1 = omega (arith, some) in same) c.goals.invariant.may);
-      rests = c.quiet_turn-now.ensures.rests;
-      within = omega (arith, within);
+      takes = takes_on c.args.tables.now c.args.code.now c.args.memory.now c.args.outside.now c.args.start c.args.spacer.now (g.K.Sink.view c.args.sink.now) (g.S.Source.view c.args.source.now) (c.args.steps - c.goals.left) (c.goals.left - rest) (c.args.steps - rest) c.goals.memory c.quiet_goals-rest.new.memory c.goals.outside c.quiet_goals-rest.new.outside c.goals.now c.quiet_goals-rest.result.0 c.in-Runs.ops c.goals.spacer c.goals.spacer
+          k k i i c.in-Runs.is (λ x. omega (arith, fewer, within)) c.goals.invariant.takes (subst (λ x. Takes c.args.tables.now c.args.code.now (c.goals.left - rest) c.goals.memory c.goals.outside x c.goals.spacer k i c.quiet_goals-rest.new.memory c.quiet_goals-rest.new.outside c.quiet_goals-rest.result.0 c.goals.spacer k i) c.in-Runs.is done.0);
+      somewhere = done.1 c.goals.invariant.somewhere;
+      may = keeps_sites c.goals.outside c.quiet_goals-rest.new.outside c.quiet_goals-rest.ensures.sites rest (may_fewer (rest + 1) c.goals.left (picks_in c.goals.outside) (omega (arith, fewer)) c.goals.invariant.may);
+      rests = c.quiet_goals-rest.ensures.rests;
+      within = omega (arith, within, fewer);
     }
 
 pub goals-preserved : goal.goals-preserved
@@ -59,7 +55,7 @@ goals-preserved g c =
     let within = c.goals.invariant.within in
     let n = c.args.steps - c.goals.left in
     record {
-      takes = takes_on c.args.tables.now c.args.code.now c.args.memory.now c.args.outside.now c.args.start c.args.spacer.now (g.K.Sink.view c.args.sink.now) (g.S.Source.view c.args.source.now) n (c.args.steps - (c.goals.left - 1)) c.goals.memory c.turn.new.memory c.goals.outside c.turn.new.outside c.goals.now c.in-Ok.next c.in-Runs.ops c.goals.spacer c.turn.new.spacer
+      takes = takes_on c.args.tables.now c.args.code.now c.args.memory.now c.args.outside.now c.args.start c.args.spacer.now (g.K.Sink.view c.args.sink.now) (g.S.Source.view c.args.source.now) n 1 (c.args.steps - (c.goals.left - 1)) c.goals.memory c.turn.new.memory c.goals.outside c.turn.new.outside c.goals.now c.in-Ok.next c.in-Runs.ops c.goals.spacer c.turn.new.spacer
           (g.K.Sink.view c.goals.sink) (g.K.Sink.view c.turn.new.sink) (g.S.Source.view c.goals.source) (g.S.Source.view c.turn.new.source) c.in-Runs.is (λ x. omega (arith, some, within)) c.goals.invariant.takes c.in-Ok.ensures.ok;
       somewhere = c.in-Ok.ensures.some;
       may = c.turn.ensures.once (c.goals.left - 1) (subst (λ n. MayPick n (picks_in c.goals.outside)) (let same : c.goals.left ≡ c.goals.left - 1 + 1 = omega (arith, some) in same) c.goals.invariant.may);
