@@ -4,7 +4,6 @@ pub mod Tables
 pub mod Passing
 pub mod Stops
 pub mod Heads
-pub mod Joins
 pub mod Layout
 pub mod Built
 pub mod Seeking

@@ -1,3 +1,4 @@
+pub mod Joins
 pub mod Writing
 pub mod Reading
 pub mod Running

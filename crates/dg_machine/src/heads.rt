@@ -13,7 +13,7 @@ ghost use Rattle.dg_arena.specs.Held.{meaning_of};
 ghost use Rattle.dg_machine.specs.Built.{AreArguments};
 ghost use Rattle.dg_mid.specs.Heads.{IsPlain, Flat, AreFlat, FlatTerm, FlatTerms};
 ghost use Rattle.dg_machine.specs.Refs.{RowAt, RefsAt, AreRefs, Keeps};
-ghost use Rattle.dg_machine.specs.Joins.{answer_of};
+ghost use Rattle.dg_machine.specs.inside.Joins.{answer_of};
 ghost use Rattle.dg_machine.specs.Heads.{at_heap, listed, Matches, IsOwn};
 ghost use Rattle.dg_machine.specs.inside.Writing.{Overflows};
 

@@ -1,6 +1,6 @@
 // What comes of values that are unified, in one byte: where it is known it is not even tested.
 ghost use Rattle.std.specs.Prelude.{◌≡◌, Err};
-ghost use Rattle.dg_machine.specs.Joins.{answer_of};
+ghost use Rattle.dg_machine.specs.inside.Joins.{answer_of};
 
 use dg_unify::Full;
 

@@ -10,7 +10,7 @@ ghost use Rattle.dg_meaning.specs.Unify.{solve, unify as unified};
 ghost use Rattle.dg_unify.specs.Store.{Follows, Holds, ShowsVar, told, label_of};
 ghost use Rattle.dg_arena.specs.Held.{meaning_of};
 ghost use Rattle.dg_mid.specs.Heads.{IsPlain};
-ghost use Rattle.dg_machine.specs.Joins.{answer_of};
+ghost use Rattle.dg_machine.specs.inside.Joins.{answer_of};
 ghost use Rattle.dg_machine.specs.Refs.{RowAt, RefsAt, AreRefs, Keeps, Stays};
 
 use crate::joins::{Joined, from_answer};

@@ -3,7 +3,7 @@ use Rattle.dg_meaning.specs.Values.{value_of}
 use Rattle.dg_unify.specs.Store.{told}
 use Rattle.dg_unify.proofs.StoreLemmas.{holds_some, holds_told, kept_holds}
 use Rattle.dg_arena.specs.Held.{meaning_of}
-use Rattle.dg_machine.specs.Joins.{answer_of}
+use Rattle.dg_machine.specs.inside.Joins.{answer_of}
 use Rattle.dg_machine.proofs.HeadLemmas.{keeps_on, follows_back}
 use Rattle.dg_machine.proofs.HeadMatching.{no_program}
 use Rattle.dg_machine.proofs.heads.match_constant.Goals as goal

@@ -11,7 +11,7 @@ use Rattle.dg_arena.specs.Held.{meaning_of}
 use Rattle.dg_mid.specs.Heads.{IsPlain, Flat}
 use Rattle.dg_mid.proofs.FlatLemmas.{cells_pair}
 use Rattle.dg_machine.specs.Heads.{at_heap}
-use Rattle.dg_machine.specs.Joins.{answer_of}
+use Rattle.dg_machine.specs.inside.Joins.{answer_of}
 use Rattle.dg_machine.specs.inside.Writing.{cells_of, nodes_of}
 use Rattle.dg_machine.proofs.Kept.{row_kept}
 use Rattle.dg_machine.proofs.PathLemmas.{value_pair, nodes_pair}

@@ -3,7 +3,7 @@ use Rattle.dg_meaning.specs.Values.{value_of}
 use Rattle.dg_meaning.specs.Unify.{unify}
 use Rattle.dg_unify.specs.Store.{told, Follows}
 use Rattle.dg_arena.specs.Held.{meaning_of}
-use Rattle.dg_machine.specs.Joins.{answer_of}
+use Rattle.dg_machine.specs.inside.Joins.{answer_of}
 use Rattle.dg_machine.proofs.TermLemmas.{var_value}
 use Rattle.dg_machine.proofs.heads.match_plain.Goals as goal
 

@@ -5,7 +5,7 @@ use Rattle.dg_unify.specs.Store.{State, Made}
 use Rattle.dg_unify.proofs.StoreLemmas.{holds_some, holds_told, kept_holds}
 use Rattle.dg_arena.specs.Held.{meaning_of}
 use Rattle.dg_machine.specs.Refs.{Keeps}
-use Rattle.dg_machine.specs.Joins.{answer_of}
+use Rattle.dg_machine.specs.inside.Joins.{answer_of}
 use Rattle.dg_machine.proofs.Kept.{row_kept}
 use Rattle.dg_machine.proofs.HeadLemmas.{keeps_on, stays_on}
 use Rattle.dg_machine.proofs.HeadMatching.{no_program, pair_made, holds_first, whole_there, shows_kept, written_follows}

@@ -4,7 +4,7 @@ use Rattle.dg_meaning.specs.Unify.{unify}
 use Rattle.dg_unify.specs.Store.{told, Follows}
 use Rattle.dg_unify.proofs.StoreLemmas.{told_is, holds_some, holds_told, kept_holds}
 use Rattle.dg_arena.specs.Held.{meaning_of}
-use Rattle.dg_machine.specs.Joins.{answer_of}
+use Rattle.dg_machine.specs.inside.Joins.{answer_of}
 use Rattle.dg_machine.proofs.HeadLemmas.{keeps_on, follows_back}
 use Rattle.dg_machine.proofs.HeadMatching.{own_var}
 use Rattle.dg_machine.proofs.heads.match_var.Goals as goal

@@ -5,7 +5,7 @@ use Rattle.dg_unify.specs.Store.{told}
 use Rattle.dg_unify.proofs.StoreLemmas.{holds_some, kept_holds}
 use Rattle.dg_arena.specs.Held.{meaning_of}
 use Rattle.dg_machine.specs.Refs.{Keeps}
-use Rattle.dg_machine.specs.Joins.{answer_of}
+use Rattle.dg_machine.specs.inside.Joins.{answer_of}
 use Rattle.dg_machine.proofs.HeadLemmas.{keeps_on}
 use Rattle.dg_machine.proofs.HeadMatching.{no_program, written_follows}
 use Rattle.dg_machine.proofs.heads.match_written.Goals as goal

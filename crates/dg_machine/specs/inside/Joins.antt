@@ -1,4 +1,4 @@
--- Answers of a unification in one byte.
+-- Answers of a unification in one byte. The proofs alone rest on it.
 use Rattle.std.specs.Prelude.{Bool, true, false, Result, Ok, Err}
 use Rattle.dg_unify.specs.declared.bindings.Full.{Full}
 use Rattle.dg_unify.specs.declared.bindings.Full.TheVariants as full
