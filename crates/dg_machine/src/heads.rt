@@ -191,7 +191,8 @@ fn match_flat(arena: &mut Arena, row: &Row, number: u32, term: &Term, arg: Ref) 
         Follows (at_heap (meaning_of arena.new).state.heap (meaning_of arena.old)) (meaning_of arena.new)
         (unified (meaning_of arena.old).state.subst (told (meaning_of arena.old) arg) (value_of p vs term.now)) (answer_of result) }
     ensures more { OnOk (answer_of result) ((meaning_of arena.old).state.heap ≤ (meaning_of arena.new).state.heap) }
-    ensures few { OnOk (answer_of result) ((p : CoreProgram) → (meaning_of arena.new).state.heap ≤ (meaning_of arena.old).state.heap + cells p (term.now ∷ [])) }
+    ensures few { OnOk (answer_of result) ((p : CoreProgram) →
+        (meaning_of arena.new).state.heap ≤ (meaning_of arena.old).state.heap + cells p (term.now ∷ [])) }
 {
     let mut rest = term;
     let mut at = arg;

@@ -510,7 +510,8 @@ impl Memory {
     pub fn throw_args(&self, outside: &mut Outside<'_>) -> Option<u16>
         requires { (u v w : Value) × RefsAt (meaning_of self.now.arena) self.now.args.items (u ∷ v ∷ w ∷ []) }
         ensures thrown { (code : Code) → (l : Limits) → (m : Mid) → (u v w : Value) → Holds code l self.now m →
-            RefsAt (meaning_of self.now.arena) self.now.args.items (u ∷ v ∷ w ∷ []) → (words : List ℕ) → (n : ℕ) → HasDrawn outside.old.dice words n →
+            RefsAt (meaning_of self.now.arena) self.now.args.items (u ∷ v ∷ w ∷ []) →
+            (words : List ℕ) → (n : ℕ) → HasDrawn outside.old.dice words n →
             Throws (of_numbers (thrown (die words n)) (walk m.state.subst u) (walk m.state.subst v)) words n result outside.new.dice }
         ensures others { outside.new ≡ record outside.old { dice = outside.new.dice } }
     {
