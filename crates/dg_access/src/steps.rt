@@ -94,7 +94,8 @@ fn put_off_both<'a>(
 }
 
 fn put_value(built: &mut Built, value: Value) -> Result<(), AllocError>
-    ensures { OnOk result (built_view built.new ≡ record (built_view built.old) { values = map value_view built.old.values.items ++ value_view value ∷ [] }) }
+    ensures { OnOk result (built_view built.new ≡
+        record (built_view built.old) { values = map value_view built.old.values.items ++ value_view value ∷ [] }) }
 {
     built.values.push(value)?;
     Ok(())

@@ -22,8 +22,9 @@ abbrev pub listed_refused_names : List (List ℕ)
 listed_refused_names =
     codes "(bold)" ∷ codes "(italic)" ∷ codes "(reverse)" ∷ codes "(fixed pitch)" ∷ codes "(roman)" ∷ codes "(div $)" ∷ codes "(span $)" ∷
     codes "(link)" ∷ codes "(link $)" ∷ codes "(status bar $)" ∷ codes "(inline status bar $)" ∷ codes "(clear)" ∷ codes "(get key $)" ∷
-    codes "(save $)" ∷ codes "(restore)" ∷ codes "(save undo $)" ∷ codes "(undo)" ∷ codes "(restart)" ∷ codes "(script on)" ∷ codes "(script off)" ∷
-    codes "(interface $)" ∷ codes "(generate $ $)" ∷ codes "(determine object $)" ∷ codes "(collect words)" ∷ codes "(removable word endings)" ∷
+    codes "(save $)" ∷ codes "(restore)" ∷ codes "(save undo $)" ∷ codes "(undo)" ∷ codes "(restart)" ∷ codes "(script on)" ∷
+    codes "(script off)" ∷ codes "(interface $)" ∷ codes "(generate $ $)" ∷ codes "(determine object $)" ∷
+    codes "(collect words)" ∷ codes "(removable word endings)" ∷
     codes "(log)" ∷ []
 
 -- the predicates that every program has

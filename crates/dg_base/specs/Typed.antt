@@ -2,7 +2,8 @@
 -- others is this project's profile).
 use Rattle.std.specs.Prelude.{ℕ, ◌+◌, List, [], ◌∷◌, Option, Some, None, Bool, is_some, nat_lt, ◌==◌, ◌&&◌, ◌||◌, if◌then◌else◌}
 
--- The 69 characters past ASCII, in Unicode: äöüÄÖÜß»«ëïÿËÏáéíóúýÁÉÍÓÚÝàèìòùÀÈÌÒÙâêîôûÂÊÎÔÛåÅøØãñõÃÑÕæÆçÇþðÞÐ£œŒ¡¿
+-- The 69 characters past ASCII, in Unicode:
+-- äöüÄÖÜß»«ëïÿËÏáéíóúýÁÉÍÓÚÝàèìòùÀÈÌÒÙâêîôûÂÊÎÔÛåÅøØãñõÃÑÕæÆçÇþðÞÐ£œŒ¡¿
 abbrev pub extra : List ℕ
 extra =
     0xE4 ∷ 0xF6 ∷ 0xFC ∷ 0xC4 ∷ 0xD6 ∷ 0xDC ∷ 0xDF ∷ 0xBB ∷ 0xAB ∷ 0xEB ∷ 0xEF ∷ 0xFF ∷ 0xCB ∷ 0xCF ∷ 0xE1 ∷ 0xE9 ∷

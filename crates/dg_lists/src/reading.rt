@@ -215,7 +215,8 @@ pub fn from_cells<B: Bindings>(
     ensures kept { Kept (B.meaning store.old) (B.meaning store.new) }
     ensures saved { (ms : List Saved) → B.saves store.old ms → B.saves store.new ms }
     ensures holds { IfOk result (λ r. Holds (B.meaning store.new) r) }
-    ensures copied { (v : Value) → cells.now ≡ cells_of v → IsFormed v → MatchResult result (λ r. Copied (B.meaning store.old) (B.meaning store.new) v r)
+    ensures copied { (v : Value) → cells.now ≡ cells_of v → IsFormed v →
+        MatchResult result (λ r. Copied (B.meaning store.old) (B.meaning store.new) v r)
         (λ e. Stopped (copy_cells v) (B.meaning store.old) (B.meaning store.new) e) }
 {
     match read_cells(store, cells, scratch) {

@@ -243,8 +243,9 @@ ChangesPlace t code old out place sets rest new after out' = (g : Game) → IsOf
 -- The body of a closure is entered by a call whose arguments stand behind the first at hand.
 abbrev pub EntersBody : Code → Memory → Call → BodyCode → Ref → Memory → Now → Type 0
 EntersBody code old k body closure new after = (g : Game) (l : Limits) (m : Mid) (c : CallOf) (v : Value) (place : ℕ) (parts : Values) →
-    Holds code l old m → RefsAt (meaning_of old.arena) old.args.items (v ∷ c.args) → c.next ≡ k.next → c.many ≡ k.many → c.cut.height ≡ k.cut →
-    IsClosureAt (meaning_of old.arena) closure place parts → Stands code l new after (enters_body (setting g code l) body (values_of parts) c m)
+    Holds code l old m → RefsAt (meaning_of old.arena) old.args.items (v ∷ c.args) → c.next ≡ k.next → c.many ≡ k.many →
+    c.cut.height ≡ k.cut → IsClosureAt (meaning_of old.arena) closure place parts →
+    Stands code l new after (enters_body (setting g code l) body (values_of parts) c m)
 
 -- What a value asks is the body of this closure, or nothing.
 abbrev pub IsAsked : Code → Store → Value → Option (BodyCode × Ref) → Type 0

@@ -36,7 +36,8 @@ pub fn body_row(arena: &Arena, closure: Ref, own: Row) -> Row
     requires { (place : ℕ) × (parts : Values) × IsClosureAt (meaning_of arena.now) closure place parts }
     ensures row { (place : ℕ) → (parts : Values) → (vs : List Value) → IsClosureAt (meaning_of arena.now) closure place parts →
         own.closure ≡ None → RowAt (meaning_of arena.now) own vs → RowAt (meaning_of arena.now) result (values_of parts ++ vs) }
-    ensures count { (place : ℕ) → (parts : Values) → IsClosureAt (meaning_of arena.now) closure place parts → result.captured ≡ length (values_of parts) }
+    ensures count { (place : ℕ) → (parts : Values) → IsClosureAt (meaning_of arena.now) closure place parts →
+        result.captured ≡ length (values_of parts) }
 {
     let captured = captured_count(arena, closure);
     Row {

@@ -257,7 +257,8 @@ impl Memory {
     pub fn begin(&mut self, height: u32, kept: Option<Ref>)
         requires room { HasRoom self.old }
         requires few { 10 * length self.old.inners.items + 10 ≤ heap_in self.old }
-        ensures held { (code : Code) → (l : Limits) → (m : Mid) → (p : Place) → Holds code l self.old m → p.height ≡ height → p.outer ≡ m.stop →
+        ensures held { (code : Code) → (l : Limits) → (m : Mid) → (p : Place) → Holds code l self.old m → p.height ≡ height →
+            p.outer ≡ m.stop →
             KeptAt (meaning_of self.old.arena) kept p.gathers → Holds code l self.new (within p m) }
     {
         self.begin_in(height, self.stop, kept);
@@ -352,7 +353,8 @@ impl Memory {
     pub fn put_three(&mut self, tables: &Tables, a: &Term, b: &Term, c: &Term) -> Result<(), Full>
         requires { (code : Code) × (l : Limits) × (m : Mid) × Holds code l self.old m }
         ensures { (code : Code) → (l : Limits) → (m : Mid) → (p : CoreProgram) → IsOf p tables.now → Holds code l self.old m → MatchResult result
-            (λ _. HasPut code l (cells p (a.now ∷ b.now ∷ c.now ∷ [])) (map (value_of p (vars_of m.frames)) (a.now ∷ b.now ∷ c.now ∷ [])) m self.new)
+            (λ _. HasPut code l (cells p (a.now ∷ b.now ∷ c.now ∷ []))
+            (map (value_of p (vars_of m.frames)) (a.now ∷ b.now ∷ c.now ∷ [])) m self.new)
             (λ _. Lacks (cells p (a.now ∷ b.now ∷ c.now ∷ [])) l m.state.heap self.new) }
     {
         let row = self.row_at_hand();
@@ -596,7 +598,8 @@ impl Memory {
         requires few { HasFrameRoom self.old }
         requires row { (vs : List Value) × RowAt (meaning_of self.old.arena) row vs }
         requires head { AreArguments head.now }
-        ensures put { (code : Code) → (l : Limits) → (m : Mid) → (p : CoreProgram) → (vs : List Value) → IsOf p tables.now → Holds code l self.old m →
+        ensures put { (code : Code) → (l : Limits) → (m : Mid) → (p : CoreProgram) → (vs : List Value) → IsOf p tables.now →
+            Holds code l self.old m →
             RowAt (meaning_of self.old.arena) row vs → MatchResult result (λ _. HasHeads code l (cells p head.now) (map (value_of p vs) head.now) m self.new)
             (λ _. Lacks (cells p head.now) l m.state.heap self.new) }
         ensures heads { OnOk result (AreRefs (meaning_of self.new.arena) self.new.heads.items) }
@@ -625,7 +628,8 @@ impl Memory {
     pub fn make_head(&mut self, tables: &Tables, vars: u16, head: &[Term]) -> Result<Row, Full>
         requires room { HasRoom self.old }
         requires head { AreArguments head.now }
-        ensures made { (code : Code) → (l : Limits) → (m : Mid) → (p : CoreProgram) → IsOf p tables.now → Holds code l self.old m → MatchResult result
+        ensures made { (code : Code) → (l : Limits) → (m : Mid) → (p : CoreProgram) → IsOf p tables.now →
+            Holds code l self.old m → MatchResult result
             (λ row. MadeHead code l vars (cells p head.now) m (map (value_of p (new_vars vars m.state.vars)) head.now) self.new row)
             (λ _. Lacks (6 + vars + cells p head.now) l m.state.heap self.new) }
         ensures heads { OnOk result (AreRefs (meaning_of self.new.arena) self.new.heads.items) }

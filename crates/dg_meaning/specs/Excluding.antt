@@ -10,5 +10,5 @@ use Rattle.dg_meaning.specs.Moves.{is_excluded, match}
 
 -- The head of an excluded rule does not agree with the arguments.
 abbrev pub ExcludedRulesClash : Type 0
-ExcludedRulesClash = (g : Game) → (args : List Value) → (r : Registers) → (rule : Rule) → IsSubstitution r.bound → is_excluded args r rule ≡ true →
-    (match g args rule r).agrees ≡ false
+ExcludedRulesClash = (g : Game) → (args : List Value) → (r : Registers) → (rule : Rule) → IsSubstitution r.bound →
+    is_excluded args r rule ≡ true → (match g args rule r).agrees ≡ false

@@ -207,4 +207,5 @@ pub record Keeps : Type 0 where
   pub done : (g : Game) (cs : List Live) (ws : List Way) (r : Registers) (n : ℕ) (w : World) (run : Run) → Stands g cs ws (path_of [] r) n w run →
       Finished n w (End Done-Ending) run
   -- A stop goes on behind the stoppable part.
-  pub stops_on : (g : Game) (cs : List Live) (ws : List Way) (s : ℕ) (n : ℕ) (w : World) (run : Run) → Stopping g cs ws s n w run → WentOn g cs ws s n w run
+  pub stops_on : (g : Game) (cs : List Live) (ws : List Way) (s : ℕ) (n : ℕ) (w : World) (run : Run) →
+      Stopping g cs ws s n w run → WentOn g cs ws s n w run

@@ -484,7 +484,8 @@ effect g (Select site mode lists) env t steps r w =
 effect g (Once goals) env t steps r w = Offers Plain (enter 10 0 r (goals_at env t goals ++ Cut r.next_tag ∷ steps) ∷ []) w
 effect g (Not goals) env t steps r w = Offers Plain (enter 10 0 r (goals_at env t goals ++ Refuse r.next_tag ∷ []) ∷ enter 0 0 r steps ∷ []) w
 effect g (If test first other) env t steps r w =
-    Offers Plain (enter 10 0 r (goals_at env t test ++ Cut r.next_tag ∷ (goals_at env t first ++ steps)) ∷ enter 0 0 r (goals_at env t other ++ steps) ∷ []) w
+    Offers Plain (enter 10 0 r (goals_at env t test ++ Cut r.next_tag ∷ (goals_at env t first ++ steps)) ∷
+    enter 0 0 r (goals_at env t other ++ steps) ∷ []) w
 effect g Forever env t steps r w = Offers Plain (enter 10 0 r steps ∷ enter 0 0 r (Do Forever-Goal env t ∷ steps) ∷ []) w
 effect g (Exhaust goals) env t steps r w = Offers Plain (enter 10 0 r (goals_at env t goals ++ Back ∷ []) ∷ enter 0 0 r steps ∷ []) w
 effect g (Collect term goals into) env t steps r w = gathers g AsList term goals into env t steps r w

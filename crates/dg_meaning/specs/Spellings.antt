@@ -60,5 +60,6 @@ spelled_answer words u = record u { subst = spelled_pairs words u.subst }
 
 -- Values with words by their spellings unify as those with words by their numbers do.
 abbrev pub SpellingsUnify : Type 0
-SpellingsUnify = (words : List (List ℕ)) → Differ words → (S : Substitution) → (a b : Value) → IsSubstitution S → HavePairs words S → Have words a →
+SpellingsUnify = (words : List (List ℕ)) → Differ words → (S : Substitution) → (a b : Value) → IsSubstitution S →
+    HavePairs words S → Have words a →
     Have words b → unify (spelled_pairs words S) (spelled words a) (spelled words b) ≡ spelled_answer words (unify S a b)

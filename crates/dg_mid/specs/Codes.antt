@@ -55,7 +55,8 @@ mutual
     keeps : (term : Term) (ops : List Op) → Stands code (op.Keep term ∷ ops) [] (Keeps term)
     finishes : (ops : List Op) → Stands code (op.Done ∷ ops) [] Finishes
     -- a goal that is done at once
-    acts : (a : Action) (ops : List Op) (goals : List Goal) (end : End) → Stands code ops goals end → Stands code (op.Do a ∷ ops) (goal_of a ∷ goals) end
+    acts : (a : Action) (ops : List Op) (goals : List Goal) (end : End) → Stands code ops goals end →
+        Stands code (op.Do a ∷ ops) (goal_of a ∷ goals) end
     -- a query, which goes on at a block; the last of a rule needs none
     ask : (pred : ℕ) (terms : List Term) (many : Bool) (next : ℕ) (ops : List Op) (goals : List Goal) (end : End) →
         Stands code (block_at code next) goals end → Stands code (op.Ask pred terms many next ∷ ops) (goal.Ask pred terms many ∷ goals) end

@@ -226,7 +226,8 @@ AreBelow t (m ∷ ms) = m.place.tag < t
 -- A machine's choices are those of the search, but for those whose branches all fail where they begin.
 pub data AreChoices (g : Game) (code : Code) : List Choice → List Live → Type 0 where
   none : AreChoices g code [] []
-  dead : (ms : List Choice) (c : Live) (cs : List Live) → AreClashes c.others → AreBelow c.tag ms → AreChoices g code ms cs → AreChoices g code ms (c ∷ cs)
+  dead : (ms : List Choice) (c : Live) (cs : List Live) → AreClashes c.others → AreBelow c.tag ms → AreChoices g code ms cs →
+      AreChoices g code ms (c ∷ cs)
   kept : (m : Choice) (ms : List Choice) (c : Live) (cs : List Live) →
       IsChoice g code m c → AreBelow m.place.tag ms → AreChoices g code ms cs → AreChoices g code (m ∷ ms) (c ∷ cs)
 

@@ -35,7 +35,8 @@ append_nothing = rule_on 1 (word (codes "append") ∷ empty ∷ var (codes "B") 
 abbrev pub append_more : Item
 append_more =
     rule_on 2
-    (word (codes "append") ∷ list (variable (codes "H")) (variable (codes "T")) ∷ var (codes "B") ∷ list (variable (codes "H")) (variable (codes "R")) ∷ [])
+    (word (codes "append") ∷ list (variable (codes "H")) (variable (codes "T")) ∷ var (codes "B") ∷
+    list (variable (codes "H")) (variable (codes "R")) ∷ [])
     (only (ask_all (parts_of (word (codes "append") ∷ var (codes "T") ∷ var (codes "B") ∷ var (codes "R") ∷ []))))
 
 -- ($X is one of PLACE)

@@ -55,8 +55,9 @@ keyword_words (end_word mode) = end_words mode
 
 -- The keywords without a value.
 abbrev pub bare_keywords : List Bare
-bare_keywords = now_word ∷ if_word ∷ then_word ∷ elseif_word ∷ else_word ∷ endif_word ∷ or_word ∷ exhaust_word ∷ stoppable_word ∷ select_word ∷
-    end_word Stopping ∷ end_word Cycling ∷ end_word AtRandom ∷ end_word PurelyAtRandom ∷ end_word ThenAtRandom ∷ end_word ThenPurelyAtRandom ∷ []
+bare_keywords = now_word ∷ if_word ∷ then_word ∷ elseif_word ∷ else_word ∷ endif_word ∷ or_word ∷ exhaust_word ∷
+    stoppable_word ∷ select_word ∷ end_word Stopping ∷ end_word Cycling ∷ end_word AtRandom ∷ end_word PurelyAtRandom ∷
+    end_word ThenAtRandom ∷ end_word ThenPurelyAtRandom ∷ []
 
 -- Whether these parts are exactly these words.
 abbrev pub are_words : Parts → List (List ℕ) → Bool

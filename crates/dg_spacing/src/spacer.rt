@@ -160,7 +160,8 @@ impl Spacer {
     fn piece<K: Sink>(&mut self, sink: &mut K, piece: &[u8]) -> Result<(), WriteFault>
         ensures stands { OnOk result ((es : List Print) → StandsFor self.old es → StandsFor self.new (es ++ PieceOf piece.now ∷ [])) }
         ensures ok { OnOk result ((es : List Print) → StandsFor self.old es → Wrote (K.view sink.old) (K.view sink.new) (growth es (PieceOf piece.now))) }
-        ensures err { OnErr result ((es : List Print) → StandsFor self.old es → BrokeOff (K.view sink.old) (K.view sink.new) (growth es (PieceOf piece.now))) }
+        ensures err { OnErr result ((es : List Print) → StandsFor self.old es →
+            BrokeOff (K.view sink.old) (K.view sink.new) (growth es (PieceOf piece.now))) }
     {
         let (front, spaces) = separator(self.gap, self.last, first_of_piece(piece));
         if let Err(fault) = write_all(sink, front) {
@@ -203,7 +204,8 @@ impl Spacer {
     /// Prints one more thing: writes the bytes by which the text grows.
     pub fn event<K: Sink>(&mut self, sink: &mut K, event: Event<'_>) -> Result<(), WriteFault>
         ensures stands { OnOk result ((es : List Print) → StandsFor self.old es → StandsFor self.new (es ++ print_of event.entry ∷ [])) }
-        ensures ok { OnOk result ((es : List Print) → StandsFor self.old es → Wrote (K.view sink.old) (K.view sink.new) (growth es (print_of event.entry))) }
+        ensures ok { OnOk result ((es : List Print) → StandsFor self.old es →
+            Wrote (K.view sink.old) (K.view sink.new) (growth es (print_of event.entry))) }
         ensures err { OnErr result ((es : List Print) → StandsFor self.old es →
             BrokeOff (K.view sink.old) (K.view sink.new) (growth es (print_of event.entry))) }
     {

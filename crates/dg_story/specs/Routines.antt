@@ -35,7 +35,8 @@ start_acts true first = acts.Copy 16 (atoms.Routine first) ∷ TRAMPOLINE
 abbrev pub runtime : Bool → ℕ → List Routine
 runtime keeps first =
     routine 0 (start_acts keeps first) ∷ routine 1 FAIL_ACTS ∷ routine 0 NEWLINE_ACTS ∷ routine 0 SEPARATE_ACTS ∷ routine 1 ENTER_ACTS
-    ∷ routine 2 CHOOSE_ACTS ∷ routine 1 LEAVE_ACTS ∷ routine 0 DONE_ACTS ∷ routine 0 (closing_acts FAILED_LINE) ∷ routine 0 (closing_acts HEAP_LINE) ∷ []
+    ∷ routine 2 CHOOSE_ACTS ∷ routine 1 LEAVE_ACTS ∷ routine 0 DONE_ACTS ∷ routine 0 (closing_acts FAILED_LINE) ∷
+    routine 0 (closing_acts HEAP_LINE) ∷ []
 
 -- ## Rules
 

@@ -123,7 +123,8 @@ pub trait Bindings {
     /// The captured value of that number, from 0; none exactly where there is none.
     fn captured(&self, closure: Ref, at: u16) -> Option<Ref>
         requires { (place : ℕ) × (parts : Values) × IsClosureAt (meaning self.now) closure place parts }
-        ensures { (place : ℕ) → (parts : Values) → IsClosureAt (meaning self.now) closure place parts → IsPart (meaning self.now) (part_at at parts) result };
+        ensures { (place : ℕ) → (parts : Values) → IsClosureAt (meaning self.now) closure place parts →
+            IsPart (meaning self.now) (part_at at parts) result };
 
     /// The letter of that number, from 0; none exactly where there is none.
     fn letter(&self, word: Ref, at: u16) -> Option<u16>
@@ -184,7 +185,8 @@ pub trait Bindings {
     ghost within: { (s : Self) → (meaning s).state.heap ≤ (meaning s).heap_limit };
 
     /// Of two variables the younger has the greater number in its Ref.
-    ghost younger: { (s : Self) (r q : Ref) (m n : ℕ) → (meaning s).value r ≡ Some (Var m) → (meaning s).value q ≡ Some (Var n) → r.0 < q.0 → m < n };
+    ghost younger: { (s : Self) (r q : Ref) (m n : ℕ) → (meaning s).value r ≡ Some (Var m) →
+        (meaning s).value q ≡ Some (Var n) → r.0 < q.0 → m < n };
 
     /// A variable, and a value with parts, stands at one of the places.
     ghost placed: { (s : Self) (r : Ref) (v : Value) → (meaning s).value r ≡ Some v → is_single v ≡ false → r.0 < (meaning s).places };

@@ -86,7 +86,8 @@ fn same_letters<B: Bindings>(store: &B, a: Ref, b: Ref) -> bool
 fn same_count<B: Bindings>(store: &B, c: Ref, d: Ref) -> bool
     requires c_in { (place : ℕ) × (parts : Values) × IsClosureAt (B.meaning store.now) c place parts }
     requires d_in { (place : ℕ) × (parts : Values) × IsClosureAt (B.meaning store.now) d place parts }
-    ensures { (p q : ℕ) → (vs us : Values) → IsClosureAt (B.meaning store.now) c p vs → IsClosureAt (B.meaning store.now) d q us → result ≡ as_many vs us }
+    ensures { (p q : ℕ) → (vs us : Values) → IsClosureAt (B.meaning store.now) c p vs →
+        IsClosureAt (B.meaning store.now) d q us → result ≡ as_many vs us }
 {
     let mut at: u16 = 0;
     'values: loop {

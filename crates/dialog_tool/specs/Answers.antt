@@ -100,7 +100,8 @@ pub data Makes (dice : List ℕ) (n : ℕ) (status : ℕ) (text : List ℕ) : Ty
       → Shows (game p dice) [] made_limits output outcome left
       → status ≡ status_of outcome.ending → text ≡ made_report (made_source n) output outcome → Makes dice n status text
   overflows : (p : Core) → Compiles (made_source n) (Ok p) → (output : List ℕ) (left : Option (List ℕ))
-      → MayWrite (game p dice) [] made_limits output left → most_output < length output → status ≡ 3 → text ≡ too_long_line → Makes dice n status text
+      → MayWrite (game p dice) [] made_limits output left → most_output < length output → status ≡ 3 → text ≡ too_long_line →
+      Makes dice n status text
   refuses : (r : Refusal) → Compiles (made_source n) (Err r) → status ≡ 1 → text ≡ refusal_line (codes "make") r → Makes dice n status text
 
 -- The source of a number is made and run, at 0, 1 and 3: out took the whole text that it comes to.
@@ -153,7 +154,8 @@ Does c o (Some (make n)) result = Reports c n result
 pub data IsStored (c : Call) (to story : List ℕ) (result : ℕ) : Type 0 where
   held : result ≡ 0 → WhereTold c.shelf_after.contents (λ contents. contents to ≡ Some story) → c.out_after ≡ c.out → c.input_after ≡ c.input
       → IsStored c to story result
-  not_held : Rose c.shelf.faults c.shelf_after.faults → (IsTrue c.shelf.sure → ⊥) → Prints c 5 (file_fault_line to) result → IsStored c to story result
+  not_held : Rose c.shelf.faults c.shelf_after.faults → (IsTrue c.shelf.sure → ⊥) → Prints c 5 (file_fault_line to) result →
+      IsStored c to story result
   no_room_for_it : Prints c 6 no_memory_line result → IsStored c to story result
 
 -- A source is a program, and its story is handed to the shelf, which keeps all else.

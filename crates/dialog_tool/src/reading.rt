@@ -34,7 +34,8 @@ pub fn program_in<F: Shelf, K: Sink>(
         (file : List ℕ) × IsFetched (F.view shelf.old) (F.view shelf.new) name.now file × Compiles file (Ok p)) }
     ensures sound { IfOk result IsSound }
     ensures silent { OnOk result (K.view out.new ≡ K.view out.old) }
-    ensures ends { IfErr result (λ status. (command : Option Command) → (dice : List ℕ) → (input : SourceView) → source_named command ≡ Some name.now →
+    ensures ends { IfErr result (λ status. (command : Option Command) → (dice : List ℕ) → (input : SourceView) →
+        source_named command ≡ Some name.now →
         Answers (call command dice (F.view shelf.old) (F.view shelf.new) input input (K.view out.old) (K.view out.new)) status) }
 {
     long_sources_are_refused();

@@ -76,7 +76,8 @@ AreOwn (line ∷ more) = IsOwn line × AreOwn more
 
 -- Each label of a construct leads to its place in the acts of lines: to what stands behind it.
 pub record LabelsLead (xs : List Line) (body : List Act) : Type 0 where
-  pub leads : AreOwn xs → (l : ℕ) (front more : List Act) → first_label ≤ l → body ≡ front ++ (acts.Label l ∷ more) → behind_label l body ≡ Some more
+  pub leads : AreOwn xs → (l : ℕ) (front more : List Act) → first_label ≤ l → body ≡ front ++ (acts.Label l ∷ more) →
+      behind_label l body ≡ Some more
 
 -- ---- what they do
 

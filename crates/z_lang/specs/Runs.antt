@@ -54,7 +54,8 @@ pub data ActsRun (p : Program) : ℕ → ℕ → List Act → List Act → State
   calls_last : {f w f' w' : ℕ} {v : Option ℕ} {x n : ℕ} {a : Atom} {args : Args} {xs : ℕ × ℕ × ℕ} {r : Routine} {halt : Halt}
       {body more : List Act} {s s' : State} →
       value p s a ≡ Some x → arguments p s args ≡ Some xs → p.routine_at x ≡ Some r → f' < f → r.locals + w' ≤ w →
-      ActsRun p f' w' r.body r.body (routine_entered s r.locals xs) (Stops halt) s' n → ActsRun p f w body (acts.Call v a args ∷ more) s (Stops halt) s' (suc n)
+      ActsRun p f' w' r.body r.body (routine_entered s r.locals xs) (Stops halt) s' n →
+      ActsRun p f w body (acts.Call v a args ∷ more) s (Stops halt) s' (suc n)
   ends_input : {f w v x most : ℕ} {a : Atom} {body more : List Act} {s tried : State} → value p s a ≡ Some x →
       readable p.world.layout s.memory x ≡ Some most → put p v 13 s ≡ Some tried → s.typed ≡ [] →
       ActsRun p f w body (acts.Read v a ∷ more) s (Stops AtInput) s 1

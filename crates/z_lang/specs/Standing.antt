@@ -77,7 +77,8 @@ pub record ComesAt (p : Program) (story : List ℕ) (labels : ℕ → ℕ) (c : 
 -- where a state comes to with an outcome
 abbrev pub ArrivesAt : Program → List ℕ → (ℕ → ℕ) → Context → ActsOutcome → State → ℕ → ZState → Type 0
 ArrivesAt p story labels c (Returns x) s n z = (m : Machine) → resumed p.world.layout s c x ≡ Ok m → Leads p.world n z (machine_state s m)
-ArrivesAt p story labels c (Stops halt) s n z = (last : ZState) × (last.output ≡ s.output) × Ends p.world n z (record { end = halt_ending halt; state = last })
+ArrivesAt p story labels c (Stops halt) s n z = (last : ZState) × (last.output ≡ s.output) ×
+    Ends p.world n z (record { end = halt_ending halt; state = last })
 ArrivesAt p story labels c (Rests acts) s n z = ComesAt p story labels c acts s n z
 
 -- What comes of acts: memory is kept, and the player's state comes to the outcome.

@@ -55,7 +55,8 @@ pub record CodeStays (w : ZGiven) (s : ZState) : Type 0 where
 -- What stands from the static base on stands in each memory that keeps the code.
 pub record StandsOn (layout : Layout) (old new : List ℕ) : Type 0 where
   pub bytes : (at : ℕ) (bytes : List ℕ) → layout.base ≤ at → BytesAt old at bytes → BytesAt new at bytes
-  pub instruction : (rows : Rows) (at : ℕ) (op : Op) (end : ℕ) → layout.base ≤ at → IsInstruction rows old at op end → IsInstruction rows new at op end
+  pub instruction : (rows : Rows) (at : ℕ) (op : Op) (end : ℕ) → layout.base ≤ at → IsInstruction rows old at op end →
+      IsInstruction rows new at op end
   pub decoded : (rows : Rows) (at : ℕ) (x : Found) → layout.base ≤ at → IsInstruction rows old at x.op x.end →
       op_at rows old at ≡ Ok x → op_at rows new at ≡ Ok x
   pub string : (at : ℕ) → layout.base ≤ at → string_at new at ≡ string_at old at

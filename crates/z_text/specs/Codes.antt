@@ -26,4 +26,5 @@ codes_from (Some lead) (byte ∷ text) = wide_code lead byte ∷ codes_from None
 
 -- A byte is taken, and the Z-characters of what it ends are written.
 abbrev pub PutsByte : List ℕ → List ℕ → Option ℕ → ℕ → Option ℕ → List ℕ → Type 0
-PutsByte old new lead byte next rest = old ++ flat_map code_characters (codes_from lead (byte ∷ rest)) ≡ new ++ flat_map code_characters (codes_from next rest)
+PutsByte old new lead byte next rest =
+    old ++ flat_map code_characters (codes_from lead (byte ∷ rest)) ≡ new ++ flat_map code_characters (codes_from next rest)

@@ -92,5 +92,6 @@ pub record Waits (around : Scope) (first : ℕ) (ps : Parts) (b : Body) (kept : 
 
 -- The rules whose closures wait, with that of an item, before which so many closures stand.
 pub record Keeps (around : Scope) (first : ℕ) (said : Said) (old new : List Kept) : Type 0 where
-  pub rows : (n : ℕ) → rows_kept around n new ≡ rows_kept around n old ++ rows_in around (record { selects = n + selects_kept old; closures = first }) said
+  pub rows : (n : ℕ) → rows_kept around n new ≡
+      rows_kept around n old ++ rows_in around (record { selects = n + selects_kept old; closures = first }) said
   pub selects : selects_kept new ≡ selects_kept old + selects_within (closures_of said)

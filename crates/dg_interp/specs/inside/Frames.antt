@@ -127,7 +127,8 @@ pub record BeginsWith (height : ℕ) (frame : Frame) (others left : Left) : Type
   pub kind : kind_of others ≡ kind_of left
   pub work : ℕ
   pub branches : (g : Game) (values : Env → List Value) (fs : List Frame) (r : Registers) →
-      branches_of g values fs height left r ≡ enter (cells_if (stays_with others)) work r (steps_at values fs frame) ∷ branches_of g values fs height others r
+      branches_of g values fs height left r ≡
+      enter (cells_if (stays_with others)) work r (steps_at values fs frame) ∷ branches_of g values fs height others r
 
 -- These aren't the way on behind a stoppable part.
 abbrev pub IsNoPart : Left → Type 0

@@ -226,9 +226,11 @@ impl<'p> Engine<'p> {
     pub fn take_out(&mut self, whole: Whole, into: Env, frame: Frame<'p>) -> Result<bool, Full>
         requires sound { IsSound self.old }
         requires left { IsLeft (length self.old.frames.items) (length self.old.refs.items) (TakeOut whole into frame) }
-        ensures tried { (place : ThePlace) → IfOk result (λ begun. Tries (BeginsAt (TakeOut whole into frame.entry) place self.old) begun self.old self.new) }
+        ensures tried { (place : ThePlace) → IfOk result (λ begun.
+            Tries (BeginsAt (TakeOut whole into frame.entry) place self.old) begun self.old self.new) }
         ensures fewer { OnOk result (branches_left self.new ≤ branches_left self.old + 1) }
-        ensures full { (place : ThePlace) → IfErr result (λ e. FullAt (BeginsAt (TakeOut whole into frame.entry) place self.old) (store_in self.old.store) e) }
+        ensures full { (place : ThePlace) → IfErr result (λ e.
+            FullAt (BeginsAt (TakeOut whole into frame.entry) place self.old) (store_in self.old.store) e) }
         ensures left { self.new.left ≡ self.old.left }
     {
         self.here = frame;

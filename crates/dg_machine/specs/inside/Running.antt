@@ -42,7 +42,8 @@ use Rattle.dg_machine.specs.inside.Reading.{IsEnd, LeftBehind, Gave, Failed}
 
 -- The machine has done a step that takes no goal: it stands for the step of what it stood for, and so does what is outside, nothing is printed, and a
 -- number has fallen.
-pub record MarkDone (code : Code) (g : Game) (l : Limits) (old : Memory) (before : Now) (new : Memory) (out' : Outside) (after : Now) (s : Status) : Type 0 where
+pub record MarkDone (code : Code) (g : Game) (l : Limits) (old : Memory) (before : Now)
+    (new : Memory) (out' : Outside) (after : Now) (s : Status) : Type 0 where
   pub stands : Stands code l new after (step (setting g code l) s)
   pub outside : HasOutside out' g l (step (setting g code l) s)
   pub falls : (IsOver s → ⊥) → left_of new after < left_of old before
@@ -88,12 +89,14 @@ pub record HasText (s : Spacer) (start now : SinkView) (ps : List Print) : Type 
   pub wrote : Wrote start now (render ps)
 
 -- An instruction that takes a goal was done: the machine and what is outside stand for what it leads to, and what it prints was written.
-pub record GoalDone (code : Code) (g : Game) (l : Limits) (new : Memory) (out : Outside) (after : Now) (s s' : Spacer) (k k' : SinkView) (m : Mid) : Type 0 where
+pub record GoalDone (code : Code) (g : Game) (l : Limits) (new : Memory) (out : Outside) (after : Now)
+    (s s' : Spacer) (k k' : SinkView) (m : Mid) : Type 0 where
   pub stands : Stands code l new after (step (setting g code l) (RunsOf m))
   pub outside : HasOutside out g l (step (setting g code l) (RunsOf m))
   pub writes : (start : SinkView) (ps : List Print) → HasText s start k ps → HasText s' start k' (followed ps (said (setting g code l) (RunsOf m)))
 
-abbrev pub DoesGoal : Tables → Code → Memory → Outside → List Op → Memory → Outside → Now → Spacer → Spacer → SinkView → SinkView → Type 0
+abbrev pub DoesGoal : Tables → Code → Memory → Outside → List Op → Memory → Outside → Now →
+    Spacer → Spacer → SinkView → SinkView → Type 0
 DoesGoal t code old out ops new out' after s s' k k' =
     (g : Game) → IsOf g.program t → (l : Limits) (m : Mid) → MidOrdered m → at_goal ops ≡ true → CodeIs ops m → Holds code l old m →
     Around out g l m → GoalDone code g l new out' after s s' k k' m

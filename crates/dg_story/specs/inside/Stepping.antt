@@ -56,8 +56,8 @@ pub data AsksFor (pred : ℕ) : Op → ℕ → Type 0 where
 
 -- A step of plain code, with what it prints.
 pub data StepsTo (s : Setting) : Status → List Print → Status → Type 0 where
-  prints : (m m' : Mid) (text : List ℕ) (rest : List Op) → m.ops ≡ op.Do (action.Text text) ∷ rest → IsName text → SameMid m m' → IsTagged m m' m.next_tag →
-      m'.ops ≡ rest → StepsTo s (Runs m) (Piece text ∷ []) (Runs m')
+  prints : (m m' : Mid) (text : List ℕ) (rest : List Op) → m.ops ≡ op.Do (action.Text text) ∷ rest → IsName text →
+      SameMid m m' → IsTagged m m' m.next_tag → m'.ops ≡ rest → StepsTo s (Runs m) (Piece text ∷ []) (Runs m')
   asks : (m m' : Mid) (x : Op) (rest : List Op) (pred : ℕ) (call : Call) (now : Status) → m.ops ≡ x ∷ rest → AsksFor pred x call.next →
       call.cut.tag ≡ m.next_tag → SameMid m m' → IsTagged m m' m.next_tag → Begun s call (rules_at s.code pred) m' now → StepsTo s (Runs m) [] now
   returns : (m m' : Mid) (f : Frame) (fs : List Frame) (rest : List Op) → m.ops ≡ op.Return ∷ rest → m.frames ≡ f ∷ fs →
@@ -65,8 +65,8 @@ pub data StepsTo (s : Setting) : Status → List Print → Status → Type 0 whe
       IsTagged m m' m.next_tag → m'.ops ≡ block_at s.code f.next → StepsTo s (Runs m) [] (Runs m')
   fails_bare : (m m' : Mid) (rest : List Op) → m.ops ≡ op.Return ∷ rest → m.frames ≡ [] → SameMid m m' → IsTagged m m' m.next_tag →
       StepsTo s (Runs m) [] (Fails m')
-  jumps : (m m' : Mid) (b : ℕ) (rest : List Op) → m.ops ≡ op.Goto b ∷ rest → BeginsSo (block_at s.code b) → SameMid m m' → IsTagged m m' m.next_tag →
-      m'.ops ≡ block_at s.code b → StepsTo s (Runs m) [] (Runs m')
+  jumps : (m m' : Mid) (b : ℕ) (rest : List Op) → m.ops ≡ op.Goto b ∷ rest → BeginsSo (block_at s.code b) → SameMid m m' →
+      IsTagged m m' m.next_tag → m'.ops ≡ block_at s.code b → StepsTo s (Runs m) [] (Runs m')
   finishes : (m : Mid) (rest : List Op) → m.ops ≡ op.Done ∷ rest → StepsTo s (Runs m) [] (Ended endings.Done)
   enters : (call : Call) (m m' : Mid) (f : Frame) (rest : List Op) → m.ops ≡ op.Enter 0 [] ∷ rest → m.state.heap + 6 ≤ s.limits.heap →
       f.next ≡ call.next → f.cut ≡ call.cut → m'.frames ≡ f ∷ m.frames → m'.choices ≡ m.choices → m'.state.heap ≡ m.state.heap + 6 →

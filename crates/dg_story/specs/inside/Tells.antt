@@ -12,8 +12,8 @@ use Rattle.dg_story.specs.Agrees.{IsCut, EndsWhole, IsThere, IsAtLimit, printed_
 pub data InTime {A : Type 0} (g : Game) (typed : List ℕ) (t : Turning ZEnd A) (a : A) (n : ℕ) : Type 0 where
   reached : {b : A} {spent : ℕ} → Reaches t a spent b → spent ≤ enough_for g typed n → (run g typed n).ending ≡ endings.StepLimit →
       Begins (printed_body g typed n) (t.out b) → InTime g typed t a n
-  over : {b : A} {spent : ℕ} {end : ZEnd} {bytes : List ℕ} → Reaches t a spent b → t.next b ≡ Over end bytes → spent + t.cost b ≤ enough_for g typed n →
-      IsThere g typed n bytes end ⊎ IsAtLimit g typed n bytes end → InTime g typed t a n
+  over : {b : A} {spent : ℕ} {end : ZEnd} {bytes : List ℕ} → Reaches t a spent b → t.next b ≡ Over end bytes →
+      spent + t.cost b ≤ enough_for g typed n → IsThere g typed n bytes end ⊎ IsAtLimit g typed n bytes end → InTime g typed t a n
 
 -- The boundaries that are reached from a tell the truth, and come in time.
 pub record Tells {A : Type 0} (g : Game) (typed : List ℕ) (t : Turning ZEnd A) (a : A) : Type 0 where
