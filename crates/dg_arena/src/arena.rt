@@ -658,6 +658,10 @@ impl Bindings for Arena {
         };
     }
 
+    fn alloc(&self) -> Global {
+        *self.waits.allocator()
+    }
+
     fn waiting(&self) -> usize {
         self.waits.len()
     }

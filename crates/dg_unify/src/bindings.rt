@@ -2,6 +2,7 @@
 
 use crate::parts::Wait;
 use dg_base::Simple;
+use std::alloc::Global;
 use thiserror::Error;
 
 /// A place of a store, or a value without parts. Of two variables the younger has the greater number.
@@ -154,6 +155,9 @@ pub trait Bindings {
         ensures back { (s : Store) → (ms : List Saved) → saves self.old (record { mark = to; store = s } ∷ ms) → Back s (meaning self.new) }
         ensures saved { (s : Store) → (ms : List Saved) → saves self.old (record { mark = to; store = s } ∷ ms) →
             saves self.new (record { mark = to; store = s } ∷ ms) };
+
+    /// What it takes memory from.
+    fn alloc(&self) -> Global;
 
     /// How many wait.
     fn waiting(&self) -> usize

@@ -398,6 +398,10 @@ impl Bindings for ListBindings {
         };
     }
 
+    fn alloc(&self) -> Global {
+        *self.waits.allocator()
+    }
+
     fn waiting(&self) -> usize {
         self.waits.len()
     }
