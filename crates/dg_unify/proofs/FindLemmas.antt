@@ -1,21 +1,23 @@
 -- How a walk through a value goes on, and what is left of it.
-use Rattle.std.proofs.Common.{◌≡◌, ℕ, ◌+◌, ◌*◌, ◌<◌, ◌≤◌, List, [], ◌∷◌, ◌++◌, Bool, true, false, refl, sym, ap, ◌∙◌, arith, subst, Option, Some, None, length, length-append}
+use Rattle.std.proofs.Common.{◌≡◌, ℕ, ◌+◌, ◌*◌, ◌<◌, ◌≤◌, List, [], ◌∷◌, ◌++◌, Bool, true, false, refl, sym, ap, ◌∙◌, arith, subst, Option, Some, None, inl, inr, length, length-append}
 use Rattle.std.specs.Prelude.{◌||◌}
 use Rattle.dg_meaning.specs.Values.{Value, Var, Node, Values, NoMore, More}
 use Rattle.dg_meaning.specs.Substitutions.{Substitution, resolved, all_resolved, contains, any_contains, IsSubstitution}
 use Rattle.dg_meaning.specs.Unify.{size, sizes}
 use Rattle.dg_meaning.proofs.Walks.{resolved_node, resolved_unbound, walked, size_some}
-use Rattle.dg_unify.specs.Store.{Store, told, Holds, ShowsVar}
-use Rattle.dg_unify.specs.Parts.{values_of, AreIn, IsSplit, IsOpened}
+use Rattle.dg_unify.specs.Store.{Store, told, Holds, ShowsVar, Shows}
+use Rattle.dg_unify.specs.Parts.{parts_in, values_of, AreIn, IsSplit, ShowsInner, IsVariable, IsOpened}
 use Rattle.dg_unify.specs.Finds.{finds, any_finds, IsSought, ref_sought, finds_at, AreClear}
-use Rattle.dg_unify.specs.Waits.{size_at, with_parts, HasRoom}
+use Rattle.dg_unify.specs.Waits.{size_at, with_parts, PutsBy, HasRoom}
 use Rattle.dg_unify.specs.declared.bindings.Ref.{Ref}
+use Rattle.dg_unify.specs.declared.bindings.View.{View}
 use Rattle.dg_unify.specs.declared.parts.Parts.{Parts}
 use Rattle.dg_unify.specs.declared.parts.Parts.TheVariants as form
 use Rattle.dg_unify.specs.declared.parts.Front.{Front}
 use Rattle.dg_unify.specs.declared.parts.Wait.{Wait}
 use Rattle.dg_unify.specs.declared.seen.Seen.{Seen}
 use Rattle.dg_unify.proofs.StoreLemmas.{walked_to, Younger, found_var}
+use Rattle.dg_unify.proofs.PartsLemmas.{shown_node}
 use Rattle.dg_unify.proofs.Rooms.{Placed, newest_in, AreInside, room_left}
 
 -- ## What is looked for
@@ -45,6 +47,12 @@ sought_var s sound young None None at y h shows =
 sought_var s sound young (Some r) (Some n) at y h shows = found_var s sound young r at y n h shows ∙ sym (finds_one n (resolved s.state.subst (told s at)))
 sought_var s sound young None (Some n) at y h shows = absurd h
 sought_var s sound young (Some r) None at y h shows = absurd h
+
+-- the parts of a value that is no variable
+pub shown_opened : (s : Store) (at : Ref) (v : View) (inner : Parts) → IsVariable v None → Shows s (walked_to s at) v → ((s : Store) (w : Value) → Shows s w v → ShowsInner s (parts_in w) inner) → IsOpened s at inner
+shown_opened s at v inner none shows has =
+    let node = shown_node s (walked_to s at) v none shows in
+    record { label = node.f; parts = node.vs; is = node.is; shows = has s (Node node.f node.vs) (subst (λ w. Shows s w v) node.is shows) }
 
 -- ## What is left
 
@@ -96,16 +104,8 @@ with_either P (form.One r) w ws none some = some
 with_either P (form.Two q r) w ws none some = some
 with_either P (form.Captured c n) w ws none some = some
 
-pub with_above : (p : Parts) (w : Wait) (above base : List Wait) → with_parts p w (above ++ base) ≡ with_parts p w above ++ base
-with_above form.Nothing w above base = refl
-with_above (form.One r) w above base = refl
-with_above (form.Two q r) w above base = refl
-with_above (form.Captured c n) w above base = refl
-
-behind_with : (s : Store) (p : Parts) (w : Wait) (ws : List Wait) → w.p ≡ p → behind s (with_parts p w ws) ≤ 2 * sizes_in s p + 1 + behind s ws
-behind_with s p w ws e =
-    let k : sizes_in s w.p ≡ sizes_in s p = ap (sizes_in s) e in
-    with_either (λ l. behind s l ≤ 2 * sizes_in s p + 1 + behind s ws) p w ws (λ n. omega arith) (omega (arith, k))
+pub put_either : (P : List Wait → Type 0) (w : Wait) (old new : List Wait) → PutsBy w old new → (w.p ≡ form.Nothing → P old) → P (w ∷ old) → P new
+put_either P w old new h none some = elim h as (λ z. P new) [ inl e ↦ subst P (sym e) some | inr e ↦ subst P (sym e.1) (none e.0) ]
 
 module _ (s : Store) (sound : IsSubstitution s.state.subst) (x : Option Ref) (root : Ref) where
   abbrev S : Substitution
@@ -231,17 +231,17 @@ module _ (s : Store) (sound : IsSubstitution s.state.subst) (x : Option Ref) (ro
         );
       }
 
-      pub search_into : (new : List Wait) → new ≡ with_parts front.rest waits now → Searching s x root base new inner seen
-      search_into new is = record {
-        above = with_parts front.rest waits h.above;
-        is = is ∙ ap (with_parts front.rest waits) h.is ∙ with_above front.rest waits h.above base;
-        left = with_either (Left s x root inner) front.rest waits h.above here_nothing here_more;
-        clear = h.clear;
-      }
+      pub search_into : (new : List Wait) → PutsBy waits now new → Searching s x root base new inner seen
+      search_into new put =
+          put_either (λ l. Searching s x root base l inner seen) waits now new put
+          (λ e. record { above = h.above; is = h.is; left = here_nothing e; clear = h.clear })
+          (record { above = waits ∷ h.above; is = ap (λ l. waits ∷ l) h.is; left = here_more; clear = h.clear })
 
-      pub into_smaller : (new : List Wait) → new ≡ with_parts front.rest waits now → left_in s inner new < left_in s p now
-      into_smaller new is =
-          omega (arith, ap (behind s) is, behind_with s front.rest waits now refl, split_size, opened_size front.first inner opened)
+      pub into_smaller : (new : List Wait) → PutsBy waits now new → left_in s inner new < left_in s p now
+      into_smaller new put =
+          put_either (λ l. left_in s inner l < left_in s p now) waits now new put
+          (λ e. omega (arith, split_size, opened_size front.first inner opened))
+          (omega (arith, split_size, opened_size front.first inner opened))
 
 -- ## What is clear at once
 

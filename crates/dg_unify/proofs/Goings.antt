@@ -10,7 +10,7 @@ use Rattle.dg_meaning.proofs.UnifyLaws.{solve_none, solve_step, solve_first}
 use Rattle.dg_unify.specs.Store.{State, Store, told, Holds, Kept, trail_of, OnlyBinds, Does, UnifyFull, BrokeOff, Follows}
 use Rattle.dg_unify.specs.Parts.{values_of, AreIn, IsSplit}
 use Rattle.dg_unify.specs.inside.Turns.{AreLeft, Stays, IsFirst}
-use Rattle.dg_unify.specs.Waits.{with_parts}
+use Rattle.dg_unify.specs.Waits.{PutsBy}
 use Rattle.dg_unify.specs.declared.bindings.Ref.{Ref}
 use Rattle.dg_unify.specs.declared.bindings.Full.{Full}
 use Rattle.dg_unify.specs.declared.bindings.Full.TheVariants as full
@@ -20,7 +20,7 @@ use Rattle.dg_unify.specs.declared.parts.Wait.{Wait}
 use Rattle.dg_unify.specs.declared.unifying.First.{First}
 use Rattle.dg_unify.proofs.StoreLemmas.{kept_same, kept_on, kept_holds}
 use Rattle.dg_unify.proofs.PartsLemmas.{in_kept, values_kept}
-use Rattle.dg_unify.proofs.FindLemmas.{with_either}
+use Rattle.dg_unify.proofs.FindLemmas.{put_either}
 use Rattle.dg_unify.proofs.Meets.{more_same}
 
 -- ## Equations of parts
@@ -293,33 +293,33 @@ module _ (old now : Store) (sound : IsSubstitution now.state.subst) (es : Equati
     abbrev wait : Wait
     wait = record { a = first.a; b = first.b; p = first.p; q = first.q }
 
-    into_left : waiting now (with_parts first.p wait ws) ≡ rest
-    into_left = with_either (λ l. waiting now l ≡ rest) first.p wait ws
-        (λ e. ap (λ l. l ++ waiting now ws) (sym (none_left now first.p first.q (ap (values_of now) e)))) refl
+    module _ (new : List Wait) (put : PutsBy wait ws new) where
+      into_left : waiting now new ≡ rest
+      into_left = put_either (λ l. waiting now l ≡ rest) wait ws new put (λ e. ap (λ l. l ++ waiting now ws) (sym (none_left now first.p first.q (ap (values_of now) e)))) refl
 
-    into_same : solve S (left now p q ws) ≡ counted (cost S a b) (solve S (left now v w (with_parts first.p wait ws)))
-    into_same =
-        ap (solve S) first_left ∙ solve_step S (a, b) rest sound ∙ ap (λ t. counted (cost S a b) (solve_turn S rest t)) h.turn
-        ∙ ap (λ l. counted (cost S a b) (solve S (equations now v w ++ l))) (sym into_left)
+      into_same : solve S (left now p q ws) ≡ counted (cost S a b) (solve S (left now v w new))
+      into_same =
+          ap (solve S) first_left ∙ solve_step S (a, b) rest sound ∙ ap (λ t. counted (cost S a b) (solve_turn S rest t)) h.turn
+          ∙ ap (λ l. counted (cost S a b) (solve S (equations now v w ++ l))) (sym into_left)
 
-    pub going_into : Going old now es v w (with_parts first.p wait ws)
-    going_into = record {
-      kept = g.kept;
-      p_in = h.left.shows.are_in;
-      q_in = h.right.shows.are_in;
-      waits_in = with_either (AllWait now) first.p wait ws (λ e. g.waits_in) (record { a_in = f.a_in; b_in = f.b_in; p_in = f.p_in; q_in = f.q_in }, g.waits_in);
-      binds = g.binds;
-      made = g.made;
-      grown = g.grown;
-      before = g.before + cost S a b;
-      same = g.same ∙ ap (counted g.before) into_same ∙ counted_twice g.before (cost S a b) (solve S (left now v w (with_parts first.p wait ws)));
-    }
+      pub going_into : Going old now es v w new
+      going_into = record {
+        kept = g.kept;
+        p_in = h.left.shows.are_in;
+        q_in = h.right.shows.are_in;
+        waits_in = put_either (AllWait now) wait ws new put (λ e. g.waits_in) (record { a_in = f.a_in; b_in = f.b_in; p_in = f.p_in; q_in = f.q_in }, g.waits_in);
+        binds = g.binds;
+        made = g.made;
+        grown = g.grown;
+        before = g.before + cost S a b;
+        same = g.same ∙ ap (counted g.before) into_same ∙ counted_twice g.before (cost S a b) (solve S (left now v w new));
+      }
 
-    into_length : length (with_parts first.p wait ws) ≤ length ws + 1
-    into_length = with_either (λ l. length l ≤ length ws + 1) first.p wait ws (λ e. omega arith) (omega arith)
+      into_length : length new ≤ length ws + 1
+      into_length = put_either (λ l. length l ≤ length ws + 1) wait ws new put (λ e. omega arith) (omega arith)
 
-    pub into_smaller : need now v w (with_parts first.p wait ws) < need now p q ws
-    into_smaller = omega (arith, ap (λ (x : Unified). x.count) into_same, into_length)
+      pub into_smaller : need now v w new < need now p q ws
+      into_smaller = omega (arith, ap (λ (x : Unified). x.count) into_same, into_length)
 
 -- ## Two values whose parts are unified
 
@@ -337,3 +337,11 @@ unify_goes old new sound a b p q h (Ok answer) u =
 unify_goes old new sound a b p q h (Err e) u =
     broke_later old old new (kept_same old) (more_same old.state) [] refl (solve old.state.subst (equations old p q)) (unify old.state.subst (told old a) (told old b)) []
     (ap (λ (x : Unified). x.subst) (parts_unified old sound a b p q h)) e u
+
+-- two that have no parts
+pub none_unified : (s : Store) → IsSubstitution s.state.subst → (a b : Ref) (p q : Parts) → AreLeft s s a b p q → values_of s p ≡ NoMore → Does s s (unify s.state.subst (told s a) (told s b)) true
+none_unified s sound a b p q h none =
+    let S = s.state.subst in
+    let e : unify S (told s a) (told s b) ≡ counted (cost S (told s a) (told s b)) (agreed S) =
+    parts_unified s sound a b p q h ∙ ap (λ es. counted (cost S (told s a) (told s b)) (solve S es)) (none_left s p q none) ∙ ap (counted (cost S (told s a) (told s b))) (solve_none S sound) in
+    rw e (record { agrees = refl; subst = refl; binds = more_same s.state })

@@ -1,8 +1,8 @@
 -- What is known to be equal stays equal, and what was made equal is.
-use Rattle.std.proofs.Common.{◌≡◌, ℕ, List, [], ◌∷◌, ◌++◌, true, sym, ◌∙◌, subst, Option, Some, None, slice_index_or, nat_eq}
+use Rattle.std.proofs.Common.{◌≡◌, ℕ, List, [], ◌∷◌, ◌++◌, true, refl, sym, ◌∙◌, subst, Option, Some, None, slice_index_or, nat_eq}
 use Rattle.std.specs.List.{All}
-use Rattle.std.specs.Prelude.{Ok, Bool}
-use Rattle.std.proofs.lemmas.Bool.{eqb-true}
+use Rattle.std.specs.Prelude.{Ok, Bool, cond}
+use Rattle.std.proofs.lemmas.Bool.{eqb-true, cond_both}
 use Rattle.std.proofs.lemmas.List.Elements.{All-weaker}
 use Rattle.dg_meaning.specs.Values.{Value}
 use Rattle.dg_meaning.specs.Substitutions.{Substitution, IsSubstitution}
@@ -41,7 +41,10 @@ module _ (old new : Store) (kept : Kept old new) (made : Substitution) (is : new
 pub equal_behind : (old new : Store) → IsSubstitution old.state.subst → (known : Known) (v w : Value) (answer : Bool) → Kept old new → Does old new (unify old.state.subst v w) answer → AreEqual old known → AreEqual new known
 equal_behind old new sound known v w answer kept h =
     let grew = solve_extends old.state.subst ((v, w) ∷ []) sound in
-    pairs_kept old new kept grew.made (h.subst ∙ grew.is) known.pairs
+    λ were. record {
+      pairs = pairs_kept old new kept grew.made (h.subst ∙ grew.is) known.pairs were.pairs;
+      nexts = λ n r e. equal_kept old new kept grew.made (h.subst ∙ grew.is) (record { 0 = n }) r (were.nexts n r e);
+    }
 
 -- what was made equal
 pub equal_made : (old new : Store) → IsSubstitution old.state.subst → (a b : Ref) → Holds old a → Holds old b → (answer : Bool) → answer ≡ true → Kept old new → Does old new (unify old.state.subst (told old a) (told old b)) answer → IsEqual new a b
@@ -64,3 +67,31 @@ pub noted : (s : Store) (ps : List (Option (Ref × Ref))) (i : ℕ) (p : Ref × 
 noted s ps i p a b h there ea eb =
     let here : IsEqual s p.0 p.1 = rw there at (at_place (is_equal_pair s) ps i tt h) in
     subst (λ (r : Ref). IsEqual s a r) (same_ref p.1 b (eqb-true p.1.0 b.0 eb)) (subst (λ (r : Ref). IsEqual s r p.1) (same_ref p.0 a ea) here)
+
+-- ## Steps from value to value
+
+pub equal_self : (s : Store) (a b : Ref) → Holds s a → a.0 ≡ b.0 → IsEqual s a b
+equal_self s a b h e = subst (λ (r : Ref). IsEqual s a r) (same_ref a b e) (record { a_in = h; b_in = h; same = refl })
+
+pub equal_turned : (s : Store) (a b : Ref) → IsEqual s a b → IsEqual s b a
+equal_turned s a b h = record { a_in = h.b_in; b_in = h.a_in; same = sym h.same }
+
+pub equal_on : (s : Store) (a b c : Ref) → IsEqual s a b → IsEqual s b c → IsEqual s a c
+equal_on s a b c h k = record { a_in = h.a_in; b_in = k.b_in; same = h.same ∙ k.same }
+
+-- two that lead to the same
+pub equal_ends : (s : Store) (a b x y : Ref) → IsEqual s a x → IsEqual s b y → x.0 ≡ y.0 → IsEqual s a b
+equal_ends s a b x y ha hb e = equal_on s a x b ha (equal_on s x y b (equal_self s x y ha.b_in e) (equal_turned s b y hb))
+
+-- the ends of two that are equal
+pub equal_between : (s : Store) (a b x y : Ref) → IsEqual s a b → IsEqual s a x → IsEqual s b y → IsEqual s x y
+equal_between s a b x y h ha hb = equal_on s x a y (equal_turned s a x ha) (equal_on s a b y h hb)
+
+-- one more leads on
+pub leads_on : (s : Store) (from to : Ref) (old new : ℕ → Option Ref) → ((n : ℕ) (r : Ref) → old n ≡ Some r → IsEqual s (record { 0 = n }) r) → IsEqual s from to → ((n : ℕ) → new n ≡ cond (nat_eq from.0 n) (Some to) (old n)) → (n : ℕ) (r : Ref) → new n ≡ Some r → IsEqual s (record { 0 = n }) r
+leads_on s from to old new were equal is n r e =
+    cond_both (nat_eq from.0 n) (Some to) (old n) (λ o. o ≡ Some r → IsEqual s (record { 0 = n }) r)
+    (λ here k.
+    let same : to ≡ r = cc in
+    subst (λ (x : Ref). IsEqual s x r) (same_ref from (record { 0 = n }) (eqb-true from.0 n here)) (subst (IsEqual s from) same equal))
+    (λ other k. were n r k) (sym (is n) ∙ e)

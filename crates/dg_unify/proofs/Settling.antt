@@ -8,13 +8,13 @@ use Rattle.dg_meaning.proofs.UnifyLaws.{EqualUnder, Makes, turned_makes, resolve
 use Rattle.dg_unify.specs.Store.{Store, told, Kept}
 use Rattle.dg_unify.specs.inside.Turns.{AreLeft, IsFirst}
 use Rattle.dg_unify.specs.inside.Known.{IsEqual}
-use Rattle.dg_unify.specs.Waits.{with_parts}
+use Rattle.dg_unify.specs.Waits.{PutsBy}
 use Rattle.dg_unify.specs.Parts.{values_of}
 use Rattle.dg_unify.specs.declared.parts.Parts.{Parts}
 use Rattle.dg_unify.specs.declared.parts.Wait.{Wait}
 use Rattle.dg_unify.specs.declared.unifying.First.{First}
 use Rattle.dg_unify.proofs.StoreLemmas.{kept_told}
-use Rattle.dg_unify.proofs.FindLemmas.{with_either}
+use Rattle.dg_unify.proofs.FindLemmas.{put_either}
 use Rattle.dg_unify.proofs.Goings.{equations, equations_kept, none_left, AllWait, WaitsIn}
 
 -- where these equations hold, now or later, the two are equal
@@ -75,12 +75,12 @@ module _ (now : Store) (p q : Parts) (ws : List Wait) (waits : AllWait now ws) (
       (settled_from new ((a, b) ∷ equations now first.p first.q) (equations now first.p first.q) ws (λ more k. (resolved_later more new.state.subst a b same, k)) later)
 
   -- their parts are left
-  pub settled_into : IsSubstitution now.state.subst → (v w : Parts) → AreLeft now now first.a first.b v w → Settled now (equations now v w) (with_parts first.p (record { a = first.a; b = first.b; p = first.p; q = first.q }) ws)
-  settled_into sound v w left =
+  pub settled_into : IsSubstitution now.state.subst → (v w : Parts) → AreLeft now now first.a first.b v w → (new : List Wait) → PutsBy (record { a = first.a; b = first.b; p = first.p; q = first.q }) ws new → Settled now (equations now v w) new
+  settled_into sound v w left new put =
       let S = now.state.subst in
       let makes : Makes S a b (turn S a b) = turned_makes S a b (walk S a) (walk S b) (walked S sound a) (walked S sound b) in
       let settles : Settles S (equations now v w) a b = subst (Makes S a b) left.turn makes in
-      with_either (λ l. Settled now (equations now v w) l) first.p (record { a = first.a; b = first.b; p = first.p; q = first.q }) ws
+      put_either (λ l. Settled now (equations now v w) l) (record { a = first.a; b = first.b; p = first.p; q = first.q }) ws new put
       (λ e.
       let none : equations now first.p first.q ≡ [] = none_left now first.p first.q (ap (values_of now) e) in
       settled_from now ((a, b) ∷ equations now first.p first.q) (equations now v w) ws (λ made k. (settles made k, subst (EqualUnder (made ++ S)) (sym none) tt)) both)

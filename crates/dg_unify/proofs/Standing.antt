@@ -6,14 +6,14 @@ use Rattle.dg_meaning.specs.Unify.{size, sizes}
 use Rattle.dg_meaning.proofs.Walks.{resolved_node, walked, size_some}
 use Rattle.dg_unify.specs.Store.{Store, told, Holds, Kept}
 use Rattle.dg_unify.specs.Parts.{values_of, AreIn, IsOpened}
-use Rattle.dg_unify.specs.Waits.{size_at, with_parts, HasRoom}
+use Rattle.dg_unify.specs.Waits.{size_at, PutsBy, HasRoom}
 use Rattle.dg_unify.specs.declared.bindings.Ref.{Ref}
 use Rattle.dg_unify.specs.declared.parts.Parts.{Parts}
 use Rattle.dg_unify.specs.declared.parts.Wait.{Wait}
 use Rattle.dg_unify.proofs.StoreLemmas.{kept_holds, kept_told}
 use Rattle.dg_unify.proofs.PartsLemmas.{in_kept, values_kept}
 use Rattle.dg_unify.proofs.Rooms.{Placed, newest_in, AreInside, room_inside, room_left, room_smaller, room_for_all}
-use Rattle.dg_unify.proofs.FindLemmas.{with_either}
+use Rattle.dg_unify.proofs.FindLemmas.{put_either}
 
 -- a value stands in another, at any depth
 abbrev mutual
@@ -164,9 +164,9 @@ module _ (s : Store) (sound : IsSubstitution s.state.subst) (placed : Placed s) 
     pub nesting_left : length ws < s.places
     nesting_left = omega (arith, room_left s placed at (λ w. 0) root 0 ws (size_at s first) h.root_in (room_for_all s root) (chain_inside s at of root ws h.chain) (size_some _) (stands_size _ _ both.0))
 
-    pub nesting_into : (inner : Parts) → IsOpened s first inner → (w : Wait) → at w ≡ first → of w ≡ rest → (q : Parts) → Nesting s at of root inner (with_parts q w ws)
-    nesting_into inner opened w is_first is_rest q =
-        with_either (λ l. Nesting s at of root inner l) q w ws
+    pub nesting_into : (inner : Parts) → IsOpened s first inner → (w : Wait) → at w ≡ first → of w ≡ rest → (new : List Wait) → PutsBy w ws new → Nesting s at of root inner new
+    nesting_into inner opened w is_first is_rest new put =
+        put_either (λ l. Nesting s at of root inner l) w ws new put
         (λ e. record { root_in = h.root_in; p_in = opened.shows.are_in; within = all_trans _ _ _ (opened_stand first inner opened) both.0; chain = h.chain })
         (record {
           root_in = h.root_in;

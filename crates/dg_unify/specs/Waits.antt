@@ -1,5 +1,5 @@
 -- What waits while a part of a value is looked at, and how many may wait. Hold it against dg_unify/specs/Parts.antt.
-use Rattle.std.specs.Prelude.{◌≡◌, ℕ, zero, suc, ◌+◌, ◌≤◌, nat_le, List, [], ◌∷◌, ◌++◌, Option, Some, None, if◌then◌else◌}
+use Rattle.std.specs.Prelude.{◌≡◌, ℕ, zero, suc, ◌+◌, ◌≤◌, ◌⊎◌, nat_le, List, [], ◌∷◌, ◌++◌, Option, Some, None, if◌then◌else◌}
 use Rattle.dg_meaning.specs.Substitutions.{resolved}
 use Rattle.dg_meaning.specs.Unify.{size}
 use Rattle.dg_unify.specs.Store.{Store, told}
@@ -28,6 +28,10 @@ with_parts other w ws = w ∷ ws
 -- One more waits, if its parts are any.
 abbrev pub put_behind : Wait → List Wait → List Wait
 put_behind w ws = with_parts w.p w ws
+
+-- One more waits, and may be left out where it has no parts.
+abbrev pub PutsBy : Wait → List Wait → List Wait → Type 0
+PutsBy w old new = (new ≡ w ∷ old) ⊎ ((w.p ≡ parts.Nothing) × (new ≡ old))
 
 -- ## How many may wait
 

@@ -4,14 +4,15 @@ ghost use Rattle.std.specs.Prelude.{◌≡◌, ℕ, ◌++◌, ◌<◌, List, Opt
 ghost use Rattle.dg_meaning.specs.Values.{Var};
 ghost use Rattle.dg_meaning.specs.Substitutions.{resolved, contains};
 ghost use Rattle.dg_unify.specs.Store.{Saved, told, Holds};
-ghost use Rattle.dg_unify.specs.Parts.{LooksInto};
+ghost use Rattle.dg_unify.specs.Parts.{LooksInto, IsOpened};
 ghost use Rattle.dg_unify.specs.Finds.{IsSought, ref_sought, finds_at, AreClear};
-ghost use Rattle.dg_unify.specs.Waits.{TakesAbove, put_behind as with_wait, HasRoom};
+ghost use Rattle.dg_unify.specs.Waits.{TakesAbove, put_behind as with_wait, PutsBy, HasRoom};
 ghost use Rattle.dg_unify.specs.declared.parts.Wait.{Wait as Waiting};
 
 use crate::bindings::{Bindings, Ref};
 use crate::parts::{Look, Parts, Wait, inner, split, variable_of};
 use crate::seen::Seen;
+use crate::seldom::Seldom;
 
 /// Lets the parts behind two values wait, if there are any.
 pub fn put_behind<B: Bindings>(store: &mut B, wait: Wait)
@@ -22,6 +23,23 @@ pub fn put_behind<B: Bindings>(store: &mut B, wait: Wait)
 {
     match wait.p {
         Parts::Nothing => {}
+        _ => store.put_off(wait),
+    }
+}
+
+/// Lets the parts behind two values wait. Where there are none, the two wait seldom, so that they are noted then.
+pub fn put_by<B: Bindings>(store: &mut B, wait: Wait, lasts: &mut Seldom)
+    requires { length (B.waits store.old) < (B.meaning store.old).places }
+    ensures same { B.meaning store.new ≡ B.meaning store.old }
+    ensures saved { (ms : List Saved) → B.saves store.old ms → B.saves store.new ms }
+    ensures waits { PutsBy wait (B.waits store.old) (B.waits store.new) }
+{
+    match wait.p {
+        Parts::Nothing => {
+            if lasts.takes() {
+                store.put_off(wait);
+            }
+        }
         _ => store.put_off(wait),
     }
 }
@@ -63,30 +81,50 @@ fn is_sought(x: Option<Ref>, y: Ref) -> bool
 
 // Looks whether what is looked for stands in a value, up to its parts.
 #[inline(always)]
-fn look_into<B: Bindings>(store: &B, x: Option<Ref>, at: Ref, seen: &Seen) -> Look
+fn look_at<B: Bindings>(store: &B, x: Option<Ref>, at: Ref) -> Look
     requires x_in { (o : Option ℕ) × IsSought (B.meaning store.now) x o }
     requires at_in { Holds (B.meaning store.now) at }
-    requires seen_in { (o : Option ℕ) → IsSought (B.meaning store.now) x o → AreClear (B.meaning store.now) o seen.now }
     ensures { (o : Option ℕ) → IsSought (B.meaning store.now) x o → LooksInto (B.meaning store.now) o at result }
 {
     if is_clear(store, x, at) {
         return Look::Ends(false);
     }
-    if seen.has(at) {
-        return Look::Ends(false);
-    }
     let view = store.walk(at);
     match variable_of(view) {
         Some(y) => Look::Ends(is_sought(x, y)),
-        None => Look::Goes(inner(view)),
+        None => match inner(view) {
+            Parts::Nothing => Look::Ends(false),
+            parts => Look::Goes(parts),
+        },
     }
 }
 
-// Whether an unbound variable stands in a value, or any, where none is given. The values in which it doesn't are noted,
-// and one that comes again soon isn't looked through again.
-fn finds<B: Bindings>(store: &mut B, x: Option<Ref>, at: Ref) -> bool
+// The same, where some values were looked through.
+#[inline(always)]
+fn look_again<B: Bindings>(store: &B, x: Option<Ref>, at: Ref, seen: &Seen) -> Look
+    requires x_in { (o : Option ℕ) × IsSought (B.meaning store.now) x o }
+    requires at_in { Holds (B.meaning store.now) at }
+    requires seen_in { (o : Option ℕ) → IsSought (B.meaning store.now) x o → AreClear (B.meaning store.now) o seen.now }
+    ensures { (o : Option ℕ) → IsSought (B.meaning store.now) x o → LooksInto (B.meaning store.now) o at result }
+{
+    match look_at(store, x, at) {
+        Look::Ends(found) => Look::Ends(found),
+        Look::Goes(inner) => {
+            if seen.has(at) {
+                return Look::Ends(false);
+            }
+            Look::Goes(inner)
+        }
+    }
+}
+
+// Whether an unbound variable stands in a value that has these parts, or any, where none is given. The values in which it
+// doesn't are noted, and one that comes again isn't looked through again.
+#[inline(never)]
+fn finds_in<B: Bindings>(store: &mut B, x: Option<Ref>, at: Ref, inner: Parts) -> bool
     requires x_in { (o : Option ℕ) × IsSought (B.meaning store.old) x o }
     requires at_in { Holds (B.meaning store.old) at }
+    requires opened { IsOpened (B.meaning store.old) at inner }
     requires room { HasRoom (B.meaning store.old) (length (B.waits store.old)) at }
     ensures same { B.meaning store.new ≡ B.meaning store.old }
     ensures saved { (ms : List Saved) → B.saves store.old ms → B.saves store.new ms }
@@ -94,11 +132,9 @@ fn finds<B: Bindings>(store: &mut B, x: Option<Ref>, at: Ref) -> bool
     ensures found { (o : Option ℕ) → IsSought (B.meaning store.old) x o → result ≡ finds_at (B.meaning store.old) o at }
 {
     let base = store.waiting();
-    let mut seen = Seen::new();
-    let mut parts = match look_into(store, x, at, &seen) {
-        Look::Ends(found) => return found,
-        Look::Goes(inner) => inner,
-    };
+    let mut seen = Seen::new(store.alloc());
+    let mut lasts = Seldom::new(7);
+    let mut parts = inner;
     'parts: loop {
         match split(store, parts) {
             None => match newest_above(store, base) {
@@ -108,14 +144,14 @@ fn finds<B: Bindings>(store: &mut B, x: Option<Ref>, at: Ref) -> bool
                     parts = wait.p;
                 }
             },
-            Some(front) => match look_into(store, x, front.first, &seen) {
+            Some(front) => match look_again(store, x, front.first, &seen) {
                 Look::Ends(true) => {
                     store.forget(base);
                     return true;
                 }
                 Look::Ends(false) => parts = front.rest,
                 Look::Goes(inner) => {
-                    put_behind(
+                    put_by(
                         store,
                         Wait {
                             a: front.first,
@@ -123,11 +159,28 @@ fn finds<B: Bindings>(store: &mut B, x: Option<Ref>, at: Ref) -> bool
                             p: front.rest,
                             q: front.rest,
                         },
+                        &mut lasts,
                     );
                     parts = inner;
                 }
             },
         }
+    }
+}
+
+// Whether an unbound variable stands in a value, or any, where none is given.
+fn finds<B: Bindings>(store: &mut B, x: Option<Ref>, at: Ref) -> bool
+    requires x_in { (o : Option ℕ) × IsSought (B.meaning store.old) x o }
+    requires at_in { Holds (B.meaning store.old) at }
+    requires room { HasRoom (B.meaning store.old) (length (B.waits store.old)) at }
+    ensures same { B.meaning store.new ≡ B.meaning store.old }
+    ensures saved { (ms : List Saved) → B.saves store.old ms → B.saves store.new ms }
+    ensures waits { B.waits store.new ≡ B.waits store.old }
+    ensures found { (o : Option ℕ) → IsSought (B.meaning store.old) x o → result ≡ finds_at (B.meaning store.old) o at }
+{
+    match look_at(store, x, at) {
+        Look::Ends(found) => found,
+        Look::Goes(inner) => finds_in(store, x, at, inner),
     }
 }
 

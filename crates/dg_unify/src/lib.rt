@@ -10,6 +10,7 @@ mod list;
 mod parts;
 mod room;
 mod seen;
+mod seldom;
 mod slots;
 mod unifying;
 

@@ -11,9 +11,10 @@ ghost use Rattle.dg_unify.specs.inside.Known.{AreEqual};
 ghost use Rattle.dg_unify.specs.inside.Turns.{IsUnbound, FollowsTurn, TurnsInto, IsFirstOf, Compares, met_of};
 
 use crate::bindings::{Bindings, Full, Ref, View};
-use crate::finding::{put_behind, stands_in};
+use crate::finding::{put_by, stands_in};
 use crate::known::Known;
 use crate::parts::{Parts, Wait, inner, split, variable_of};
+use crate::seldom::Seldom;
 use dg_base::Simple;
 
 /// How two values met: nothing is left, or the parts of both are.
@@ -257,7 +258,7 @@ fn first_of<B: Bindings>(store: &B, p: Parts, q: Parts) -> Option<First>
     }
 }
 
-// One turn of two values. Nothing is left of two that have parts and are known to be equal.
+// One turn of two values. Nothing is left of two that have no parts, or are known to be equal.
 fn turn<B: Bindings>(store: &mut B, a: Ref, b: Ref, known: &Known) -> Result<Met, Full>
     requires a_in { Holds (B.meaning store.old) a }
     requires b_in { Holds (B.meaning store.old) b }
@@ -272,6 +273,7 @@ fn turn<B: Bindings>(store: &mut B, a: Ref, b: Ref, known: &Known) -> Result<Met
     match meet(store, a, b) {
         Err(e) => Err(e),
         Ok(Met::Done(agreed)) => Ok(Met::Done(agreed)),
+        Ok(Met::Goes(Parts::Nothing, _)) => Ok(Met::Done(true)),
         Ok(Met::Goes(p, q)) => {
             if known.has(a, b) {
                 return Ok(Met::Done(true));
@@ -284,6 +286,7 @@ fn turn<B: Bindings>(store: &mut B, a: Ref, b: Ref, known: &Known) -> Result<Met
 // Makes each of some values equal to the one at its place among others, where these are the parts of two. The parts that
 // stand behind two others wait, and where nothing is left of these, the two are noted, so that they aren't looked through
 // again where they stand beside each other again.
+#[inline(never)]
 fn solve<B: Bindings>(store: &mut B, a: Ref, b: Ref, p: Parts, q: Parts) -> Result<bool, Full>
     requires a_in { Holds (B.meaning store.old) a }
     requires b_in { Holds (B.meaning store.old) b }
@@ -297,7 +300,8 @@ fn solve<B: Bindings>(store: &mut B, a: Ref, b: Ref, p: Parts, q: Parts) -> Resu
 {
     let mut p = p;
     let mut q = q;
-    let mut known = Known::new();
+    let mut known = Known::new(store.alloc());
+    let mut lasts = Seldom::new(7);
     'turns: loop {
         match first_of(store, p, q) {
             None => match store.take_up() {
@@ -316,7 +320,7 @@ fn solve<B: Bindings>(store: &mut B, a: Ref, b: Ref, p: Parts, q: Parts) -> Resu
                     q = first.q;
                 }
                 Ok(Met::Goes(v, w)) => {
-                    put_behind(
+                    put_by(
                         store,
                         Wait {
                             a: first.a,
@@ -324,6 +328,7 @@ fn solve<B: Bindings>(store: &mut B, a: Ref, b: Ref, p: Parts, q: Parts) -> Resu
                             p: first.p,
                             q: first.q,
                         },
+                        &mut lasts,
                     );
                     p = v;
                     q = w;

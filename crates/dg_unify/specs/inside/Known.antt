@@ -1,6 +1,7 @@
 -- What is known of pairs of values that were made equal. Hold it against dg_meaning/specs/Substitutions.antt.
-use Rattle.std.specs.Prelude.{◌≡◌, Option, Some, None}
+use Rattle.std.specs.Prelude.{◌≡◌, ℕ, Option, Some, None, nat_eq}
 use Rattle.std.specs.List.{All}
+use Rattle.indexmap.specs.IndexMap.{get}
 use Rattle.dg_meaning.specs.Substitutions.{resolved}
 use Rattle.dg_unify.specs.Store.{Store, told, Holds}
 use Rattle.dg_unify.specs.declared.bindings.Ref.{Ref}
@@ -17,6 +18,7 @@ abbrev pub is_equal_pair : Store → Option (Ref × Ref) → Type 0
 is_equal_pair s None = Unit {0}
 is_equal_pair s (Some p) = IsEqual s p.0 p.1
 
--- The values of each pair are equal.
-abbrev pub AreEqual : Store → Known → Type 0
-AreEqual s known = All (is_equal_pair s) known.pairs
+-- The values of each pair are equal, and each value is equal to its next.
+pub record AreEqual (s : Store) (known : Known) : Type 0 where
+  pub pairs : All (is_equal_pair s) known.pairs
+  pub nexts : (n : ℕ) (r : Ref) → get nat_eq known.nexts n ≡ Some r → IsEqual s (record { 0 = n }) r

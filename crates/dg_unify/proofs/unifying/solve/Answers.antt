@@ -4,7 +4,7 @@ use Rattle.dg_meaning.proofs.Solving.{solve_extends}
 use Rattle.dg_unify.specs.Store.{told, Does}
 use Rattle.dg_unify.specs.inside.Known.{AreEqual}
 use Rattle.dg_unify.specs.inside.Turns.{AreLeft}
-use Rattle.dg_unify.specs.Waits.{with_parts}
+use Rattle.dg_unify.specs.Waits.{PutsBy}
 use Rattle.dg_unify.specs.declared.parts.Wait.{Wait}
 use Rattle.dg_unify.proofs.KnownLemmas.{equal_behind, equal_made}
 use Rattle.dg_unify.proofs.Goings.{Going, equations, need, going_starts, going_ends, going_up, first_stops, first_clashes, going_past, past_smaller, going_into, into_smaller}
@@ -67,8 +67,8 @@ turn-requires-clause-b_room g c =
     let f = c.in-Some.ensures in
     nesting_room (g.B.Bindings.meaning c.turns.store) (g.met.B.Bindings.sound c.turns.store) (g.met.B.Bindings.placed c.turns.store) (λ w. w.b) (λ w. w.q) c.args.b c.turns.q (g.B.Bindings.waits c.turns.store) c.turns.invariant.right c.in-Some.first.b c.in-Some.first.q f.right f.b_in f.q_in
 
-pub put_behind-requires : goal.put_behind-requires
-put_behind-requires g c =
+pub put_by-requires : goal.put_by-requires
+put_by-requires g c =
     let f = c.in-Some.ensures in
     let now = g.B.Bindings.meaning c.turns.store in
     let left_over : AreLeft now (g.B.Bindings.meaning c.turn.new.store) c.in-Some.first.a c.in-Some.first.b c.in-Ok-Goes.v c.in-Ok-Goes.w = rw c.in-Ok-Goes.field-0-is at c.in-Ok-Goes.ensures.met in
@@ -134,6 +134,7 @@ turns-preserved g c =
     let sound = g.met.B.Bindings.sound c.turns.store in
     let placed = g.met.B.Bindings.placed c.turns.store in
     let ws = g.B.Bindings.waits c.turns.store in
+    let new = g.B.Bindings.waits c.put_by.new.store in
     let first = c.in-Some.first in
     let f = c.in-Some.ensures in
     let i = c.turns.invariant in
@@ -141,19 +142,18 @@ turns-preserved g c =
     let w = c.in-Ok-Goes.w in
     let wait : Wait = record { a = first.a; b = first.b; p = first.p; q = first.q } in
     let met : AreLeft now (g.B.Bindings.meaning c.turn.new.store) first.a first.b v w = rw c.in-Ok-Goes.field-0-is at c.in-Ok-Goes.ensures.met in
-    let back = sym (c.put_behind.ensures.same ∙ met.same) in
+    let back = sym (c.put_by.ensures.same ∙ met.same) in
     let here : AreLeft now now first.a first.b v w = subst (λ s. AreLeft now s first.a first.b v w) met.same met in
-    let same = sym (c.put_behind.ensures.waits ∙ ap (with_parts first.p wait) c.turn.ensures.waits) in
+    let put : PutsBy wait ws new = subst (λ l. PutsBy wait l new) c.turn.ensures.waits c.put_by.ensures.waits in
     let es = equations old c.args.p c.args.q in
     record {
-      going = subst (λ l. Going old (g.B.Bindings.meaning c.put_behind.new.store) es v w l) same (subst (λ s. Going old s es v w (with_parts first.p wait ws)) back (going_into old now sound es c.turns.p c.turns.q ws i.going first f v w here));
-      saved = λ ms k. c.put_behind.ensures.saved ms (c.turn.ensures.saved ms (i.saved ms k));
-      left = subst (λ l. Nesting (g.B.Bindings.meaning c.put_behind.new.store) (λ u. u.a) (λ u. u.p) c.args.a v l) same (subst (λ s. Nesting s (λ u. u.a) (λ u. u.p) c.args.a v (with_parts first.p wait ws)) back
-          (nesting_into now sound placed (λ u. u.a) (λ u. u.p) c.args.a c.turns.p ws i.left first.a first.p f.left f.a_in f.p_in v here.left wait refl refl first.p));
-      right = subst (λ l. Nesting (g.B.Bindings.meaning c.put_behind.new.store) (λ u. u.b) (λ u. u.q) c.args.b w l) same (subst (λ s. Nesting s (λ u. u.b) (λ u. u.q) c.args.b w (with_parts first.p wait ws)) back
-          (nesting_into now sound placed (λ u. u.b) (λ u. u.q) c.args.b c.turns.q ws i.right first.b first.q f.right f.b_in f.q_in w here.right wait refl refl first.p));
-      settled = subst (λ l. Settled (g.B.Bindings.meaning c.put_behind.new.store) (equations (g.B.Bindings.meaning c.put_behind.new.store) v w) l) same (subst (λ s. Settled s (equations s v w) (with_parts first.p wait ws)) back
-          (settled_into now c.turns.p c.turns.q ws i.going.waits_in i.settled first f sound v w here));
+      going = subst (λ s. Going old s es v w new) back (going_into old now sound es c.turns.p c.turns.q ws i.going first f v w here new put);
+      saved = λ ms k. c.put_by.ensures.saved ms (c.turn.ensures.saved ms (i.saved ms k));
+      left = subst (λ s. Nesting s (λ u. u.a) (λ u. u.p) c.args.a v new) back
+          (nesting_into now sound placed (λ u. u.a) (λ u. u.p) c.args.a c.turns.p ws i.left first.a first.p f.left f.a_in f.p_in v here.left wait refl refl new put);
+      right = subst (λ s. Nesting s (λ u. u.b) (λ u. u.q) c.args.b w new) back
+          (nesting_into now sound placed (λ u. u.b) (λ u. u.q) c.args.b c.turns.q ws i.right first.b first.q f.right f.b_in f.q_in w here.right wait refl refl new put);
+      settled = subst (λ s. Settled s (equations s v w) new) back (settled_into now c.turns.p c.turns.q ws i.going.waits_in i.settled first f sound v w here new put);
       known = subst (λ s. AreEqual s c.turns.known) back i.known;
     }
 
@@ -163,14 +163,14 @@ turns-smaller g c =
     let now = g.B.Bindings.meaning c.turns.store in
     let sound = g.met.B.Bindings.sound c.turns.store in
     let ws = g.B.Bindings.waits c.turns.store in
+    let new = g.B.Bindings.waits c.put_by.new.store in
     let first = c.in-Some.first in
     let v = c.in-Ok-Goes.v in
     let w = c.in-Ok-Goes.w in
     let wait : Wait = record { a = first.a; b = first.b; p = first.p; q = first.q } in
     let met : AreLeft now (g.B.Bindings.meaning c.turn.new.store) first.a first.b v w = rw c.in-Ok-Goes.field-0-is at c.in-Ok-Goes.ensures.met in
-    let back = sym (c.put_behind.ensures.same ∙ met.same) in
+    let back = sym (c.put_by.ensures.same ∙ met.same) in
     let here : AreLeft now now first.a first.b v w = subst (λ s. AreLeft now s first.a first.b v w) met.same met in
-    let same = sym (c.put_behind.ensures.waits ∙ ap (with_parts first.p wait) c.turn.ensures.waits) in
-    subst (λ l. need (g.B.Bindings.meaning c.put_behind.new.store) v w l < need now c.turns.p c.turns.q ws) same
-    (subst (λ s. need s v w (with_parts first.p wait ws) < need now c.turns.p c.turns.q ws) back
-    (into_smaller old now sound (equations old c.args.p c.args.q) c.turns.p c.turns.q ws c.turns.invariant.going first c.in-Some.ensures v w here))
+    let put : PutsBy wait ws new = subst (λ l. PutsBy wait l new) c.turn.ensures.waits c.put_by.ensures.waits in
+    subst (λ s. need s v w new < need now c.turns.p c.turns.q ws) back
+    (into_smaller old now sound (equations old c.args.p c.args.q) c.turns.p c.turns.q ws c.turns.invariant.going first c.in-Some.ensures v w here new put)

@@ -3,7 +3,7 @@ use Rattle.dg_meaning.specs.Values.{NoMore}
 use Rattle.dg_unify.specs.Parts.{values_of, IsSplit, IsOpened}
 use Rattle.dg_unify.specs.Finds.{IsSought, finds_at, AreClear}
 use Rattle.dg_unify.proofs.FindLemmas.{search_starts, search_up, search_found, search_past, past_smaller, room_for, search_into, into_smaller}
-use Rattle.dg_unify.proofs.finding.finds.Goals as goal
+use Rattle.dg_unify.proofs.finding.finds_in.Goals as goal
 
 pub parts-init : goal.parts-init
 parts-init g c =
@@ -11,11 +11,11 @@ parts-init g c =
     record {
       same = refl;
       saved = λ ms h. h;
-      search = search_starts s (g.met.B.Bindings.sound c.args.store.now) c.args.x c.args.at (g.B.Bindings.waits c.args.store.now) c.in-Goes.inner c.new-seen.result (c.in-Goes.ensures c.requires.x_in.0 c.requires.x_in.1) (λ o k. c.new-seen.ensures (finds_at s o));
+      search = search_starts s (g.met.B.Bindings.sound c.args.store.now) c.args.x c.args.at (g.B.Bindings.waits c.args.store.now) c.args.inner c.new-seen.result c.requires.opened (λ o k. c.new-seen.ensures (finds_at s o));
     }
 
-pub look_into-requires-in-Some-clause-seen_in : goal.look_into-requires-in-Some-clause-seen_in
-look_into-requires-in-Some-clause-seen_in g c =
+pub look_again-requires-clause-seen_in : goal.look_again-requires-clause-seen_in
+look_again-requires-clause-seen_in g c =
     subst (λ t. (o : _) → IsSought t c.args.x o → AreClear t o c.parts.seen) (sym c.parts.invariant.same) c.parts.invariant.search.clear
 
 pub parts-preserved-in-Some-newest_above : goal.parts-preserved-in-Some-newest_above
@@ -56,8 +56,8 @@ parts-smaller-in-Ends-false g c =
     past_smaller (g.B.Bindings.meaning c.args.store.now) (g.met.B.Bindings.sound c.args.store.now) c.args.x c.args.at (g.B.Bindings.waits c.args.store.now) (g.B.Bindings.waits c.parts.store) c.parts.parts c.parts.seen c.parts.invariant.search c.in-Some.front
     (subst (λ t. IsSplit t c.parts.parts c.in-Some.front) c.parts.invariant.same c.in-Some.ensures)
 
-pub put_behind-requires : goal.put_behind-requires
-put_behind-requires g c =
+pub put_by-requires : goal.put_by-requires
+put_by-requires g c =
     let s = g.B.Bindings.meaning c.args.store.now in
     let same = c.parts.invariant.same in
     subst (λ t. length (g.B.Bindings.waits c.parts.store) < t.places) (sym same)
@@ -69,12 +69,12 @@ parts-preserved g c =
     let s = g.B.Bindings.meaning c.args.store.now in
     let same = c.parts.invariant.same in
     let o = c.requires.x_in.0 in
-    let opened = subst (λ t. IsOpened t c.in-Some.front.first c.in-Goes-look_into.inner) same (c.in-Goes-look_into.ensures o (subst (λ t. IsSought t c.args.x o) (sym same) c.requires.x_in.1)) in
+    let opened = subst (λ t. IsOpened t c.in-Some.front.first c.in-Goes.inner) same (c.in-Goes.ensures o (subst (λ t. IsSought t c.args.x o) (sym same) c.requires.x_in.1)) in
     record {
-      same = c.put_behind.ensures.same ∙ same;
-      saved = λ ms k. c.put_behind.ensures.saved ms (c.parts.invariant.saved ms k);
+      same = c.put_by.ensures.same ∙ same;
+      saved = λ ms k. c.put_by.ensures.saved ms (c.parts.invariant.saved ms k);
       search = search_into s (g.met.B.Bindings.sound c.args.store.now) c.args.x c.args.at (g.B.Bindings.waits c.args.store.now) (g.B.Bindings.waits c.parts.store) c.parts.parts c.parts.seen c.parts.invariant.search c.in-Some.front
-          (subst (λ t. IsSplit t c.parts.parts c.in-Some.front) same c.in-Some.ensures) c.in-Goes-look_into.inner opened (g.B.Bindings.waits c.put_behind.new.store) c.put_behind.ensures.waits;
+          (subst (λ t. IsSplit t c.parts.parts c.in-Some.front) same c.in-Some.ensures) c.in-Goes.inner opened (g.B.Bindings.waits c.put_by.new.store) c.put_by.ensures.waits;
     }
 
 pub parts-smaller : goal.parts-smaller
@@ -82,6 +82,6 @@ parts-smaller g c =
     let s = g.B.Bindings.meaning c.args.store.now in
     let same = c.parts.invariant.same in
     let o = c.requires.x_in.0 in
-    let opened = subst (λ t. IsOpened t c.in-Some.front.first c.in-Goes-look_into.inner) same (c.in-Goes-look_into.ensures o (subst (λ t. IsSought t c.args.x o) (sym same) c.requires.x_in.1)) in
+    let opened = subst (λ t. IsOpened t c.in-Some.front.first c.in-Goes.inner) same (c.in-Goes.ensures o (subst (λ t. IsSought t c.args.x o) (sym same) c.requires.x_in.1)) in
     into_smaller s (g.met.B.Bindings.sound c.args.store.now) c.args.x c.args.at (g.B.Bindings.waits c.args.store.now) (g.B.Bindings.waits c.parts.store) c.parts.parts c.parts.seen c.parts.invariant.search c.in-Some.front
-    (subst (λ t. IsSplit t c.parts.parts c.in-Some.front) same c.in-Some.ensures) c.in-Goes-look_into.inner opened (g.B.Bindings.waits c.put_behind.new.store) c.put_behind.ensures.waits
+    (subst (λ t. IsSplit t c.parts.parts c.in-Some.front) same c.in-Some.ensures) c.in-Goes.inner opened (g.B.Bindings.waits c.put_by.new.store) c.put_by.ensures.waits

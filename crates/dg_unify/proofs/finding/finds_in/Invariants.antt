@@ -1,7 +1,7 @@
 use Rattle.std.proofs.Common.{◌≡◌, List}
 use Rattle.dg_unify.specs.Store.{Saved}
 use Rattle.dg_unify.proofs.FindLemmas.{Searching, left_in}
-use Rattle.dg_unify.proofs.finding.finds.Given as goal
+use Rattle.dg_unify.proofs.finding.finds_in.Given as goal
 
 abbrev pub invariant-parts : goal.invariant-parts
 invariant-parts g l = record {
