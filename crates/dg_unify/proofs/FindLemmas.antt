@@ -1,5 +1,5 @@
 -- How a walk through a value goes on, and what is left of it.
-use Rattle.std.proofs.Common.{◌≡◌, ℕ, ◌+◌, ◌*◌, ◌<◌, ◌≤◌, List, [], ◌∷◌, ◌++◌, Bool, true, false, refl, sym, ap, ◌∙◌, arith, subst, Option, Some, None, inl, inr, length, length-append}
+use Rattle.std.proofs.Common.{◌≡◌, ℕ, ◌+◌, ◌*◌, ◌<◌, List, [], ◌∷◌, ◌++◌, Bool, true, false, refl, sym, ap, ◌∙◌, arith, subst, Option, Some, None, inl, inr, length, length-append}
 use Rattle.std.specs.Prelude.{◌||◌}
 use Rattle.dg_meaning.specs.Values.{Value, Var, Node, Values, NoMore, More}
 use Rattle.dg_meaning.specs.Substitutions.{Substitution, resolved, all_resolved, contains, any_contains, IsSubstitution}

@@ -1,5 +1,5 @@
--- What is known to be equal stays equal, and what was made equal is.
-use Rattle.std.proofs.Common.{◌≡◌, ℕ, List, [], ◌∷◌, ◌++◌, true, refl, sym, ◌∙◌, subst, Option, Some, None, slice_index_or, nat_eq}
+-- What is known to be equal stays equal, what was made equal is, and what steps lead to.
+use Rattle.std.proofs.Common.{◌≡◌, ℕ, List, [], ◌∷◌, ◌++◌, true, refl, sym, ap, ◌∙◌, subst, Option, Some, None, nat_eq}
 use Rattle.std.specs.List.{All}
 use Rattle.std.specs.Prelude.{Ok, Bool, cond}
 use Rattle.std.proofs.lemmas.Bool.{eqb-true, cond_both}
@@ -20,7 +20,6 @@ use Rattle.dg_unify.specs.declared.parts.Parts.{Parts}
 use Rattle.dg_unify.specs.declared.unifying.Met.TheVariants as met
 use Rattle.dg_unify.proofs.StoreLemmas.{kept_holds, kept_told}
 use Rattle.dg_unify.proofs.Meets.{more_same}
-use Rattle.dg_unify.proofs.NoteLemmas.{at_place, same_ref}
 
 module _ (old new : Store) (kept : Kept old new) (made : Substitution) (is : new.state.subst ≡ made ++ old.state.subst) where
   equal_kept : (a b : Ref) → IsEqual old a b → IsEqual new a b
@@ -63,29 +62,16 @@ equal_done s sound a b h =
 pub left_done : (old new : Store) → IsSubstitution old.state.subst → (a b : Ref) (p q : Parts) → AreLeft old new a b p q → IsEqual old a b → TurnsInto old new a b (Ok (met.Done true))
 left_done old new sound a b p q left h = subst (λ (s : Store). Does old s (unify old.state.subst (told old a) (told old b)) true) (sym left.same) (equal_done old sound a b h)
 
-pub noted : (s : Store) (ps : List (Option (Ref × Ref))) (i : ℕ) (p : Ref × Ref) (a b : Ref) → All (is_equal_pair s) ps → slice_index_or ps i None ≡ Some p → p.0.0 ≡ a.0 → nat_eq p.1.0 b.0 ≡ true → IsEqual s a b
-noted s ps i p a b h there ea eb =
-    let here : IsEqual s p.0 p.1 = rw there at (at_place (is_equal_pair s) ps i tt h) in
-    subst (λ (r : Ref). IsEqual s a r) (same_ref p.1 b (eqb-true p.1.0 b.0 eb)) (subst (λ (r : Ref). IsEqual s r p.1) (same_ref p.0 a ea) here)
-
 -- ## Steps from value to value
+
+same_ref : (a b : Ref) → a.0 ≡ b.0 → a ≡ b
+same_ref a b h = ap (λ (k : ℕ). let x : Ref = record { 0 = k } in x) h
 
 pub equal_self : (s : Store) (a b : Ref) → Holds s a → a.0 ≡ b.0 → IsEqual s a b
 equal_self s a b h e = subst (λ (r : Ref). IsEqual s a r) (same_ref a b e) (record { a_in = h; b_in = h; same = refl })
 
-pub equal_turned : (s : Store) (a b : Ref) → IsEqual s a b → IsEqual s b a
-equal_turned s a b h = record { a_in = h.b_in; b_in = h.a_in; same = sym h.same }
-
 pub equal_on : (s : Store) (a b c : Ref) → IsEqual s a b → IsEqual s b c → IsEqual s a c
 equal_on s a b c h k = record { a_in = h.a_in; b_in = k.b_in; same = h.same ∙ k.same }
-
--- two that lead to the same
-pub equal_ends : (s : Store) (a b x y : Ref) → IsEqual s a x → IsEqual s b y → x.0 ≡ y.0 → IsEqual s a b
-equal_ends s a b x y ha hb e = equal_on s a x b ha (equal_on s x y b (equal_self s x y ha.b_in e) (equal_turned s b y hb))
-
--- the ends of two that are equal
-pub equal_between : (s : Store) (a b x y : Ref) → IsEqual s a b → IsEqual s a x → IsEqual s b y → IsEqual s x y
-equal_between s a b x y h ha hb = equal_on s x a y (equal_turned s a x ha) (equal_on s a b y h hb)
 
 -- one more leads on
 pub leads_on : (s : Store) (from to : Ref) (old new : ℕ → Option Ref) → ((n : ℕ) (r : Ref) → old n ≡ Some r → IsEqual s (record { 0 = n }) r) → IsEqual s from to → ((n : ℕ) → new n ≡ cond (nat_eq from.0 n) (Some to) (old n)) → (n : ℕ) (r : Ref) → new n ≡ Some r → IsEqual s (record { 0 = n }) r

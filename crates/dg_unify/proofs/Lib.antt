@@ -14,6 +14,4 @@ pub mod Tops
 pub mod Meets
 pub mod Goings
 pub mod Settling
-pub mod NoteLemmas
-pub mod SeenLemmas
 pub mod KnownLemmas

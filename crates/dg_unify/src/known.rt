@@ -12,8 +12,8 @@ use std::alloc::Global;
 /// How many steps lead from a value, at most.
 const FARTHEST: u8 = 64;
 
-/// Some of the pairs of values that were made equal: each at a place that the number of its first gives, and where many
-/// had to give their place to others, some values each with another that it is equal to.
+/// Some of the pairs of values that were made equal, each at a place that the number of its first gives. Where many would
+/// take the place of others, steps lead from the values of one of two to the same value.
 #[derive(Drop)]
 pub struct Known {
     pairs: [Option<(Ref, Ref)>; 64],
@@ -33,7 +33,7 @@ impl Known {
         ensures { (s : Store) → AreEqual s result }
     {
         let nexts = IndexMap::new(alloc);
-        let kept = Seldom::new(3);
+        let kept = Seldom::new(1);
         Known {
             pairs: [None; 64],
             nexts,

@@ -9,8 +9,8 @@ use crate::seldom::Seldom;
 use indexmap::IndexSet;
 use std::alloc::Global;
 
-/// Some of the values that were looked through: each at a place that its number gives, and where many had to give their
-/// place to others, some beside these.
+/// Some of the values that were looked through, each at a place that its number gives. Where many would take the place of
+/// others, one of two is kept beside them too, so that what is looked through again is a part of it all.
 #[derive(Drop)]
 pub struct Seen {
     refs: [Option<Ref>; 64],
@@ -24,7 +24,7 @@ impl Seen {
         ensures { (finds : Number → Bool) → AreFree finds result }
     {
         let beside = IndexSet::new(alloc);
-        let kept = Seldom::new(3);
+        let kept = Seldom::new(1);
         Seen {
             refs: [None; 64],
             beside,

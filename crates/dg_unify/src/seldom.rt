@@ -1,21 +1,21 @@
-// A count by which one of many is taken.
+// A count by which few of many are taken.
 
 /// How many go by before the first is taken.
-const AT_FIRST: u16 = 1000;
+const AT_FIRST: u16 = 4000;
 
-/// Says of one of many that it is taken: not before there were many, and then one of so many.
+/// Takes none of the first of many, and then one of so many.
 #[derive(Clone, Copy)]
 pub struct Seldom {
     left: u16,
-    each: u16,
+    between: u16,
 }
 
 impl Seldom {
-    /// One of so many, and one more.
-    pub fn new(each: u16) -> Seldom {
+    /// So many go by between two that are taken.
+    pub fn new(between: u16) -> Seldom {
         Seldom {
             left: AT_FIRST,
-            each,
+            between,
         }
     }
 
@@ -23,7 +23,7 @@ impl Seldom {
     #[inline(always)]
     pub fn takes(&mut self) -> bool {
         if self.left == 0 {
-            self.left = self.each;
+            self.left = self.between;
             return true;
         }
         self.left -= 1;

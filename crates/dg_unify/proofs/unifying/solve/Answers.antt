@@ -1,4 +1,4 @@
-use Rattle.std.proofs.Common.{◌≡◌, ◌∙◌, ◌<◌, [], ◌∷◌, true, refl, sym, ap, subst, length}
+use Rattle.std.proofs.Common.{◌≡◌, ◌∙◌, ◌<◌, [], ◌∷◌, true, refl, sym, subst, length}
 use Rattle.dg_meaning.specs.Unify.{unify, solve}
 use Rattle.dg_meaning.proofs.Solving.{solve_extends}
 use Rattle.dg_unify.specs.Store.{told, Does}
