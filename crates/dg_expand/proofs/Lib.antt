@@ -1,5 +1,7 @@
 pub mod Examples
 pub mod BuiltLemmas
+pub mod MarkLemmas
+pub mod ChainLemmas
 pub mod PlaceLemmas
 pub mod StepLemmas
 pub mod RuleLemmas

@@ -19,7 +19,7 @@ use Rattle.dg_base.specs.declared.mentions.Role.{Role}
 use Rattle.dg_base.specs.declared.mentions.Role.TheVariants as role
 use Rattle.dg_expand.specs.Put.{Access}
 use Rattle.dg_expand.specs.inside.Putting.{access_view}
-use Rattle.dg_expand.specs.declared.place.Access.{Access as CodeAccess}
+use Rattle.dg_expand.specs.declared.access.Access.{Access as CodeAccess}
 use Rattle.dg_expand.specs.Expanded.{access_in, access_rules}
 use Rattle.dg_expand.specs.Loops.{asks, asks_for, mentions, reaches, loops, first_looping}
 use Rattle.dg_expand.specs.inside.Reached.{is_set, is_in, row_at, rows_of, Leads, begins, goes, IsReached}

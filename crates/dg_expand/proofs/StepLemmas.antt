@@ -22,7 +22,7 @@ use Rattle.dg_access.specs.declared.work.Wrap.{Wrap}
 use Rattle.dg_access.proofs.Views.{each_branch}
 use Rattle.dg_expand.specs.Put.{Access, Spot, Level, level, rule_for, change_access, one_change, change_by, with_change, changes_in, list_queries, is_own_parameter, argument_for, own_name, put_values, put_parts, put_stmts, put_body, put_arms, put_changes}
 use Rattle.dg_expand.specs.inside.Putting.{Around, access_view, closed_around, copied_around, after_value, after_values, after_parts, after_stmt, after_stmts, after_branches, after_body, after_arms, after_changes, does, run, bare, wrap_of, IsPutOff}
-use Rattle.dg_expand.specs.declared.place.Access.{Access as CodeAccess}
+use Rattle.dg_expand.specs.declared.access.Access.{Access as CodeAccess}
 use Rattle.dg_expand.specs.declared.place.Place.{Place as CodePlace}
 use Rattle.dg_expand.specs.declared.work.Work.{Work}
 use Rattle.dg_expand.specs.declared.work.Work.TheVariants as work

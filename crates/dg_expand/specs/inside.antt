@@ -1,3 +1,5 @@
+pub mod Chains
+pub mod Marks
 pub mod Putting
 pub mod Reached
 pub mod Rows

@@ -11,9 +11,10 @@ ghost use Rattle.dg_expand.specs.Expanded.{put_item};
 ghost use Rattle.dg_expand.specs.inside.Putting.{access_view};
 ghost use Rattle.dg_expand.specs.inside.Weights.{IsOver};
 
+use crate::chains::Rules;
 use crate::closed::are_bad;
+use crate::finding::rules_among;
 use crate::loops::first_looping;
-use crate::place::Access;
 use crate::release::let_go_items;
 use crate::rules::{access_rules, put_item};
 use bumpalo::Bump;
@@ -31,12 +32,12 @@ fn refused(kind: Kind, line: u32) -> ReadFault
 // Why what an item becomes is refused, of the counts of what came before it.
 fn cause_of(
     alloc: Global,
-    rules: &[Access<'_>],
+    rules: Rules<'_>,
     counts: &mut Counts,
     new: &[Item],
 ) -> Result<Option<Kind>, AllocError>
     ensures cause { (before : List tree.Item) → counts_view counts.old ≡ counts_of before → IfOk result (λ cause. cause
-        ≡ spec.cause_of (map access_view rules.now) before (map item_view new.now)) }
+        ≡ spec.cause_of (map access_view rules.entry.all.now) before (map item_view new.now)) }
     ensures counted { (before : List tree.Item) → counts_view counts.old ≡ counts_of before → OnOk result (counts_view counts.new
         ≡ counts_of (before ++ map item_view new.now)) }
 {
@@ -53,11 +54,11 @@ fn cause_of(
 fn new_items<'a>(
     alloc: Global,
     bump: &'a Bump,
-    rules: &'a [Access<'a>],
+    rules: Rules<'a>,
     item: &'a Item,
 ) -> Result<Option<Vec<Item>>, AllocError>
-    ensures new { IfOk result (λ all. IfSome all (λ new. map item_view new.items ≡ put_item (map access_view rules.now) (item_view item.now))) }
-    ensures large { IfOk result (λ all. IfNone all (IsOver (put_item (map access_view rules.now) (item_view item.now)))) }
+    ensures new { IfOk result (λ all. IfSome all (λ new. map item_view new.items ≡ put_item (map access_view rules.entry.all.now) (item_view item.now))) }
+    ensures large { IfOk result (λ all. IfNone all (IsOver (put_item (map access_view rules.entry.all.now) (item_view item.now)))) }
 {
     let mut new = Vec::new(alloc);
     if put_item(alloc, bump, rules, &mut new, item)? {
@@ -72,15 +73,16 @@ fn new_items<'a>(
 fn add_item<'a>(
     alloc: Global,
     bump: &'a Bump,
-    rules: &'a [Access<'a>],
+    rules: Rules<'a>,
     counts: &mut Counts,
     out: &mut Vec<Item>,
     item: &'a Item,
 ) -> Result<Option<Kind>, AllocError>
     ensures cause { counts_view counts.old ≡ counts_of (map item_view out.old.items) → IfOk result (λ cause. cause
-        ≡ spec.cause_of (map access_view rules.now) (map item_view out.old.items) (put_item (map access_view rules.now) (item_view item.now))) }
+        ≡ spec.cause_of (map access_view rules.entry.all.now) (map item_view out.old.items)
+        (put_item (map access_view rules.entry.all.now) (item_view item.now))) }
     ensures added { IfOk result (λ cause. cause ≡ None → map item_view out.new.items
-        ≡ map item_view out.old.items ++ put_item (map access_view rules.now) (item_view item.now)) }
+        ≡ map item_view out.old.items ++ put_item (map access_view rules.entry.all.now) (item_view item.now)) }
     ensures counted { counts_view counts.old ≡ counts_of (map item_view out.old.items) → IfOk result (λ cause. cause ≡ None
         → counts_view counts.new ≡ counts_of (map item_view out.new.items)) }
 {
@@ -98,11 +100,11 @@ fn add_item<'a>(
 fn put_all<'a>(
     alloc: Global,
     bump: &'a Bump,
-    rules: &'a [Access<'a>],
+    rules: Rules<'a>,
     items: &'a [Item],
 ) -> Result<Vec<Item>, ReadFault>
-    ensures put { IfOk result (λ new. IsPut (map access_view rules.now) (map item_view items.now) (Ok (map item_view new.items))) }
-    ensures refused { IfErr result (IsFault (λ r. IsPut (map access_view rules.now) (map item_view items.now) (Err r))) }
+    ensures put { IfOk result (λ new. IsPut (map access_view rules.entry.all.now) (map item_view items.now) (Ok (map item_view new.items))) }
+    ensures refused { IfErr result (IsFault (λ r. IsPut (map access_view rules.entry.all.now) (map item_view items.now) (Err r))) }
 {
     let mut out = Vec::new(alloc);
     let mut counts = uncounted();
@@ -118,11 +120,11 @@ fn put_all<'a>(
 fn put_in<'a>(
     alloc: Global,
     bump: &'a Bump,
-    rules: &'a [Access<'a>],
+    rules: Rules<'a>,
     items: &'a [Item],
 ) -> Result<Tree, ReadFault>
-    ensures put { IfOk result (λ new. IsPut (map access_view rules.now) (map item_view items.now) (Ok (tree_view new))) }
-    ensures refused { IfErr result (IsFault (λ r. IsPut (map access_view rules.now) (map item_view items.now) (Err r))) }
+    ensures put { IfOk result (λ new. IsPut (map access_view rules.entry.all.now) (map item_view items.now) (Ok (tree_view new))) }
+    ensures refused { IfErr result (IsFault (λ r. IsPut (map access_view rules.entry.all.now) (map item_view items.now) (Err r))) }
 {
     let new = put_all(alloc, bump, rules, items)?;
     Ok(Tree {
@@ -138,11 +140,12 @@ pub fn expand(alloc: Global, tree: &Tree) -> Result<Tree, ReadFault>
 {
     let bump = Bump::new(alloc);
     let items = tree.items.as_slice();
-    let rules = access_rules(alloc, &bump, items)?;
-    let looping = first_looping(alloc, rules.as_slice(), items)?;
+    let all = access_rules(alloc, &bump, items)?;
+    let rules = rules_among(alloc, &bump, all.as_slice())?;
+    let looping = first_looping(alloc, rules, items)?;
     match looping {
         Some(line) => Err(refused(Kind::AccessLoop, line)),
-        None => put_in(alloc, &bump, rules.as_slice(), items),
+        None => put_in(alloc, &bump, rules, items),
     }
 }
 

@@ -8,7 +8,8 @@ ghost use Rattle.dg_base.specs.Walk.{mention_view, thing_at, things_at, seen};
 ghost use Rattle.dg_expand.specs.Expanded as spec;
 ghost use Rattle.dg_expand.specs.inside.Putting.{access_view};
 
-use crate::place::{Access, rule_among};
+use crate::chains::Rules;
+use crate::finding::rule_among;
 use dg_base::{
     Builtin, Head, Item, ItemBody, Mention, Part, Role, builtin_of, is_prelude_name, mentions_of,
 };
@@ -25,8 +26,8 @@ fn is_fixed(builtin: Option<Builtin>) -> bool
     }
 }
 
-fn is_closed(rules: &[Access<'_>], parts: &[Part]) -> bool
-    ensures { result ≡ spec.is_closed (map access_view rules.now) (parts_of (map part_view parts.now)) }
+fn is_closed(rules: Rules<'_>, parts: &[Part]) -> bool
+    ensures { result ≡ spec.is_closed (map access_view rules.entry.all.now) (parts_of (map part_view parts.now)) }
 {
     is_fixed(builtin_of(parts)) || is_prelude_name(parts) || rule_among(rules, parts).is_some()
 }
@@ -43,8 +44,8 @@ fn values_in(parts: &[Part]) -> usize
     count
 }
 
-fn is_bad_role(rules: &[Access<'_>], role: Role, head: &Head) -> bool
-    ensures { result ≡ spec.is_misplaced (map access_view rules.now) (query role (head_view head.now)) }
+fn is_bad_role(rules: Rules<'_>, role: Role, head: &Head) -> bool
+    ensures { result ≡ spec.is_misplaced (map access_view rules.entry.all.now) (query role (head_view head.now)) }
 {
     let parts = head.parts.as_slice();
     match role {
@@ -54,8 +55,8 @@ fn is_bad_role(rules: &[Access<'_>], role: Role, head: &Head) -> bool
     }
 }
 
-fn is_bad(rules: &[Access<'_>], mention: Mention<'_>) -> bool
-    ensures { result ≡ list_any (spec.is_misplaced (map access_view rules.now)) (thing_at (mention_view mention.entry)) }
+fn is_bad(rules: Rules<'_>, mention: Mention<'_>) -> bool
+    ensures { result ≡ list_any (spec.is_misplaced (map access_view rules.entry.all.now)) (thing_at (mention_view mention.entry)) }
 {
     match mention {
         Mention::Query(role, head) => is_bad_role(rules, role, head),
@@ -63,8 +64,8 @@ fn is_bad(rules: &[Access<'_>], mention: Mention<'_>) -> bool
     }
 }
 
-fn any_bad(rules: &[Access<'_>], mentions: &[Mention<'_>]) -> bool
-    ensures { result ≡ list_any (spec.is_misplaced (map access_view rules.now)) (things_at (seen mentions.now)) }
+fn any_bad(rules: Rules<'_>, mentions: &[Mention<'_>]) -> bool
+    ensures { result ≡ list_any (spec.is_misplaced (map access_view rules.entry.all.now)) (things_at (seen mentions.now)) }
 {
     for mention in mentions {
         if is_bad(rules, *mention) {
@@ -74,16 +75,16 @@ fn any_bad(rules: &[Access<'_>], mentions: &[Mention<'_>]) -> bool
     false
 }
 
-fn is_bad_item(alloc: Global, rules: &[Access<'_>], said: &ItemBody) -> Result<bool, AllocError>
-    ensures { IfOk result (λ bad. bad ≡ list_any (spec.is_misplaced (map access_view rules.now)) (things_in (said_view said.now))) }
+fn is_bad_item(alloc: Global, rules: Rules<'_>, said: &ItemBody) -> Result<bool, AllocError>
+    ensures { IfOk result (λ bad. bad ≡ list_any (spec.is_misplaced (map access_view rules.entry.all.now)) (things_in (said_view said.now))) }
 {
     let mentions = mentions_of(alloc, said)?;
     Ok(any_bad(rules, mentions.as_slice()))
 }
 
 /// Whether in one of these items a head or a change stands where none may.
-pub fn are_bad(alloc: Global, rules: &[Access<'_>], items: &[Item]) -> Result<bool, AllocError>
-    ensures { IfOk result (λ bad. bad ≡ spec.are_bad (map access_view rules.now) (map item_view items.now)) }
+pub fn are_bad(alloc: Global, rules: Rules<'_>, items: &[Item]) -> Result<bool, AllocError>
+    ensures { IfOk result (λ bad. bad ≡ spec.are_bad (map access_view rules.entry.all.now) (map item_view items.now)) }
 {
     for item in items {
         if is_bad_item(alloc, rules, &item.body)? {

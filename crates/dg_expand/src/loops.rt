@@ -11,65 +11,42 @@ ghost use Rattle.dg_expand.specs.Expanded.{access_rules};
 ghost use Rattle.dg_expand.specs.inside.Reached.{rows_of};
 ghost use Rattle.dg_expand.specs.inside.Rows.{all_pooled, all_rows, asked, asked_at, first_numbered, first_of, first_rows, firsts, is_among, is_looping, number_in, pooled, pooled_from};
 
-use crate::place::Access;
+use crate::chains::Rules;
+use crate::finding::first_of;
 use crate::reached::{is_set, reached_from, row_at};
-use dg_base::{Head, Item, ItemBody, Mention, Role, mentions_of, name_of};
+use dg_base::{Head, Item, ItemBody, Mention, Role, mentions_of};
 use std::alloc::{AllocError, Global};
 
-// The number of the first access rule of this name, or else how many there are.
-fn first_of(rules: &[Access<'_>], name: &[u8]) -> usize
-    ensures { result ≡ first_of (map access_view rules.now) name.now }
+fn add_number(rules: Rules<'_>, row: &mut Vec<usize>, head: &Head) -> Result<(), AllocError>
+    ensures { OnOk result (row.new.items ≡ row.old.items ++ number_in (map access_view rules.entry.all.now) (heads.name_of (head_view head.now))) }
 {
-    for number in 0..rules.len() {
-        if rules[number].name == name {
-            return number;
-        }
-    }
-    rules.len()
-}
-
-fn add_number(
-    alloc: Global,
-    rules: &[Access<'_>],
-    row: &mut Vec<usize>,
-    head: &Head,
-) -> Result<(), AllocError>
-    ensures { OnOk result (row.new.items ≡ row.old.items ++ number_in (map access_view rules.now) (heads.name_of (head_view head.now))) }
-{
-    let name = name_of(alloc, head)?;
-    let first = first_of(rules, name.as_slice());
-    if first < rules.len() {
+    let first = first_of(rules, head.parts.as_slice());
+    if first < rules.all.len() {
         row.push(first)?;
     }
     Ok(())
 }
 
 fn add_query(
-    alloc: Global,
-    rules: &[Access<'_>],
+    rules: Rules<'_>,
     row: &mut Vec<usize>,
     role: Role,
     head: &Head,
 ) -> Result<(), AllocError>
-    ensures { OnOk result (row.new.items ≡ row.old.items ++ asked_at (map access_view rules.now) (query role (head_view head.now))) }
+    ensures { OnOk result (row.new.items ≡ row.old.items ++ asked_at (map access_view rules.entry.all.now) (query role (head_view head.now))) }
 {
     match role {
         Role::Access => Ok(()),
-        _ => add_number(alloc, rules, row, head),
+        _ => add_number(rules, row, head),
     }
 }
 
 // Adds the number of what is asked for, where it is an access rule.
-fn add_asked(
-    alloc: Global,
-    rules: &[Access<'_>],
-    row: &mut Vec<usize>,
-    mention: Mention<'_>,
-) -> Result<(), AllocError>
-    ensures { OnOk result (row.new.items ≡ row.old.items ++ asked (map access_view rules.now) (thing_at (mention_view mention.entry))) }
+fn add_asked(rules: Rules<'_>, row: &mut Vec<usize>, mention: Mention<'_>) -> Result<(), AllocError>
+    ensures { OnOk result (row.new.items ≡ row.old.items ++ asked (map access_view rules.entry.all.now) (thing_at (mention_view mention.entry))) }
 {
     match mention {
-        Mention::Query(role, head) => add_query(alloc, rules, row, role, head),
+        Mention::Query(role, head) => add_query(rules, row, role, head),
         _ => Ok(()),
     }
 }
@@ -77,20 +54,20 @@ fn add_asked(
 // The access rules that these ask for, by number, the first one of each name.
 fn row_among(
     alloc: Global,
-    rules: &[Access<'_>],
+    rules: Rules<'_>,
     mentions: &[Mention<'_>],
 ) -> Result<Vec<usize>, AllocError>
-    ensures { IfOk result (λ row. row.items ≡ asked (map access_view rules.now) (things_at (seen mentions.now))) }
+    ensures { IfOk result (λ row. row.items ≡ asked (map access_view rules.entry.all.now) (things_at (seen mentions.now))) }
 {
     let mut row = Vec::new(alloc);
     for mention in mentions {
-        add_asked(alloc, rules, &mut row, *mention)?;
+        add_asked(rules, &mut row, *mention)?;
     }
     Ok(row)
 }
 
-fn row_of(alloc: Global, rules: &[Access<'_>], said: &ItemBody) -> Result<Vec<usize>, AllocError>
-    ensures { IfOk result (λ row. row.items ≡ asked (map access_view rules.now) (things_in (said_view said.now))) }
+fn row_of(alloc: Global, rules: Rules<'_>, said: &ItemBody) -> Result<Vec<usize>, AllocError>
+    ensures { IfOk result (λ row. row.items ≡ asked (map access_view rules.entry.all.now) (things_in (said_view said.now))) }
 {
     let mentions = mentions_of(alloc, said)?;
     row_among(alloc, rules, mentions.as_slice())
@@ -99,10 +76,10 @@ fn row_of(alloc: Global, rules: &[Access<'_>], said: &ItemBody) -> Result<Vec<us
 // Of each access rule, those that its body asks for.
 fn rows_among(
     alloc: Global,
-    rules: &[Access<'_>],
+    rules: Rules<'_>,
     items: &[Item],
 ) -> Result<Vec<Vec<usize>>, AllocError>
-    ensures { IfOk result (λ rows. rows_of rows.items ≡ first_rows (map access_view rules.now) (map item_view items.now)) }
+    ensures { IfOk result (λ rows. rows_of rows.items ≡ first_rows (map access_view rules.entry.all.now) (map item_view items.now)) }
 {
     let mut rows = Vec::new(alloc);
     for item in items {
@@ -114,12 +91,12 @@ fn rows_among(
 }
 
 // Of each access rule, the first one of its name.
-fn firsts_of(alloc: Global, rules: &[Access<'_>]) -> Result<Vec<usize>, AllocError>
-    ensures { IfOk result (λ numbers. numbers.items ≡ firsts (map access_view rules.now) (map access_view rules.now)) }
+fn firsts_of(alloc: Global, rules: Rules<'_>) -> Result<Vec<usize>, AllocError>
+    ensures { IfOk result (λ numbers. numbers.items ≡ firsts (map access_view rules.entry.all.now) (map access_view rules.entry.all.now)) }
 {
     let mut numbers = Vec::new(alloc);
-    for rule in rules {
-        numbers.push(first_of(rules, rule.name))?;
+    for rule in rules.all {
+        numbers.push(first_of(rules, rule.head))?;
     }
     Ok(numbers)
 }
@@ -156,51 +133,39 @@ fn pooled_of(
     Ok(pooled)
 }
 
-// Whether one of these has this name.
-fn is_among(rules: &[Access<'_>], name: &[u8]) -> bool
-    ensures { result ≡ is_among (map access_view rules.now) name.now }
-{
-    for rule in rules {
-        if rule.name == name {
-            return true;
-        }
-    }
-    false
-}
-
 // Whether the access rule of this number is the second of its predicate, or reaches it.
 fn is_looping(
     alloc: Global,
-    rules: &[Access<'_>],
+    rules: Rules<'_>,
     rows: &[Vec<usize>],
     pooled: &[Vec<usize>],
     number: usize,
 ) -> Result<bool, AllocError>
-    requires rows { rows_of rows.now ≡ all_rows (map access_view rules.now) }
-    requires pooled { rows_of pooled.now ≡ all_pooled (map access_view rules.now) }
-    ensures { IfOk result (λ does. does ≡ is_looping (map access_view rules.now) number) }
+    requires rows { rows_of rows.now ≡ all_rows (map access_view rules.all.now) }
+    requires pooled { rows_of pooled.now ≡ all_pooled (map access_view rules.all.now) }
+    ensures { IfOk result (λ does. does ≡ is_looping (map access_view rules.entry.all.now) number) }
 {
-    if number >= rules.len() {
+    if number >= rules.all.len() {
         return Ok(false);
     }
-    let name = rules[number].name;
-    if is_among(&rules[..number], name) {
+    let first = first_of(rules, rules.all[number].head);
+    if first < number {
         return Ok(true);
     }
     let seen = reached_from(alloc, pooled, row_at(rows, number))?;
-    Ok(is_set(seen.as_slice(), first_of(rules, name)))
+    Ok(is_set(seen.as_slice(), first))
 }
 
 fn first_numbered(
     alloc: Global,
-    rules: &[Access<'_>],
+    rules: Rules<'_>,
     rows: &[Vec<usize>],
     pooled: &[Vec<usize>],
     items: &[Item],
 ) -> Result<Option<u32>, AllocError>
-    requires rows { rows_of rows.now ≡ all_rows (map access_view rules.now) }
-    requires pooled { rows_of pooled.now ≡ all_pooled (map access_view rules.now) }
-    ensures { IfOk result (λ line. line ≡ first_numbered (map access_view rules.now) 0 (map item_view items.now)) }
+    requires rows { rows_of rows.now ≡ all_rows (map access_view rules.all.now) }
+    requires pooled { rows_of pooled.now ≡ all_pooled (map access_view rules.all.now) }
+    ensures { IfOk result (λ line. line ≡ first_numbered (map access_view rules.entry.all.now) 0 (map item_view items.now)) }
 {
     let mut number = 0;
     for item in items {
@@ -217,11 +182,12 @@ fn first_numbered(
 /// The line of the first item whose access rule loops or is repeated.
 pub fn first_looping(
     alloc: Global,
-    rules: &[Access<'_>],
+    rules: Rules<'_>,
     items: &[Item],
 ) -> Result<Option<u32>, AllocError>
-    requires { map access_view rules.now ≡ access_rules (map item_view items.now) }
-    ensures { IfOk result (λ line. line ≡ option_map (λ i. i.line) (spec.first_looping (map access_view rules.now) [] (map item_view items.now))) }
+    requires { map access_view rules.all.now ≡ access_rules (map item_view items.now) }
+    ensures { IfOk result (λ line. line
+        ≡ option_map (λ i. i.line) (spec.first_looping (map access_view rules.entry.all.now) [] (map item_view items.now))) }
 {
     let rows = rows_among(alloc, rules, items)?;
     let firsts = firsts_of(alloc, rules)?;

@@ -1,4 +1,4 @@
-// Access rules, and where a part of the tree stands that is read.
+// Where a part of the tree stands that is read.
 ghost use Rattle.std.specs.Prelude.{◌≡◌, ℕ, List, None, map, IfOk};
 ghost use Rattle.std.specs.Option.{option_map};
 ghost use Rattle.dg_base.specs.Tree.{parts_of, stmts_of};
@@ -6,17 +6,12 @@ ghost use Rattle.dg_base.specs.TreeView.{part_view, value_view, stmt_view, body_
 ghost use Rattle.dg_expand.specs.Put as spec;
 ghost use Rattle.dg_expand.specs.inside.Putting.{access_view, around, around_in, closed_around, copied_around, within_around, argument_given, value_in, argument_or, argument_in};
 
+use crate::access::Access;
+use crate::chains::Rules;
+use crate::finding::rule_among;
 use bumpalo::Bump;
-use dg_base::{Body, Part, Stmt, Value, is_named};
+use dg_base::{Body, Part, Stmt, Value};
 use std::alloc::AllocError;
-
-/// An access rule, by the name of its predicate.
-#[derive(Clone, Copy)]
-pub struct Access<'a> {
-    pub name: &'a [u8],
-    pub head: &'a [Part],
-    pub body: &'a Body,
-}
 
 /// What stands outside of a place: nothing, in an item, or else the place of the query whose access rule's body it is in.
 #[cycle(place)]
@@ -45,7 +40,7 @@ pub struct Place<'a> {
 #[derive(Clone, Copy)]
 pub struct Uses<'a> {
     pub bump: &'a Bump,
-    pub rules: &'a [Access<'a>],
+    pub rules: Rules<'a>,
     pub mark: usize,
 }
 
@@ -56,18 +51,6 @@ pub fn placed<'a>(bump: &'a Bump, place: Place<'a>) -> Result<&'a Place<'a>, All
     ensures { IfOk result (λ new. new.now ≡ place.entry) }
 {
     Ok(bump.try_alloc(place)?)
-}
-
-/// The access rule of these parts among these.
-pub fn rule_among<'a>(rules: &[Access<'a>], parts: &[Part]) -> Option<Access<'a>>
-    ensures { option_map access_view result ≡ spec.rule_for (map access_view rules.now) (parts_of (map part_view parts.now)) }
-{
-    for rule in rules {
-        if is_named(parts, rule.name) {
-            return Some(*rule);
-        }
-    }
-    None
 }
 
 /// The access rule of these parts where they stand.

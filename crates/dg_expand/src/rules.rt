@@ -10,8 +10,10 @@ ghost use Rattle.dg_expand.specs.Put.{level, in_item, put_body};
 ghost use Rattle.dg_expand.specs.inside.Putting.{access_view, around, standing_in};
 ghost use Rattle.dg_expand.specs.inside.Weights.{body_load, IsOver};
 
+use crate::access::Access;
+use crate::chains::Rules;
 use crate::expanding::{BuiltBody, Heads, MOST, RULES, body_of, head_of, heads_of};
-use crate::place::{Access, Outer, Place, Uses, placed};
+use crate::place::{Outer, Place, Uses, placed};
 use crate::release::{let_go_body, let_go_head, let_go_heads};
 use bumpalo::Bump;
 use dg_access::{copied, free_number};
@@ -181,13 +183,13 @@ fn put_rule<'a>(
     body: &'a Body,
 ) -> Result<bool, AllocError>
     ensures added { IfOk result (λ done. done ≡ true → map item_view out.new.items ≡ map item_view out.old.items ++ spec.on_line line
-        (spec.put_rule (level (map access_view uses.entry.rules.now) uses.entry.mark (length uses.entry.rules.now)) set
+        (spec.put_rule (level (map access_view uses.entry.rules.all.now) uses.entry.mark (length uses.entry.rules.all.now)) set
         (head_view head.now) (body_view body.now))) }
     ensures large { IfOk result (λ done. done ≡ false → IsOver (spec.on_line line
-        (spec.put_rule (level (map access_view uses.entry.rules.now) uses.entry.mark (length uses.entry.rules.now)) set
+        (spec.put_rule (level (map access_view uses.entry.rules.all.now) uses.entry.mark (length uses.entry.rules.all.now)) set
         (head_view head.now) (body_view body.now)))) }
 {
-    let at = standing_in(uses, uses.rules.len())?;
+    let at = standing_in(uses, uses.rules.all.len())?;
     match heads_of(alloc, uses, at, set, head)? {
         Some(heads) => add_rules(alloc, uses, at, out, line, heads, body),
         None => Ok(false),
@@ -206,13 +208,9 @@ fn put_declaration<'a>(
         (tree.global_variable (spec.stay (head_view head.now)) ∷ [])) }
     ensures large { IfOk result (λ done. done ≡ false → IsOver (spec.on_line line (tree.global_variable (spec.stay (head_view head.now)) ∷ []))) }
 {
-    let none = Uses {
-        bump: uses.bump,
-        rules: &[],
-        mark: 0,
-    };
-    let at = standing_in(none, 0)?;
-    match head_of(alloc, none, at, head)? {
+    let unmarked = Uses { mark: 0, ..uses };
+    let at = standing_in(unmarked, 0)?;
+    match head_of(alloc, unmarked, at, head)? {
         Some(head) => {
             out.push(Item {
                 line,
@@ -239,13 +237,13 @@ fn put_topic(alloc: Global, out: &mut Vec<Item>, line: u32, name: &[u8]) -> Resu
 pub fn put_item<'a>(
     alloc: Global,
     bump: &'a Bump,
-    rules: &'a [Access<'a>],
+    rules: Rules<'a>,
     out: &mut Vec<Item>,
     item: &'a Item,
 ) -> Result<bool, AllocError>
     ensures added { IfOk result (λ done. done ≡ true → map item_view out.new.items
-        ≡ map item_view out.old.items ++ spec.put_item (map access_view rules.now) (item_view item.now)) }
-    ensures large { IfOk result (λ done. done ≡ false → IsOver (spec.put_item (map access_view rules.now) (item_view item.now))) }
+        ≡ map item_view out.old.items ++ spec.put_item (map access_view rules.entry.all.now) (item_view item.now)) }
+    ensures large { IfOk result (λ done. done ≡ false → IsOver (spec.put_item (map access_view rules.entry.all.now) (item_view item.now))) }
 {
     let mark = free_number(alloc, &item.body)?;
     let uses = Uses { bump, rules, mark };

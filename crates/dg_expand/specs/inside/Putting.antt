@@ -16,7 +16,7 @@ use Rattle.dg_access.specs.declared.work.Wrap.{Wrap}
 use Rattle.dg_access.specs.declared.work.Wrap.TheVariants as wrap
 use Rattle.dg_access.specs.declared.built.Built.{Built as CodeBuilt}
 use Rattle.dg_expand.specs.Put.{Access, Spot, Level, level, given_by, moved_from, in_item, within, in_closure, in_copy, parameter_of, one_change, put_value, put_values, put_parts, put_stmt, put_stmts, put_body, put_arms, put_changes, changes_in}
-use Rattle.dg_expand.specs.declared.place.Access.{Access as CodeAccess}
+use Rattle.dg_expand.specs.declared.access.Access.{Access as CodeAccess}
 use Rattle.dg_expand.specs.declared.place.Outer.{Outer, fold-Outer}
 use Rattle.dg_expand.specs.declared.place.Outer.TheOpen.{Outer-F, Place-F}
 use Rattle.dg_expand.specs.declared.place.Place.{Place as CodePlace}
@@ -74,11 +74,11 @@ around_in rules mark p = place_step rules mark (record {
 
 -- What a place stands for.
 abbrev pub around : Uses → CodePlace → Around
-around u p = around_in (map access_view u.rules.now) u.mark p
+around u p = around_in (map access_view u.rules.all.now) u.mark p
 
 -- In an item, with so many access rules one in the other.
 abbrev pub standing_in : Uses → ℕ → Around
-standing_in u depth = record { at = level (map access_view u.rules.now) u.mark depth; place = in_item }
+standing_in u depth = record { at = level (map access_view u.rules.all.now) u.mark depth; place = in_item }
 
 abbrev pub closed_around : Around → Around
 closed_around a = record a { place = in_closure a.place }
@@ -89,7 +89,7 @@ copied_around a n = record a { place = in_copy a.place n }
 -- In the body of an access rule that is put in for a query of these parts, of this number.
 abbrev pub within_around : Uses → CodePlace → Access → Parts → ℕ → Around
 within_around u p r ps n = record {
-  at = level (map access_view u.rules.now) u.mark (p.depth - 1);
+  at = level (map access_view u.rules.all.now) u.mark (p.depth - 1);
   place = within (given_by (around u p).at (moved_from (around u p).place) r.head ps) n;
 }
 

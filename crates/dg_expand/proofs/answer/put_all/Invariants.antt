@@ -9,7 +9,7 @@ use Rattle.dg_expand.proofs.answer.put_all.Given as goal
 
 abbrev pub invariant-loop-item : goal.invariant-loop-item
 invariant-loop-item l = record {
-  refused : first_refused (map access_view l.rules) (map item_view l.out.items) (map item_view (drop l.item-index l.items)) ≡ first_refused (map access_view l.rules) [] (map item_view l.items);
-  put : map item_view l.out.items ++ put_items (map access_view l.rules) (map item_view (drop l.item-index l.items)) ≡ put_items (map access_view l.rules) (map item_view l.items);
+  refused : first_refused (map access_view l.rules.all.now) (map item_view l.out.items) (map item_view (drop l.item-index l.items)) ≡ first_refused (map access_view l.rules.all.now) [] (map item_view l.items);
+  put : map item_view l.out.items ++ put_items (map access_view l.rules.all.now) (map item_view (drop l.item-index l.items)) ≡ put_items (map access_view l.rules.all.now) (map item_view l.items);
   counts : counts_view l.counts ≡ counts_of (map item_view l.out.items);
 }

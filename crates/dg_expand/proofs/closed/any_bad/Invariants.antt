@@ -6,4 +6,4 @@ use Rattle.dg_expand.specs.inside.Putting.{access_view}
 use Rattle.dg_expand.proofs.closed.any_bad.Given as goal
 
 abbrev pub invariant-loop-mention : goal.invariant-loop-mention
-invariant-loop-mention l = list_any (is_misplaced (map access_view l.rules)) (things_at (seen (drop l.mention-index l.mentions))) ≡ list_any (is_misplaced (map access_view l.rules)) (things_at (seen l.mentions))
+invariant-loop-mention l = list_any (is_misplaced (map access_view l.rules.all.now)) (things_at (seen (drop l.mention-index l.mentions))) ≡ list_any (is_misplaced (map access_view l.rules.all.now)) (things_at (seen l.mentions))

@@ -5,4 +5,4 @@ use Rattle.dg_expand.specs.inside.Putting.{access_view}
 use Rattle.dg_expand.proofs.closed.are_bad.Given as goal
 
 abbrev pub invariant-loop-item : goal.invariant-loop-item
-invariant-loop-item l = spec.are_bad (map access_view l.rules) (map item_view (drop l.item-index l.items)) ≡ spec.are_bad (map access_view l.rules) (map item_view l.items)
+invariant-loop-item l = spec.are_bad (map access_view l.rules.all.now) (map item_view (drop l.item-index l.items)) ≡ spec.are_bad (map access_view l.rules.all.now) (map item_view l.items)

@@ -17,12 +17,12 @@ same_rows all is rows e f = f ∙ first_are all is ∙ ap (λ (l : List Access).
 
 pub first_numbered-requires-clause-rows : goal.first_numbered-requires-clause-rows
 first_numbered-requires-clause-rows c =
-    let all = map access_view c.args.rules.now in
+    let all = map access_view c.args.rules.all.now in
     ap rows_of c.as_slice-3.ensures.value ∙ same_rows all (map item_view c.args.items.now) _ c.requires c.in_ok-rows.ensures
 
 pub first_numbered-requires-clause-pooled : goal.first_numbered-requires-clause-pooled
 first_numbered-requires-clause-pooled c =
-    let all = map access_view c.args.rules.now in
+    let all = map access_view c.args.rules.all.now in
     let numbers = c.as_slice.ensures.value ∙ c.in_ok-firsts.ensures in
     let rows = ap rows_of c.as_slice-2.ensures.value ∙ same_rows all (map item_view c.args.items.now) _ c.requires c.in_ok-rows.ensures in
     ap rows_of c.as_slice-4.ensures.value ∙ c.in_ok-pooled.ensures
@@ -31,7 +31,7 @@ first_numbered-requires-clause-pooled c =
 
 pub returns : goal.returns
 returns c =
-    let all = map access_view c.args.rules.now in
+    let all = map access_view c.args.rules.all.now in
     let is = map item_view c.args.items.now in
     IfOk-weaker c.first_numbered.result (λ (line : Option ℕ). line ≡ first_numbered all 0 is) (λ (line : Option ℕ). line ≡ option_map (λ (i : Item). i.line) (spec.first_looping all [] is))
     (λ line e. e ∙ numbered all [] is c.requires) c.first_numbered.ensures

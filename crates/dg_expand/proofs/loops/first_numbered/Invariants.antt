@@ -6,6 +6,6 @@ use Rattle.dg_expand.proofs.loops.first_numbered.Given as goal
 
 abbrev pub invariant-loop-item : goal.invariant-loop-item
 invariant-loop-item l = record {
-  same : first_numbered (map access_view l.rules) l.number (map item_view (drop l.item-index l.items)) ≡ first_numbered (map access_view l.rules) 0 (map item_view l.items);
+  same : first_numbered (map access_view l.rules.all.now) l.number (map item_view (drop l.item-index l.items)) ≡ first_numbered (map access_view l.rules.all.now) 0 (map item_view l.items);
   few : l.number ≤ l.item-index;
 }

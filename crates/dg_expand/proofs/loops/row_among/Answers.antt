@@ -8,7 +8,7 @@ use Rattle.dg_expand.proofs.loops.row_among.Goals as goal
 
 pub loop-mention-preserved : goal.loop-mention-preserved
 loop-mention-preserved c =
-    let rules = map access_view c.args.rules.now in
+    let rules = map access_view c.args.rules.all.now in
     let ms = c.args.mentions.now in
     let i = c.loop-mention.mention-index in
     let m = c.mention-item.result in

@@ -5,4 +5,4 @@ use Rattle.dg_expand.specs.inside.Rows.{asked}
 use Rattle.dg_expand.proofs.loops.row_among.Given as goal
 
 abbrev pub invariant-loop-mention : goal.invariant-loop-mention
-invariant-loop-mention l = l.row.items ++ asked (map access_view l.rules) (things_at (seen (drop l.mention-index l.mentions))) ≡ asked (map access_view l.rules) (things_at (seen l.mentions))
+invariant-loop-mention l = l.row.items ++ asked (map access_view l.rules.all.now) (things_at (seen (drop l.mention-index l.mentions))) ≡ asked (map access_view l.rules.all.now) (things_at (seen l.mentions))

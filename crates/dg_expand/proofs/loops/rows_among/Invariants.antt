@@ -6,4 +6,4 @@ use Rattle.dg_expand.specs.inside.Rows.{first_rows}
 use Rattle.dg_expand.proofs.loops.rows_among.Given as goal
 
 abbrev pub invariant-loop-item : goal.invariant-loop-item
-invariant-loop-item l = rows_of l.rows.items ++ first_rows (map access_view l.rules) (map item_view (drop l.item-index l.items)) ≡ first_rows (map access_view l.rules) (map item_view l.items)
+invariant-loop-item l = rows_of l.rows.items ++ first_rows (map access_view l.rules.all.now) (map item_view (drop l.item-index l.items)) ≡ first_rows (map access_view l.rules.all.now) (map item_view l.items)

@@ -9,7 +9,7 @@ use Rattle.dg_expand.proofs.rules.put_rule.Goals as goal
 
 pub returns-in-None-clause-large : goal.returns-in-None-clause-large
 returns-in-None-clause-large c =
-    let l = level (map access_view c.args.uses.rules.now) c.args.uses.mark (length c.args.uses.rules.now) in
+    let l = level (map access_view c.args.uses.rules.all.now) c.args.uses.mark (length c.args.uses.rules.all.now) in
     let heads = put_changes l in_item 0 (one_change c.args.set (head_view c.args.head.now)) in
     let heavy = none_holds _ c.in_ok-heads.field-0 c.in-None.is c.in_ok-heads.ensures.large in
     λ stopped. over_many_heads c.args.line heads.0 (put_body l in_item heads.1 (body_view c.args.body.now)).0

@@ -13,7 +13,7 @@ use Rattle.dg_expand.proofs.steps.look_change.Goals as goal
 pub returns-in_ok-inner-in-Some : goal.returns-in_ok-inner-in-Some
 returns-in_ok-inner-in-Some c =
     let s = built_view c.args.weighed.now.built in
-    let rules = map access_view c.args.uses.rules.now in
+    let rules = map access_view c.args.uses.rules.all.now in
     let mark = c.args.uses.mark in
     let depth = c.args.at.now.depth in
     let ps = parts_of (map part_view c.args.parts.now) in

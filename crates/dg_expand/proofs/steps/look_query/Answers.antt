@@ -14,7 +14,7 @@ returns-in_ok-inner-in-Some c =
     let s = built_view c.args.weighed.now.built in
     let at = around c.args.uses in
     let parts = c.as_slice-parts.result in
-    let rules = map access_view c.args.uses.rules.now in
+    let rules = map access_view c.args.uses.rules.all.now in
     let depth = c.args.at.now.depth in
     let e = sym c.in-Some.ensures in
     on_ok c.put_off.result _ _ c.put_off.ensures

@@ -13,14 +13,14 @@ pub returns-then-is_own_parameter : goal.returns-then-is_own_parameter
 returns-then-is_own_parameter c =
     let u = c.args.uses in
     let s = built_view c.args.weighed.now.built in
-    let own = sym (c.is_own_parameter.ensures (map access_view u.rules.now) u.mark) ∙ c.if-is_own_parameter.true in
+    let own = sym (c.is_own_parameter.ensures (map access_view u.rules.all.now) u.mark) ∙ c.if-is_own_parameter.true in
     on_ok c.put_value.result _ _ c.put_value.ensures
     (λ put. ap (run (around u) c.args.left.now.items) (put ∙ ap (λ (v : tree.Value). record s { values = s.values ++ v ∷ [] }) (var_seen _ ∙ ap tree.variable c.in_ok-copied.ensures) ∙ sym (own_put (around u c.args.at.now) c.args.name.now s own)))
 
 pub returns-in-Some : goal.returns-in-Some
 returns-in-Some c =
     let u = c.args.uses in
-    let rules = map access_view u.rules.now in
+    let rules = map access_view u.rules.all.now in
     let s = built_view c.args.weighed.now.built in
     let other = sym (c.is_own_parameter.ensures rules u.mark) ∙ c.if-is_own_parameter.false in
     on_ok c.put_off_one.result _ _ c.put_off_one.ensures
@@ -29,7 +29,7 @@ returns-in-Some c =
 pub returns-in_ok-own_name-in-None : goal.returns-in_ok-own_name-in-None
 returns-in_ok-own_name-in-None c =
     let u = c.args.uses in
-    let rules = map access_view u.rules.now in
+    let rules = map access_view u.rules.all.now in
     let s = built_view c.args.weighed.now.built in
     let a = around u c.args.at.now in
     let other = sym (c.is_own_parameter.ensures rules u.mark) ∙ c.if-is_own_parameter.false in
