@@ -1,21 +1,19 @@
 -- Paths into a term that is written.
-use Rattle.std.proofs.Common.{◌≡◌, ℕ, suc, ◌+◌, ◌*◌, ◌<◌, ◌≤◌, List, [], ◌∷◌, ◌++◌, refl, ap, ◌∙◌, arith, length, append-nil, take, get_or}
-use Rattle.std.specs.List.{sum_by}
-use Rattle.std.proofs.lemmas.List.{length-append, take_more}
-use Rattle.std.proofs.lemmas.List.Sums.{sum_by-append}
+use Rattle.std.proofs.Common.{◌≡◌, ℕ, suc, ◌+◌, ◌*◌, ◌<◌, ◌≤◌, List, [], ◌∷◌, ◌++◌, refl, sym, ap, ◌∙◌, arith, length, append-nil, append_assoc, take, get_or}
+use Rattle.std.proofs.lemmas.List.{length-append, take_more, take-append-le}
 use Rattle.dg_base.specs.declared.program.Term.{Term, Pair', out-Term}
 use Rattle.dg_base.specs.declared.program.Term.TheBlock.{hidden-the_row-Term-0}
 use Rattle.dg_base.specs.declared.program.Term.TheVariants.{Pair as Pair-Term, outs-Pair}
 use Rattle.dg_base.specs.declared.program.CoreProgram.{CoreProgram}
 use Rattle.dg_base.specs.Terms.{nodes}
 use Rattle.dg_meaning.specs.Values.{Value, pair, value_of}
-use Rattle.dg_meaning.specs.Cells.{node_cells}
 use Rattle.dg_unify.specs.Store.{Store, Kept}
 use Rattle.dg_unify.specs.declared.bindings.Ref.{Ref}
 use Rattle.dg_mid.proofs.FlatLemmas.{nodes_are}
 use Rattle.dg_machine.specs.declared.now.Side.{Side}
 use Rattle.dg_machine.specs.declared.now.Side.TheVariants.{Head, Tail}
-use Rattle.dg_machine.specs.inside.Writing.{part_in, part_of, reached, IsHead, IsGone, AreGone, left_in, left_around, cells_of, nodes_of, cells_around}
+use Rattle.dg_machine.specs.declared.paths.Mark.{Mark}
+use Rattle.dg_machine.specs.inside.Writing.{part_in, part_of, reached, IsHead, IsGone, AreGone, left_in, left_around, cells_of, nodes_of, cells_around, GoesOn, FrontsStay, IsMark, AreMarks, AreMarksBelow}
 
 -- ## Pairs
 
@@ -63,6 +61,30 @@ left_push one all (x ∷ path) side t = let rest = left_push one all path side (
 
 pub reached_more : (path : List Side) (n : ℕ) (t : Term) → n < length path → reached (take (n + 1) path) t ≡ part_of (get_or path n Head) (reached (take n path) t)
 reached_more path n t lt = ap (λ l. reached l t) (take_more path n Head lt) ∙ reached_push (take n path) (get_or path n Head) t
+
+-- ## Fronts
+
+pub goes_on : (before path new : List Side) (side : Side) → new ≡ path ++ side ∷ [] → GoesOn before path → GoesOn before new
+goes_on before path new side is on = (on.0 ++ side ∷ [], is ∙ ap (λ l. l ++ side ∷ []) on.1 ∙ append_assoc before on.0 (side ∷ []))
+
+pub goes_back : (before path all : List Side) (side : Side) → path ≡ before ++ side ∷ [] → GoesOn path all → GoesOn before all
+goes_back before path all side is on = (side ∷ on.0, on.1 ∙ ap (λ l. l ++ on.0) is ∙ append_assoc before (side ∷ []) on.0)
+
+-- a path was cut to a front, which goes on by one side at most
+pub fronts_cut : (before behind front more : List Side) → GoesOn front before → behind ≡ front ++ more → length more ≤ 1 → FrontsStay before behind
+fronts_cut before behind front more on is few n le lt =
+    let within : n ≤ length front = omega (arith, ap length is, length-append front more, few) in
+    ap (take n) is ∙ take-append-le n front more within ∙ sym (ap (take n) on.1 ∙ take-append-le n front on.0 within)
+
+pub fronts_on : (before mid behind : List Side) → GoesOn before mid → FrontsStay mid behind → FrontsStay before behind
+fronts_on before mid behind on stay n le lt =
+    let longer : n ≤ length mid = omega (arith, ap length on.1, length-append before on.0, le) in
+    stay n longer lt ∙ ap (take n) on.1 ∙ take-append-le n before on.0 le
+
+-- ## Marks
+
+pub marks_stay : (before behind : List Side) (t : Term) (marks : List Mark) → FrontsStay before behind → AreMarks before t marks → AreMarksBelow behind t marks
+marks_stay before behind t marks stay are k d lt shorter = let mark = are k d lt in mark.at ∙ ap (λ l. reached l t) (sym (stay (get_or marks k d).depth mark.within shorter))
 
 module _ (s : Store) (p : CoreProgram) (vs : List Value) where
   pub gone_push : (path : List Side) (side : Side) (t : Term) → AreGone s p vs path t → IsGone s p vs side (reached path t) → AreGone s p vs (path ++ side ∷ []) t

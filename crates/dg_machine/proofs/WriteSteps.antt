@@ -1,12 +1,9 @@
 -- How the writing of a term goes on.
-use Rattle.std.proofs.Common.{◌≡◌, ℕ, ◌+◌, ◌*◌, ◌<◌, ◌≤◌, List, [], ◌∷◌, ◌++◌, Some, refl, sym, ap, ◌∙◌, subst, arith, length}
-use Rattle.std.proofs.lemmas.List.Sums.{sum_by-append}
+use Rattle.std.proofs.Common.{◌≡◌, ℕ, ◌+◌, ◌*◌, ◌<◌, ◌≤◌, List, [], ◌∷◌, ◌++◌, Option, Some, None, Result, Ok, Err, OnOk, refl, sym, ap, ◌∙◌, subst, arith, length}
 use Rattle.dg_base.specs.declared.program.Term.{Term, out-Term}
 use Rattle.dg_base.specs.declared.program.Term.TheVariants.{Pair as Pair-Term}
 use Rattle.dg_base.specs.declared.program.CoreProgram.{CoreProgram}
-use Rattle.dg_base.specs.Terms.{nodes}
 use Rattle.dg_meaning.specs.Values.{Value, pair, value_of}
-use Rattle.dg_meaning.specs.Cells.{node_cells}
 use Rattle.dg_unify.specs.Store.{State, Store, told, Holds, Kept, Charged, HeapFull, Made}
 use Rattle.dg_unify.specs.declared.bindings.Ref.{Ref}
 use Rattle.dg_unify.specs.declared.bindings.Full.{Full}
@@ -17,9 +14,15 @@ use Rattle.dg_mid.proofs.FlatLemmas.{plain_cell, cells_pair}
 use Rattle.dg_machine.specs.declared.now.Side.{Side}
 use Rattle.dg_machine.specs.declared.now.Side.TheVariants.{Head, Tail}
 use Rattle.dg_mid.specs.Heads.{IsPlain}
-use Rattle.dg_machine.specs.inside.Writing.{part_of, reached, IsHead, AreGone, IsAtPart, cells_of, nodes_of, cells_around, cells_left, nodes_around, nodes_left, Overflows, Descends, HeadMade}
+use Rattle.dg_machine.specs.inside.Writing.{part_of, reached, IsHead, AreGone, IsAtPart, cells_of, nodes_of, cells_around, cells_left, nodes_around, Overflows, Descends, HeadMade, Closes, ListWritten, Writes}
 use Rattle.dg_machine.proofs.Opens.{heap_full}
 use Rattle.dg_machine.proofs.PathLemmas.{value_pair, nodes_pair, some_node, head_part, tail_part, head_left, tail_left, reached_push, left_push, gone_push, gone_pop, least_left, gone_kept}
+
+-- ## Results
+
+pub ok_holds : {T E P : Type 0} (r : Result T E) → P → OnOk r P
+ok_holds (Ok x) h = h
+ok_holds (Err e) h = tt
 
 -- ## Charges
 
@@ -213,73 +216,81 @@ module _ (p : CoreProgram) (vs : List Value) (t : Term) where
       let all : c.count ≡ cells_around p before t = omega (arith, left, c.left) in
       record { charged = subst (λ n. Charged n old now) all c.charged; value = c.at.value ∙ ap (λ l. Some (value_of p vs (reached l t))) none }
 
-  -- ## The whole
-
-  pub record IsWriting (old now : Store) (path : List Side) : Type 0 where
-    pub count : ℕ
-    pub charged : Charged count old now
-    pub left : count + cells_left p path t ≡ cells_of p t
-    pub gone : AreGone now p vs path t
-
-  pub writing_starts : (s : Store) (path : List Side) → s.state.heap ≤ s.heap_limit → path ≡ [] → IsWriting s s path
-  writing_starts s path le none = record {
-    count = 0;
-    charged = charged_none s s le refl;
-    left = ap (λ l. 0 + cells_left p l t) none ∙ omega arith;
-    gone = subst (λ l. AreGone s p vs l t) (sym none) tt;
-  }
+  -- ## A list
 
   -- the end of a list was written
-  module _ (old now mid last : Store) (before path : List Side) (end : Term) (r : Ref) (is : end ≡ reached path t) (w : IsWriting old now before) (kept : Kept old now) (d : Descends p vs t now mid before path) (kept_mid : Kept now mid) where
-    to_mid : Kept old mid
-    to_mid = kept_on old now mid kept kept_mid
-
-    charged_mid : Charged (w.count + d.count) old mid
-    charged_mid = charged_both w.count d.count (w.count + d.count) old now mid refl kept w.charged d.charged
-
-    left_mid : w.count + d.count + cells_left p path t ≡ cells_of p t
-    left_mid = omega (arith, d.left, w.left)
-
+  module _ (old mid last : Store) (before path : List Side) (end : Term) (r : Ref) (is : end ≡ reached path t) (d : Descends p vs t old mid before path) (kept : Kept old mid) where
     end_cells : cells_of p (reached path t) ≡ cells_of p end
     end_cells = ap (cells_of p) (sym is)
 
-    pub end_over : Overflows (cells_of p end) mid → Overflows (cells_of p t) old
-    end_over over = overflows_behind (w.count + d.count) (cells_of p end) (cells_of p t) old mid (omega (arith, left_mid, end_cells)) to_mid charged_mid over
+    pub end_over : Overflows (cells_of p end) mid → Overflows (cells_left p before t) old
+    end_over over = overflows_behind d.count (cells_of p end) (cells_left p before t) old mid (omega (arith, d.left, end_cells)) kept d.charged over
 
     module _ (made : Made (cells_of p end) mid last r (value_of p vs end)) (kept_last : Kept mid last) where
-      charged_last : Charged (w.count + d.count + cells_of p end) old last
-      charged_last = charged_both (w.count + d.count) (cells_of p end) (w.count + d.count + cells_of p end) old mid last refl to_mid charged_mid made.charged
+      charged_last : Charged (d.count + cells_of p end) old last
+      charged_last = charged_both d.count (cells_of p end) (d.count + cells_of p end) old mid last refl kept d.charged made.charged
 
-      all_left : w.count + d.count + cells_of p end + cells_around p path t ≡ cells_of p t
-      all_left = omega (arith, left_mid, end_cells)
+      all_left : d.count + cells_of p end + cells_around p path t ≡ cells_left p before t
+      all_left = omega (arith, d.left, end_cells)
 
       to_last : Kept old last
-      to_last = kept_on old mid last to_mid kept_last
+      to_last = kept_on old mid last kept kept_last
 
       pub at_end : IsAtPart last p vs path t r
       at_end = record { gone = gone_kept mid p vs last path t kept_last d.gone; value = made.value ∙ ap (λ x. Some (value_of p vs x)) is }
 
-      pub writing_next : (new : Store) (behind : List Side) → HeadMade p vs t last new path behind → IsWriting old new behind
-      writing_next new behind h = record {
-        count = w.count + d.count + cells_of p end + h.count;
-        charged = charged_both (w.count + d.count + cells_of p end) h.count (w.count + d.count + cells_of p end + h.count) old last new refl to_last charged_last h.charged;
-        left = omega (arith, all_left, h.left);
+      pub list_next : (new : Store) (behind : List Side) → HeadMade p vs t last new path behind → ListWritten p vs t old new before behind
+      list_next new behind h = record {
+        count = d.count + cells_of p end + h.count;
+        charged = charged_both (d.count + cells_of p end) h.count (d.count + cells_of p end + h.count) old last new refl to_last charged_last h.charged;
         gone = h.gone;
+        left = omega (arith, all_left, h.left);
+        fewer =
+            let some = some_node end in
+            let here = ap nodes_of is in
+            omega (arith, some, here, h.fewer, d.fewer);
       }
 
-      pub writing_fewer : (new : Store) (behind : List Side) → HeadMade p vs t last new path behind → nodes_left behind t < nodes_left before t
-      writing_fewer new behind h =
-          let some = some_node end in
-          let here = ap nodes_of is in
-          omega (arith, some, here, h.fewer, d.fewer)
+      pub list_ends : (new : Store) (q : Ref) → Made (cells_around p path t) last new q (value_of p vs t) → Made (cells_left p before t) old new q (value_of p vs t)
+      list_ends new q m =
+          record { charged = charged_both (d.count + cells_of p end) (cells_around p path t) (cells_left p before t) old last new (sym all_left) to_last charged_last m.charged; value = m.value }
 
-      pub writing_ends : (new : Store) (q : Ref) → Made (cells_around p path t) last new q (value_of p vs t) → Made (cells_of p t) old new q (value_of p vs t)
-      writing_ends new q m =
-          record { charged = charged_both (w.count + d.count + cells_of p end) (cells_around p path t) (cells_of p t) old last new (sym all_left) to_last charged_last m.charged; value = m.value }
+      pub list_writes : (new : Store) (behind : List Side) (o : Option Ref) → Closes p vs t last new path behind o → Writes p vs t old new before behind o
+      list_writes new behind None h = list_next new behind h
+      list_writes new behind (Some q) m = list_ends new q m
 
-      pub writing_full : Overflows (cells_around p path t) last → Overflows (cells_of p t) old
-      writing_full over =
-          overflows_behind (w.count + d.count + cells_of p end) (cells_around p path t) (cells_of p t) old last (omega (arith, all_left)) to_last charged_last over
+      pub list_full : Overflows (cells_around p path t) last → Overflows (cells_left p before t) old
+      list_full over = overflows_behind (d.count + cells_of p end) (cells_around p path t) (cells_left p before t) old last (omega (arith, all_left)) to_last charged_last over
 
-  pub writing_cut : (old now : Store) (path : List Side) → Kept old now → IsWriting old now path → Overflows (cells_left p path t) now → Overflows (cells_of p t) old
-  writing_cut old now path kept w over = overflows_behind w.count (cells_left p path t) (cells_of p t) old now (omega (arith, w.left)) kept w.charged over
+  -- ## The whole
+
+  -- so many cells are those that were taken and those that are left
+  pub record IsWriting (all : ℕ) (old now : Store) (path : List Side) : Type 0 where
+    pub count : ℕ
+    pub charged : Charged count old now
+    pub left : count + cells_left p path t ≡ all
+    pub gone : AreGone now p vs path t
+
+  pub writing_starts : (s : Store) (path : List Side) → s.state.heap ≤ s.heap_limit → AreGone s p vs path t → IsWriting (cells_left p path t) s s path
+  writing_starts s path le gone = record { count = 0; charged = charged_none s s le refl; left = omega arith; gone = gone }
+
+  pub nothing_gone : (s : Store) (path : List Side) → path ≡ [] → AreGone s p vs path t
+  nothing_gone s path none = subst (λ l. AreGone s p vs l t) (sym none) tt
+
+  pub nothing_around : (path : List Side) → path ≡ [] → cells_left p path t ≡ cells_of p t
+  nothing_around path none = ap (λ l. cells_left p l t) none ∙ omega arith
+
+  module _ (all : ℕ) (old now : Store) (path : List Side) (kept : Kept old now) (w : IsWriting all old now path) where
+    pub writing_next : (new : Store) (behind : List Side) → ListWritten p vs t now new path behind → IsWriting all old new behind
+    writing_next new behind l = record {
+      count = w.count + l.count;
+      charged = charged_both w.count l.count (w.count + l.count) old now new refl kept w.charged l.charged;
+      left = omega (arith, w.left, l.left);
+      gone = l.gone;
+    }
+
+    pub writing_ends : (new : Store) (q : Ref) (v : Value) → Made (cells_left p path t) now new q v → Made all old new q v
+    writing_ends new q v m = record { charged = charged_both w.count (cells_left p path t) all old now new (sym w.left) kept w.charged m.charged; value = m.value }
+
+    pub writing_cut : Overflows (cells_left p path t) now → Overflows all old
+    writing_cut over = overflows_behind w.count (cells_left p path t) all old now (omega (arith, w.left)) kept w.charged over

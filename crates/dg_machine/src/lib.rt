@@ -14,6 +14,7 @@ mod memory;
 mod now;
 mod pairs;
 mod passing;
+mod paths;
 mod program;
 mod quiet;
 mod reading;

@@ -1,5 +1,6 @@
 -- How far a term is written that has lists in it. Hold it against docs/LANGUAGE.md, where it says what a value is and what a limit counts.
-use Rattle.std.specs.Prelude.{ℕ, ◌≡◌, ◌+◌, ◌<◌, ◌≤◌, List, [], ◌∷◌, Option, Some, None, length}
+use Rattle.std.specs.Prelude.{ℕ, ◌≡◌, ◌+◌, ◌<◌, ◌≤◌, List, [], ◌∷◌, ◌++◌, Option, Some, None, length, take}
+use Rattle.std.specs.List.{All}
 use Rattle.dg_base.specs.declared.program.Term.{Term, out-Term}
 use Rattle.dg_base.specs.declared.program.Term.TheOpen as term
 use Rattle.dg_base.specs.declared.program.Term.TheVariants.{Pair as Pair-Term}
@@ -11,6 +12,7 @@ use Rattle.dg_unify.specs.Store.{Store, Charged, Made}
 use Rattle.dg_unify.specs.declared.bindings.Ref.{Ref}
 use Rattle.dg_machine.specs.declared.now.Side.{Side}
 use Rattle.dg_machine.specs.declared.now.Side.TheVariants.{Head, Tail}
+use Rattle.dg_machine.specs.declared.paths.Mark.{Mark}
 
 -- ## Paths
 
@@ -49,6 +51,33 @@ AreGone s p vs (side ∷ path) t = IsGone s p vs side t × AreGone s p vs path (
 pub record IsAtPart (s : Store) (p : CoreProgram) (vs : List Value) (path : List Side) (t : Term) (r : Ref) : Type 0 where
   pub gone : AreGone s p vs path t
   pub value : s.value r ≡ Some (value_of p vs (reached path t))
+
+-- ## Fronts
+
+-- A path goes on from another one.
+abbrev pub GoesOn : List Side → List Side → Type 0
+GoesOn before behind = (more : List Side) × (behind ≡ before ++ more)
+
+-- A front of a path that is shorter than the next path is a front of that too.
+abbrev pub FrontsStay : List Side → List Side → Type 0
+FrontsStay before behind = (n : ℕ) → n ≤ length before → n < length behind → take n behind ≡ take n before
+
+-- To a front of a path this part belongs.
+pub record IsMark (path : List Side) (t : Term) (mark : Mark) : Type 0 where
+  pub within : mark.depth ≤ length path
+  pub at : mark.term.now ≡ reached (take mark.depth path) t
+
+-- So it is with each of these.
+abbrev pub AreMarks : List Side → Term → List Mark → Type 0
+AreMarks path t marks = All (IsMark path t) marks
+
+-- So it is where a mark's front is shorter than the path.
+abbrev pub IsMarkBelow : List Side → Term → Mark → Type 0
+IsMarkBelow path t mark = mark.depth < length path → mark.term.now ≡ reached (take mark.depth path) t
+
+-- With each of these.
+abbrev pub AreMarksBelow : List Side → Term → List Mark → Type 0
+AreMarksBelow path t marks = All (IsMarkBelow path t) marks
 
 -- ## What is left
 
@@ -115,3 +144,16 @@ pub record HeadMade (p : CoreProgram) (vs : List Value) (t : Term) (old new : St
 abbrev pub Closes : CoreProgram → List Value → Term → Store → Store → List Side → List Side → Option Ref → Type 0
 Closes p vs t old new before behind None = HeadMade p vs t old new before behind
 Closes p vs t old new before behind (Some r) = Made (cells_around p before t) old new r (value_of p vs t)
+
+-- A list is written: what stands behind it is left.
+pub record ListWritten (p : CoreProgram) (vs : List Value) (t : Term) (old new : Store) (before behind : List Side) : Type 0 where
+  pub count : ℕ
+  pub charged : Charged count old new
+  pub gone : AreGone new p vs behind t
+  pub left : count + cells_left p behind t ≡ cells_left p before t
+  pub fewer : nodes_left behind t < nodes_left before t
+
+-- A list is written, and what stands behind it is left, or the whole is made.
+abbrev pub Writes : CoreProgram → List Value → Term → Store → Store → List Side → List Side → Option Ref → Type 0
+Writes p vs t old new before behind None = ListWritten p vs t old new before behind
+Writes p vs t old new before behind (Some r) = Made (cells_left p before t) old new r (value_of p vs t)

@@ -1,4 +1,4 @@
-use Rattle.std.proofs.Common.{◌≡◌, ◌∙◌, ◌++◌, ◌∷◌, [], refl, sym, ap, subst, arith, length, vec_capacity}
+use Rattle.std.proofs.Common.{◌≡◌, ◌∙◌, ◌++◌, ◌∷◌, [], refl, sym, ap, subst, arith, length, append-nil, vec_capacity}
 use Rattle.dg_meaning.specs.Values.{value_of}
 use Rattle.dg_unify.specs.Store.{State, Made}
 use Rattle.dg_arena.specs.Held.{meaning_of}
@@ -8,7 +8,7 @@ use Rattle.dg_machine.proofs.Kept.{row_kept}
 use Rattle.dg_machine.proofs.TermLemmas.{no_program}
 use Rattle.dg_machine.proofs.TableLemmas.{a_program, a_program_is, no_pair}
 use Rattle.dg_machine.proofs.HeadLemmas.{keeps_same, keeps_on}
-use Rattle.dg_machine.proofs.PathLemmas.{nodes_pair}
+use Rattle.dg_machine.proofs.PathLemmas.{nodes_pair, goes_on}
 use Rattle.dg_machine.proofs.WriteSteps.{descends_starts, descends_head, descends_tail, descends_full, descends_over, reached_head, reached_tail}
 use Rattle.dg_machine.proofs.writing.descend.Goals as goal
 
@@ -16,7 +16,8 @@ pub pairs-init : goal.pairs-init
 pairs-init c = record {
   keeps = keeps_same c.args.arena.now;
   capacity = refl;
-  at = c.reach-term.ensures ∙ ap (λ l. reached l c.args.whole.now) c.as_slice.ensures.value;
+  at = c.requires.at;
+  on = ([], sym (append-nil c.args.path.now.items));
   gone = λ p vs is at gone. descends_starts p vs c.args.whole.now (meaning_of c.args.arena.now) c.args.path.now.items c.args.arena.now.sound.heap_fits gone;
   spare = refl;
   spare_room = refl;
@@ -39,6 +40,7 @@ pairs-preserved-in-Pair-head c =
     record {
       keeps = c.pairs.invariant.keeps;
       capacity = c.push_reserved.ensures.capacity ∙ c.pairs.invariant.capacity;
+      on = goes_on c.args.path.now.items path c.push_reserved.new.self.items Head pushed c.pairs.invariant.on;
       at = c.get-head.ensures ∙ sym (ap (λ l. reached l t) pushed ∙ reached_head no_program [] t path c.pairs.term.now c.in-Pair.head c.in-Pair.tail c.pairs.invariant.at c.in-Pair.is);
       gone = λ p vs is at gone.
           subst (Descends p vs t (meaning_of c.args.arena.now) (meaning_of c.pairs.arena) c.args.path.now.items) (sym pushed)
@@ -86,6 +88,7 @@ pairs-preserved c =
     record {
       keeps = keeps_on old now new c.pairs.invariant.keeps c.in-Ok.ensures.keeps;
       capacity = c.push_reserved-in-Ok.ensures.capacity ∙ c.pairs.invariant.capacity;
+      on = goes_on c.args.path.now.items path c.push_reserved-in-Ok.new.self.items (Tail r) pushed c.pairs.invariant.on;
       at = c.get-term.ensures ∙ sym (ap (λ l. reached l t) pushed ∙ reached_tail no_program [] t path r c.pairs.term.now c.in-Pair.head c.in-Pair.tail c.pairs.invariant.at c.in-Pair.is);
       gone = λ p vs is at gone.
           let here = row_kept (meaning_of old) (meaning_of now) c.args.row.now vs c.pairs.invariant.keeps.kept at in
@@ -104,6 +107,7 @@ returns c =
       capacity = c.pairs.invariant.capacity;
       leaf = no_pair c.pairs.term.now c.in_default.not-Pair;
       end = c.pairs.invariant.at;
+      on = c.pairs.invariant.on;
       gone = λ p vs is at gone. c.pairs.invariant.gone p vs is at gone;
       spare = c.pairs.invariant.spare;
       spare_room = c.pairs.invariant.spare_room;

@@ -4,7 +4,7 @@ use Rattle.dg_meaning.specs.Values.{Value}
 use Rattle.dg_arena.specs.Held.{meaning_of}
 use Rattle.dg_machine.specs.Refs.{RowAt, Keeps}
 use Rattle.dg_machine.specs.Tables.{IsOf}
-use Rattle.dg_machine.specs.inside.Writing.{nodes_left}
+use Rattle.dg_machine.specs.inside.Writing.{reached, cells_of, nodes_left}
 use Rattle.dg_machine.proofs.WriteSteps.{IsWriting}
 use Rattle.dg_machine.proofs.writing.write_term.Given as goal
 
@@ -12,7 +12,9 @@ abbrev pub invariant-lists : goal.invariant-lists
 invariant-lists l = record {
   keeps : Keeps l.fn.arena l.arena;
   capacity : vec_capacity l.path ≡ vec_capacity l.fn.path;
-  writing : (p : CoreProgram) (vs : List Value) → IsOf p l.tables → RowAt (meaning_of l.fn.arena) l.row vs → IsWriting p vs l.whole (meaning_of l.fn.arena) (meaning_of l.arena) l.path.items;
+  at : l.start ≡ reached l.path.items l.whole;
+  writing : (p : CoreProgram) (vs : List Value) → IsOf p l.tables → RowAt (meaning_of l.fn.arena) l.row vs →
+      IsWriting p vs l.whole (cells_of p l.whole) (meaning_of l.fn.arena) (meaning_of l.arena) l.path.items;
   spare : l.spare.items ≡ l.fn.spare.items;
   spare_room : vec_capacity l.spare ≡ vec_capacity l.fn.spare;
 }

@@ -2,7 +2,7 @@ use Rattle.std.proofs.Common.{◌∙◌, ap, sym, get_or}
 use Rattle.dg_machine.specs.declared.now.Side.TheVariants.{Head}
 use Rattle.dg_machine.specs.inside.Writing.{part_of}
 use Rattle.dg_machine.proofs.PathLemmas.{reached_more}
-use Rattle.dg_machine.proofs.writing.reach.Goals as goal
+use Rattle.dg_machine.proofs.paths.reach.Goals as goal
 
 pub sides-preserved : goal.sides-preserved
 sides-preserved c =
