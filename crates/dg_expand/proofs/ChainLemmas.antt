@@ -28,10 +28,10 @@ none marks m n next many e = record {
   passes = λ k a b same. absurd (omega (arith, e, a, b));
 }
 
-pub none_first : (marks firsts : List ℕ) (n : ℕ) → n ≡ length marks → firsts ≡ replicate 4093 n → AreFirst marks n firsts
+pub none_first : (marks firsts : List ℕ) (n : ℕ) → n ≡ length marks → firsts ≡ replicate 509 n → AreFirst marks n firsts
 none_first marks firsts n many e = record {
-  width = ap length e ∙ length-replicate 4093 n;
-  next = λ m h. none marks m n (get_or firsts m 0) many (ap (λ (l : List ℕ). get_or l m 0) e ∙ get_or-replicate 4093 m n 0 h);
+  width = ap length e ∙ length-replicate 509 n;
+  next = λ m h. none marks m n (get_or firsts m 0) many (ap (λ (l : List ℕ). get_or l m 0) e ∙ get_or-replicate 509 m n 0 h);
 }
 
 pub none_next : (marks nexts : List ℕ) (n : ℕ) → n ≡ length marks → nexts ≡ replicate n n → AreNext marks n nexts
@@ -61,7 +61,7 @@ elsewhere marks m at next other is = record {
   passes = λ k a b same. passed_one marks m at k next is other b (eq-or-lt_of_le a) same;
 }
 
-one_first : (marks firsts : List ℕ) (at m n : ℕ) → at < length marks → m < 4093 → n < 4093 → get_or marks at 0 ≡ m
+one_first : (marks firsts : List ℕ) (at m n : ℕ) → at < length marks → m < 509 → n < 509 → get_or marks at 0 ≡ m
     → AreFirst marks (at + 1) firsts → ((nat_eq n m ≡ true) × (n ≡ m)) ⊎ ((nat_eq n m ≡ false) × (n ≡ m → ⊥)) → IsNext marks n at (get_or (set firsts m at) n 0)
 one_first marks firsts at m n within h l e all (inl same) =
     here marks n at (get_or (set firsts m at) n 0) within (e ∙ sym same.1) (get_or-set_at firsts m n at 0 same.1 (omega (arith, h, all.width)))
@@ -69,7 +69,7 @@ one_first marks firsts at m n within h l e all (inr other) =
     let is : get_or (set firsts m at) n 0 ≡ get_or firsts n 0 = get_or-set_other firsts m n at 0 other.1 in
     subst (λ (next : ℕ). IsNext marks n at next) (sym is) (elsewhere marks n at (get_or firsts n 0) (λ f. other.1 (sym f ∙ e)) (all.next n l))
 
-more_first : (marks firsts : List ℕ) (at m : ℕ) → at < length marks → m < 4093 → get_or marks at 0 ≡ m → AreFirst marks (at + 1) firsts
+more_first : (marks firsts : List ℕ) (at m : ℕ) → at < length marks → m < 509 → get_or marks at 0 ≡ m → AreFirst marks (at + 1) firsts
     → AreFirst marks at (set firsts m at)
 more_first marks firsts at m within h e all = record {
   width = length-set firsts m at ∙ all.width;
@@ -93,7 +93,7 @@ more_next marks nexts at next is all = record {
 }
 
 -- the chains with one access rule more in front
-pub one_more : (marks firsts nexts : List ℕ) (from at mark next : ℕ) → from ≡ at + 1 → at < length marks → mark < 4093
+pub one_more : (marks firsts nexts : List ℕ) (from at mark next : ℕ) → from ≡ at + 1 → at < length marks → mark < 509
     → get_or marks at 0 ≡ mark → next ≡ get_or firsts mark 0 → AreFirst marks from firsts → AreNext marks from nexts
     → AreFirst marks at (set firsts mark at) × AreNext marks at (set nexts at next)
 one_more marks firsts nexts from at mark next e within h is same first linked =

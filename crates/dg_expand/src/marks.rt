@@ -8,7 +8,7 @@ ghost use Rattle.dg_expand.specs.inside.Marks as spec;
 use dg_base::Part;
 
 /// How many marks there are.
-pub const MARKS: usize = 4093;
+pub const MARKS: usize = 509;
 
 // A parenthesis, a space or a backslash: what names have around their words doesn't count.
 fn is_passed(byte: u8) -> bool
@@ -59,7 +59,7 @@ fn mix_parts(parts: &[Part]) -> u32
 /// The mark of the name of these parts.
 pub fn mark_of(parts: &[Part]) -> usize
     ensures mark { result ≡ spec.mark_of (name_of (parts_of (map part_view parts.now))) }
-    ensures within { result < 4093 }
+    ensures within { result < 509 }
 {
     mix_parts(parts) as usize % MARKS
 }

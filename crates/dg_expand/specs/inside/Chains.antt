@@ -15,8 +15,8 @@ pub record IsNext (marks : List ℕ) (mark from next : ℕ) : Type 0 where
 
 -- So it is for each mark.
 pub record AreFirst (marks : List ℕ) (from : ℕ) (firsts : List ℕ) : Type 0 where
-  pub width : length firsts ≡ 4093
-  pub next : (m : ℕ) → m < 4093 → IsNext marks m from (slice_index firsts m)
+  pub width : length firsts ≡ 509
+  pub next : (m : ℕ) → m < 509 → IsNext marks m from (slice_index firsts m)
 
 -- So it is for the mark of each from this one on, behind it.
 pub record AreNext (marks : List ℕ) (from : ℕ) (nexts : List ℕ) : Type 0 where

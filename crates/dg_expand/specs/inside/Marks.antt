@@ -15,4 +15,4 @@ mix_all sum (c ∷ cs) = mix_all (mix sum c) cs
 
 -- The mark of a name.
 abbrev pub mark_of : List ℕ → ℕ
-mark_of name = mix_all 0 name % 4093
+mark_of name = mix_all 0 name % 509

@@ -12,7 +12,7 @@ use Rattle.dg_expand.proofs.finding.chains_of.Goals as goal
 pub loop-from-init : goal.loop-from-init
 loop-from-init c =
     let all = c.args.all.now in
-    let firsts : c.in_ok-firsts.firsts.items ≡ replicate 4093 (length all) = search rules in
+    let firsts : c.in_ok-firsts.firsts.items ≡ replicate 509 (length all) = search rules in
     let nexts : c.in_ok-nexts.nexts.items ≡ replicate (length all) (length all) = search rules in
     record {
       within = omega arith;
