@@ -13,7 +13,7 @@ use Rattle.dg_mid.proofs.FlatLemmas.{nodes_are}
 use Rattle.dg_machine.specs.declared.now.Side.{Side}
 use Rattle.dg_machine.specs.declared.now.Side.TheVariants.{Head, Tail}
 use Rattle.dg_machine.specs.declared.paths.Mark.{Mark}
-use Rattle.dg_machine.specs.inside.Writing.{part_in, part_of, reached, IsHead, IsGone, AreGone, left_in, left_around, cells_of, nodes_of, cells_around, GoesOn, FrontsStay, IsMark, AreMarks, AreMarksBelow}
+use Rattle.dg_machine.specs.inside.Writing.{part_in, part_of, reached, IsHead, IsGone, AreGone, left_in, left_around, cells_of, nodes_of, cells_around, GoesOn, FrontsStay, AreMarks, AreMarksBelow}
 
 -- ## Pairs
 

@@ -58,24 +58,24 @@ pub record IsAtPart (s : Store) (p : CoreProgram) (vs : List Value) (path : List
 abbrev pub GoesOn : List Side → List Side → Type 0
 GoesOn before behind = (more : List Side) × (behind ≡ before ++ more)
 
--- A front of a path that is shorter than the next path is a front of that too.
+-- A front of a path is one of the next path too, where that is longer than it.
 abbrev pub FrontsStay : List Side → List Side → Type 0
 FrontsStay before behind = (n : ℕ) → n ≤ length before → n < length behind → take n behind ≡ take n before
 
--- To a front of a path this part belongs.
+-- This mark has the part of a term to which a front of a path leads.
 pub record IsMark (path : List Side) (t : Term) (mark : Mark) : Type 0 where
   pub within : mark.depth ≤ length path
   pub at : mark.term.now ≡ reached (take mark.depth path) t
 
--- So it is with each of these.
+-- So has each of these.
 abbrev pub AreMarks : List Side → Term → List Mark → Type 0
 AreMarks path t marks = All (IsMark path t) marks
 
--- So it is where a mark's front is shorter than the path.
+-- This mark has it where the front is shorter than the path.
 abbrev pub IsMarkBelow : List Side → Term → Mark → Type 0
 IsMarkBelow path t mark = mark.depth < length path → mark.term.now ≡ reached (take mark.depth path) t
 
--- With each of these.
+-- So has each of these.
 abbrev pub AreMarksBelow : List Side → Term → List Mark → Type 0
 AreMarksBelow path t marks = All (IsMarkBelow path t) marks
 
@@ -145,7 +145,7 @@ abbrev pub Closes : CoreProgram → List Value → Term → Store → Store → 
 Closes p vs t old new before behind None = HeadMade p vs t old new before behind
 Closes p vs t old new before behind (Some r) = Made (cells_around p before t) old new r (value_of p vs t)
 
--- A list is written: what stands behind it is left.
+-- A list in a head is written, and the part behind it is next.
 pub record ListWritten (p : CoreProgram) (vs : List Value) (t : Term) (old new : Store) (before behind : List Side) : Type 0 where
   pub count : ℕ
   pub charged : Charged count old new
@@ -153,7 +153,7 @@ pub record ListWritten (p : CoreProgram) (vs : List Value) (t : Term) (old new :
   pub left : count + cells_left p behind t ≡ cells_left p before t
   pub fewer : nodes_left behind t < nodes_left before t
 
--- A list is written, and what stands behind it is left, or the whole is made.
+-- A list in a head is written, and the part behind it is next, or the whole is made.
 abbrev pub Writes : CoreProgram → List Value → Term → Store → Store → List Side → List Side → Option Ref → Type 0
 Writes p vs t old new before behind None = ListWritten p vs t old new before behind
 Writes p vs t old new before behind (Some r) = Made (cells_left p before t) old new r (value_of p vs t)
