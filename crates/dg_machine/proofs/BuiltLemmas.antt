@@ -1,5 +1,5 @@
 -- Code is built of what a machine runs.
-use Rattle.std.proofs.Common.{◌≡◌, ◌<◌, ◌≤◌, ◌+◌, ℕ, zero, suc, List, ◌∷◌, drop, get_or, length, sym, ◌∙◌, ap, subst}
+use Rattle.std.proofs.Common.{◌≡◌, ◌<◌, ◌≤◌, ◌+◌, ℕ, zero, suc, List, [], ◌∷◌, drop, get_or, length, sym, ◌∙◌, ap, subst}
 use Rattle.std.specs.List.{slice_get}
 use Rattle.std.proofs.lemmas.List.{drop_more, drop_all}
 use Rattle.dg_mid.specs.declared.code.Op.{Op}
@@ -23,6 +23,18 @@ module _ (code : Code) where
 
   pub all_built : (ops : List Op) (k : ℕ) → length ops ≤ k → AreBuilt (drop k ops)
   all_built ops k le = subst AreBuilt (sym (drop_all k ops le)) (tt, tt)
+
+  -- what stands from a place on
+  built_on : (k : ℕ) (ops : List Op) → AreBuilt ops → AreBuilt (drop k ops)
+  built_on zero ops h = h
+  built_on (suc k) [] h = h
+  built_on (suc k) (x ∷ ops) h = built_on k ops (h.0.1, h.1.1)
+
+  -- one of them
+  pub built_at : (ops : List Op) (k : ℕ) (x : Op) → k < length ops → x ≡ get_or ops k x → AreBuilt ops → OpBuilt x × OpLeaves code x
+  built_at ops k x lt same h =
+      let rest : AreBuilt (x ∷ drop (k + 1) ops) = subst AreBuilt (here ops k x lt same) (built_on k ops h) in
+      (rest.0.0, rest.1.0)
 
   -- some blocks
   abbrev pub AreBlocks : List Block → Type 0

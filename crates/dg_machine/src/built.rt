@@ -9,19 +9,22 @@ use dg_base::Term;
 use dg_mid::{Action, Code, Op};
 
 fn are_arguments(terms: &[Term]) -> bool
-    ensures { IsTrue result → AreArguments terms.now }
+    ensures built { IsTrue result → AreArguments terms.now }
+    ensures sure { AreArguments terms.now → IsTrue result }
 {
     terms.len() <= MOST_ARGS
 }
 
 fn are_branches(blocks: &[u32]) -> bool
-    ensures { IsTrue result → AreBranches blocks.now }
+    ensures built { IsTrue result → AreBranches blocks.now }
+    ensures sure { AreBranches blocks.now → IsTrue result }
 {
     blocks.len() <= 65535
 }
 
 fn action_built(action: &Action) -> bool
-    ensures { IsTrue result → ActionBuilt action.now }
+    ensures built { IsTrue result → ActionBuilt action.now }
+    ensures sure { ActionBuilt action.now → IsTrue result }
 {
     match action {
         Action::Now(_, terms, _) => are_arguments(terms.as_slice()),
@@ -30,7 +33,8 @@ fn action_built(action: &Action) -> bool
 }
 
 fn op_built(op: &Op) -> bool
-    ensures { IsTrue result → OpBuilt op.now }
+    ensures built { IsTrue result → OpBuilt op.now }
+    ensures sure { OpBuilt op.now → IsTrue result }
 {
     match op {
         Op::Do(action) => action_built(action),
@@ -53,13 +57,15 @@ fn begins_commit(ops: &[Op]) -> bool
 }
 
 fn leaves_first(code: &Code, many: bool, next: u32) -> bool
-    ensures { IsTrue result → LeavesFirst code.now many next }
+    ensures leave { IsTrue result → LeavesFirst code.now many next }
+    ensures sure { LeavesFirst code.now many next → IsTrue result }
 {
     many || begins_commit(code_at(code, next))
 }
 
 fn op_leaves(code: &Code, op: &Op) -> bool
-    ensures { IsTrue result → OpLeaves code.now op.now }
+    ensures leave { IsTrue result → OpLeaves code.now op.now }
+    ensures sure { OpLeaves code.now op.now → IsTrue result }
 {
     match op {
         Op::Find(_, _, many, next) => leaves_first(code, *many, *next),
@@ -70,6 +76,7 @@ fn op_leaves(code: &Code, op: &Op) -> bool
 fn ops_built(code: &Code, ops: &[Op]) -> bool
     ensures built { IsTrue result → OpsBuilt ops.now }
     ensures leave { IsTrue result → OpsLeave code.now ops.now }
+    ensures sure { OpsBuilt ops.now → OpsLeave code.now ops.now → IsTrue result }
 {
     for op in ops {
         if !op_built(op) || !op_leaves(code, op) {
@@ -81,7 +88,8 @@ fn ops_built(code: &Code, ops: &[Op]) -> bool
 
 /// Whether a machine runs each instruction.
 pub fn is_built(code: &Code) -> bool
-    ensures { IsTrue result → IsBuilt code.now }
+    ensures built { IsTrue result → IsBuilt code.now }
+    ensures sure { IsBuilt code.now → IsTrue result }
 {
     let blocks = code.blocks.as_slice();
     for block in blocks {
