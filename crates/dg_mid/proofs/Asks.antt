@@ -10,7 +10,7 @@ use Rattle.dg_base.specs.declared.program.Rule.{Rule}
 use Rattle.dg_base.specs.declared.run.Limits.{Limits}
 use Rattle.dg_base.specs.declared.run.Ending.TheVariants as ending
 use Rattle.dg_meaning.specs.Values.{Value}
-use Rattle.dg_meaning.specs.Substitutions.{IsSubstitution}
+use Rattle.dg_meaning.specs.Substitutions.{IsSubstitution, links}
 use Rattle.dg_meaning.specs.World.{Game, World, Print, Asked, noted, worked}
 use Rattle.dg_meaning.specs.Cells.{cells, writing}
 use Rattle.dg_meaning.specs.Path.{Step, Do, Answers, Registers, Rules}
@@ -24,6 +24,8 @@ use Rattle.dg_mid.specs.declared.code.RuleCode.{RuleCode}
 use Rattle.dg_mid.specs.declared.code.Code.{Code}
 use Rattle.dg_mid.specs.Code.{block_at, rules_at, selected}
 use Rattle.dg_mid.specs.State.{Place, Frame, Call, Target, ToPred, Mid, vars_of, cut_of}
+use Rattle.dg_mid.specs.Actions.{registers_of}
+use Rattle.dg_mid.specs.Units.{asking}
 use Rattle.dg_mid.specs.Step.{Setting, setting, does, more, first_of, begins, asks, calls, asks_last, last, values, call_of}
 use Rattle.dg_mid.specs.Codes.{End, Stands, Returns, returns, RulesStand, Codes}
 use Rattle.dg_mid.specs.Reads.{silents, Behind, Layer, Reads, Mirrors, Comes, GathersAt}
@@ -78,6 +80,12 @@ module _ (code : Code) (the : Setting) (t : Target) (args : List Value) (many : 
 
 -- ## The goal
 
+-- the same is looked at under the same bindings
+looks_same : (r r' : Registers) (vs : List Value) → r.bound ≡ r'.bound → first_looks r vs ≡ first_looks r' vs
+looks_same r r' [] e = refl
+looks_same r r' (v ∷ vs) e = ap (λ S. 1 + links S v) e
+
+
 module _ (code : Code) (limits : Limits) (m : Mid) (ps : List Print) (ops : List Op) (g : Game) (n : ℕ) (w : World) (run : Run) (codes : Codes g.program code) (pred : ℕ) (terms : List Term) (many : Bool) (steps : List Step)
     (h : Here code m ps (Do (goal.Ask pred terms many) (vars_of m.frames) (cut_of m.frames).tag ∷ steps) g (suc n) w run) where
   abbrev the : Setting
@@ -106,7 +114,7 @@ module _ (code : Code) (limits : Limits) (m : Mid) (ps : List Print) (ops : List
 
   -- the query goes on at a block with these frames
   goes_asked : {least : ℕ} → (next : ℕ) (frames : List Frame) (inner : List Place) (answered : List ℕ) (after : List Step) → steps ≡ silents answered after → Reads g code (block_at code next) frames inner after →
-      least ≤ w.meters.work + (1 + writing terms) → Comes least ps the (asks the pred (call_of args many next (more k m')) (record (more k m') { frames = frames; inner = inner })) g n run
+      least ≤ w.meters.work + (1 + asking the terms m') → Comes least ps the (asks the pred (call_of args many next (more k m')) (record (more k m') { frames = frames; inner = inner })) g n run
   goes_asked {least = least} next frames inner answered after e reads le =
       let i = h.mirrors in
       let asked = noted (Asked pred) (worked (first_looks q args) v) in
@@ -124,12 +132,12 @@ module _ (code : Code) (limits : Limits) (m : Mid) (ps : List Print) (ops : List
         printed_is = nothing_more (Asked pred) (worked (first_looks q args) v) ps refl i.printed_is;
       })
       (subst (λ l. After g h.lives h.ways n (choice (Rules pred) q.next_tag (rule_branches g pred args many l q (rules_of (slice_get g.program.preds pred))) asked) run) e
-      (comes code m ps steps g n w run x f (outs-Ask pred terms many) h)) (omega (arith, le))
+      (comes code m ps steps g n w run x f (outs-Ask pred terms many) h)) (omega (arith, le, looks_same q (registers_of m') args i.agrees.bound))
 
   full : the.limits.heap < m.state.heap + k → Met the ending.HeapLimit ps g n run
   full = heap_full the m' ps k v g n run h.mirrors.printed_is (omega (arith, h.mirrors.agrees.heap)) (taken_grows code m ps steps g n w run x f (outs-Ask pred terms many) h)
 
-  pub ask : {least : ℕ} → (next : ℕ) (goals : List Goal) (end : End) (rest : List Step) → Stands code (block_at code next) goals end → Behind g code m.frames rest → GathersAt g end (vars_of m.frames) m.inner → steps ≡ steps_of m goals end rest → least ≤ w.meters.work + (1 + writing terms) → Comes least ps the (does the (op.Ask pred terms many next) m') g n run
+  pub ask : {least : ℕ} → (next : ℕ) (goals : List Goal) (end : End) (rest : List Step) → Stands code (block_at code next) goals end → Behind g code m.frames rest → GathersAt g end (vars_of m.frames) m.inner → steps ≡ steps_of m goals end rest → least ≤ w.meters.work + (1 + asking the terms m') → Comes least ps the (does the (op.Ask pred terms many next) m') g n run
   ask {least = least} next goals end rest s below valued e le =
       charge the [] k m' _ g n run full
       (goes_asked next m.frames m.inner [] steps refl (record { goals = goals; end = end; rest = rest; stands = s; below = below; gathers = valued; is = e }) le)
@@ -138,5 +146,5 @@ module _ (code : Code) (limits : Limits) (m : Mid) (ps : List Print) (ops : List
   answers_then : Behind g code m.frames steps → Reads g code (block_at code 0) m.frames [] steps
   answers_then below = subst (λ l. Reads g code l m.frames [] steps) (sym codes.answers) (record { goals = []; end = Returns; rest = steps; stands = returns []; below = below; gathers = tt; is = refl })
 
-  pub last_ask : {least : ℕ} → Behind g code m.frames steps → least ≤ w.meters.work + (1 + writing terms) → Comes least ps the (does the (op.LastAsk pred terms many) m') g n run
+  pub last_ask : {least : ℕ} → Behind g code m.frames steps → least ≤ w.meters.work + (1 + asking the terms m') → Comes least ps the (does the (op.LastAsk pred terms many) m') g n run
   last_ask {least = least} below le = charge the [] k m' _ g n run full (last_from code the (ToPred pred) args many (more k m') ps steps g n run (λ next frames inner answered after e reads. goes_asked next frames inner answered after e reads le) (answers_then below) m.frames below)

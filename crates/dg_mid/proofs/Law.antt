@@ -28,7 +28,7 @@ use Rattle.dg_mid.specs.declared.code.Code.{Code}
 use Rattle.dg_mid.specs.Code.{block_at, rules_at, selected, excluded}
 use Rattle.dg_mid.specs.State.{Place, Frame, Call, Target, ToPred, ToBody, Find, Way, Goes, Calls, Tries, Stop, Choice, Mid, Status, Runs, Enters, Resumes, Fails, Ended, vars_of, cut_of, place_of, inner_for, cut_choices, stop_to, Takes}
 use Rattle.dg_mid.specs.Step.{Setting, parameter, body_frame, body_equations, enters_body, calls, queries, queries_last, asked_by, values, seeks, trying, tries, done, made_in, gathers, gathering, taken_out, step, runs, does, charged, more, unified, bound, trail_more, if_agreed, if_passed, inside, passed, within, cut_to, enters, begins, asks, asks_last, last, first_of, returned, returns, commits, refuses, leaves, keeps, new_frame, enter, entered, resumed, goes_on, goes_back, at_rule, is_goal, call_of, shielded, gathering, stopped, stops, stops_at, keeps_value, takes, with_gathering, newest_with, takes_newest}
-use Rattle.dg_mid.specs.Units.{units, units_of, earned, earned_of, earned_by, effort, entering, drops, dropped, dropped_in, dropped_once, undone, unwound, unwound_to, one_if, act_work, effect_work, found_work, body_work, query_work, dropped_by, resuming, units_by, taking, taking_newest}
+use Rattle.dg_mid.specs.Units.{asking, units, units_of, earned, earned_of, earned_by, effort, entering, drops, dropped, dropped_in, dropped_once, undone, unwound, unwound_to, one_if, act_work, effect_work, found_work, body_work, query_work, dropped_by, resuming, units_by, taking, taking_newest}
 use Rattle.dg_mid.specs.Potential.{cut_from, pending, all_pending, nothing, is_goto, is_return, returning, due_at, due, stored, potential, begins_goto, begins_return, OpTidy, OpsTidy, EntersRule, AllEnter, Tidy, CutsFirst, MayAnswer, FramesTidy, Lower, CallFine, WayFine, ChoicesFine, FineWith, MidFine, Reaching, StatusFine, Affords}
 use Rattle.dg_mid.proofs.Pending.{one_gone, cut_falls, pending_falls, Fewer, all_fewer, choices_fewer, nothing_fewer, choices_trail, cut_fine, cut_pending, cut_lower, cut_length, WithPlace, with_fewer, executed, opened, opened_fine}
 use Rattle.dg_mid.specs.Actions.{terms_of, act_at, registers_of, world_of, world_by, outside_in}
@@ -514,7 +514,7 @@ module _ (g : Setting) (tidy : Tidy g.code) (rules : (pred : ℕ) → AllEnter g
       let p = act_pays (writing (terms_of a)) b m1 ps (cut_of m.frames).tag _ _ (effects_act (registers_of m1) (registers_of m1) (cut_of m.frames).tag [] (world_of ps m1) (world_of [] m1) _ _ same).1 h (λ t' e s ss f. let u = w t' e s ss f in record { fewer = u.fewer; trail = u.trail; fine = u.fine }) ts (omega (arith, le)) in
       charge _ b k (record m { ops = ops }) _ (record { fine = p.fine; few = let z = p.few in let y = drops_same (act_at g.game [] a (more k m)) ops (more k m) in omega (arith, z, y) })
   pays_op ps (op.Ask pred terms many next) ops m b h w t ts le = charge _ b _ (record m { ops = ops }) _ (asks_pays _ b pred (call_of (map (value_of g.game.program (vars_of m.frames)) terms) many next (more (cells g.game.program terms) (record m { ops = ops }))) (more (cells g.game.program terms) (record m { ops = ops })) h refl (λ e. absurd (let k : false ≡ true = sym t ∙ e in cc (k))) (omega (arith, le)))
-  pays_op ps (op.LastAsk pred terms many) ops m b h w t ts le = charge _ b _ (record m { ops = ops }) _ (lasts_pays (1 + writing terms) b (ToPred pred) (map (value_of g.game.program (vars_of m.frames)) terms) many m.frames (more (cells g.game.program terms) (record m { ops = ops })) refl h (omega (arith, le)))
+  pays_op ps (op.LastAsk pred terms many) ops m b h w t ts le = charge _ b _ (record m { ops = ops }) _ (lasts_pays (1 + asking g terms m) b (ToPred pred) (map (value_of g.game.program (vars_of m.frames)) terms) many m.frames (more (cells g.game.program terms) (record m { ops = ops })) refl h (omega (arith, le)))
   pays_op ps (op.Query a x many next) ops m b h w t ts le =
       let k = cells g.game.program (a ∷ option_terms x) in
       let p = queries_pays (1 + (writing (a ∷ option_terms x) + (1 + links m.state.subst (value_of g.game.program (vars_of m.frames) a)))) b (asked_by g a m) (values g m (option_terms x)) many next (more k (record m { ops = ops })) h t (omega (arith, le)) in

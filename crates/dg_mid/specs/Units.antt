@@ -9,7 +9,7 @@ use Rattle.dg_meaning.specs.Unify.{Equations, looks}
 use Rattle.dg_meaning.specs.Letters.{copied}
 use Rattle.dg_meaning.specs.World.{Print, Gathering}
 use Rattle.dg_meaning.specs.Cells.{cells, writing}
-use Rattle.dg_meaning.specs.Moves.{unifying}
+use Rattle.dg_meaning.specs.Moves.{unifying, first_looks}
 use Rattle.dg_meaning.specs.Path.{Act, Goes as GoesNow, Unifies, Stops, Effect, Acts, Offers}
 use Rattle.dg_unify.specs.Store.{State}
 use Rattle.dg_mid.specs.declared.code.Op.{Op}
@@ -17,7 +17,7 @@ use Rattle.dg_mid.specs.declared.code.Op.TheVariants as op
 use Rattle.dg_mid.specs.declared.code.Gathered.{Gathered}
 use Rattle.dg_mid.specs.Code.{block_at}
 use Rattle.dg_mid.specs.State.{Place, Frame, Call, Target, ToPred, ToBody, Find, Way, Goes, Takes, Calls, Tries, Stop, Choice, Mid, Status, Runs, Enters, Resumes, Fails, Ended, vars_of, cut_of, stop_to}
-use Rattle.dg_mid.specs.Actions.{terms_of, act_at, asked_at, found_at, world_by}
+use Rattle.dg_mid.specs.Actions.{terms_of, registers_of, act_at, asked_at, found_at, world_by}
 use Rattle.dg_mid.specs.Step.{Setting, more, passed, is_goal, new_frame, values, parameter, body_equations, asked_by, trying, taken_out}
 
 -- ## What the search counts
@@ -63,11 +63,15 @@ abbrev pub gathering_work : List Place → State → ℕ
 gathering_work [] s = 0
 gathering_work (p ∷ ps) s = keeping_work p.gathers s
 
+-- The work of a query with these arguments: they are written, and the first is looked up.
+abbrev pub asking : Setting → List Term → Mid → ℕ
+asking g terms m = writing terms + first_looks (registers_of m) (values g m terms)
+
 -- The work of an instruction, behind what was printed.
 abbrev pub effort : Setting → List Print → Op → Mid → ℕ
 effort g ps (op.Do a) m = writing (terms_of a) + act_work (act_at g.game ps a (more (cells g.game.program (terms_of a)) m))
-effort g ps (op.Ask pred terms many next) m = writing terms
-effort g ps (op.LastAsk pred terms many) m = writing terms
+effort g ps (op.Ask pred terms many next) m = asking g terms m
+effort g ps (op.LastAsk pred terms many) m = asking g terms m
 effort g ps (op.Query a b many next) m = asking_work g a b m
 effort g ps (op.LastQuery a b many) m = asking_work g a b m
 effort g ps (op.Find place terms many next) m =
