@@ -15,10 +15,11 @@ use Rattle.dg_arena.specs.Held.{meaning_of, saves_of}
 use Rattle.dg_mid.specs.declared.code.Code.{Code}
 use Rattle.dg_mid.specs.State.{Mid, Choice as ChoiceOf}
 use Rattle.dg_mid.specs.Step.{gathered_to}
+use Rattle.dg_mid.specs.Stops.{choices_of}
 use Rattle.dg_machine.specs.declared.now.Choice.{Choice}
 use Rattle.dg_machine.specs.declared.memory.Memory.{Memory}
 use Rattle.dg_machine.specs.Layout.{InnersAt, FramesAt, WayAt, ChoicesAt, HasRoom, Roomy, Holds, CanRestore, WentBack, heap_in, limit_in}
-use Rattle.dg_machine.specs.Stops.{tags_of, StopIs, choices_of, Among}
+use Rattle.dg_machine.specs.Stops.{tags_of, StopIs, Among}
 use Rattle.dg_machine.proofs.StopLemmas.{among_tail, among_fewer, among_same, under_up, under_few}
 use Rattle.dg_machine.proofs.Kept.{way_kept, frames_kept, inners_kept}
 use Rattle.dg_machine.proofs.Cuts.{drops, first_older, back_to}

@@ -6,7 +6,8 @@ use Rattle.dg_mid.specs.declared.code.Op.{Op}
 use Rattle.dg_mid.specs.declared.code.Block.{Block}
 use Rattle.dg_mid.specs.declared.code.Code.{Code}
 use Rattle.dg_mid.specs.Code.{ops_of}
-use Rattle.dg_machine.specs.Built.{OpBuilt, OpsBuilt, OpLeaves, OpsLeave, IsBuilt}
+use Rattle.dg_mid.specs.Seeking.{OpLeaves, OpsLeave}
+use Rattle.dg_machine.specs.Built.{OpBuilt, OpsBuilt, IsBuilt}
 
 -- what stands from a place on
 here : {A : Type 0} (xs : List A) (k : ℕ) (x : A) → k < length xs → x ≡ get_or xs k x → drop k xs ≡ x ∷ drop (k + 1) xs

@@ -45,7 +45,8 @@ use Rattle.dg_unify.specs.declared.bindings.Ref.{Ref}
 use Rattle.dg_machine.specs.Standing.{CodeIs, Stands, Falls, EntersWith, EntersIn, CallBegins, CallsRules}
 use Rattle.dg_machine.proofs.Kept.{call_kept}
 use Rattle.dg_machine.proofs.Opens.{left_more}
-use Rattle.dg_machine.proofs.PassedRules.{codes_selected, EndsIn, ends_on, selected_end, last_end, next_end, AreLast, are_last, no_longer}
+use Rattle.dg_mid.proofs.RulesLeft.{EndsIn, ends_on, selected_end, next_end, no_longer}
+use Rattle.dg_machine.proofs.PassedRules.{codes_selected, last_end, AreLast, are_last}
 use Rattle.dg_machine.proofs.Hands.{some_frame, no_frame, no_jump, few, at_most_one}
 use Rattle.dg_machine.proofs.Leads.{was_cut, charged_led, charged_within, charged_stands, full_stands, height_now, way_held, call_held}
 

@@ -26,13 +26,11 @@ pub mod Compares
 pub mod Throws
 pub mod Changes
 pub mod Selects
-pub mod Seeks
 pub mod CellLemmas
 pub mod ListCopies
 pub mod Trying
 pub mod Answered
 pub mod Prints
-pub mod Asked
 pub mod Outsides
 pub mod Gatherings
 mod Takings

@@ -16,6 +16,7 @@ use Rattle.dg_arena.specs.Held.{meaning_of, saves_of}
 use Rattle.dg_mid.specs.declared.code.Code.{Code}
 use Rattle.dg_mid.specs.State.{Place, Mid, Stop, Goes as GoesOf, Frame as FrameOf, Call as CallOf, Way as WayOf, Choice as ChoiceOf}
 use Rattle.dg_mid.specs.Step.{more, inside, within, new_choice, new_stop}
+use Rattle.dg_mid.specs.Stops.{choices_of}
 use Rattle.dg_machine.specs.declared.now.Frame.{Frame}
 use Rattle.dg_machine.specs.declared.now.Inner.{Inner}
 use Rattle.dg_machine.specs.declared.now.Choice.{Choice}
@@ -27,7 +28,7 @@ use Rattle.dg_machine.specs.Built.{most_args}
 use Rattle.dg_machine.specs.Links.{named}
 use Rattle.dg_machine.specs.Layout.{RefsFit, KeptAt, InnersAt, FramesAt, WayAt, ChoicesAt, AreAmong, HasRoom, Roomy, Lacks, HoldsWith, Holds, HasFrameRoom, in_frame, heap_in, limit_in, choice_here}
 use Rattle.dg_machine.specs.Measure.{way_left, choices_left}
-use Rattle.dg_machine.specs.Stops.{tags_of, StopIs, choices_of, Among}
+use Rattle.dg_machine.specs.Stops.{tags_of, StopIs, Among}
 use Rattle.dg_machine.proofs.StopLemmas.{among_front, among_same, tags_length, choices_length, under_up, under_few}
 use Rattle.dg_machine.proofs.Kept.{way_kept, inners_kept, frames_kept, among_kept}
 use Rattle.dg_unify.proofs.StoreLemmas.{kept_on}

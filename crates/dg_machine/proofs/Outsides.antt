@@ -39,7 +39,7 @@ use Rattle.dg_machine.specs.declared.memory.Memory.{Memory}
 use Rattle.dg_machine.specs.Built.{ActionBuilt, OpBuilt, IsQuietOp}
 use Rattle.dg_machine.specs.Layout.{WayAt, WentBack}
 use Rattle.dg_machine.specs.Standing.{Around, HasOutside}
-use Rattle.dg_machine.proofs.Asked.{ActKeeps, EffectKeeps, asked_keeps, found_keeps, trying_keeps, trying_gathered}
+use Rattle.dg_mid.proofs.Asked.{ActKeeps, EffectKeeps, asked_keeps, found_keeps, trying_keeps, trying_gathered}
 
 -- a machine has this outside, with these gatherings, and so has a status
 abbrev pub Same : OutsideOf → List Gathering → Mid → Type 0

@@ -12,6 +12,7 @@ use Rattle.dg_mid.specs.Code.{block_at}
 use Rattle.dg_mid.specs.State.{Stop, Mid, Choice as ChoiceOf, Goes as GoesOf, Runs as RunsOf, cut_choices, stop_to}
 use Rattle.dg_mid.specs.Step.{setting, more, stopped, stops, stops_at, leaves}
 use Rattle.dg_mid.specs.Heights.{AgreeAll, StopsNamed, PlacesNamed, MidOrdered}
+use Rattle.dg_mid.specs.Stops.{choice_of, choices_of}
 use Rattle.dg_machine.specs.declared.now.Inner.{Inner}
 use Rattle.dg_machine.specs.declared.now.Choice.{Choice}
 use Rattle.dg_machine.specs.declared.now.Way.{Way}
@@ -20,7 +21,7 @@ use Rattle.dg_machine.specs.declared.now.Now.TheVariants.{Runs, Fails}
 use Rattle.dg_machine.specs.declared.memory.Memory.{Memory}
 use Rattle.dg_machine.specs.Links.{named, below}
 use Rattle.dg_machine.specs.Built.{IsBuilt}
-use Rattle.dg_machine.specs.Stops.{tags_of, choice_of, choices_of, Among}
+use Rattle.dg_machine.specs.Stops.{tags_of, Among}
 use Rattle.dg_unify.specs.Store.{Saved}
 use Rattle.dg_unify.specs.declared.bindings.Ref.{Ref}
 use Rattle.dg_arena.specs.Held.{meaning_of}

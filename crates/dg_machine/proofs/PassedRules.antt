@@ -1,5 +1,5 @@
 -- Which rules are left.
-use Rattle.std.proofs.Common.{◌≡◌, ℕ, ◌≤◌, ◌-◌, List, [], ◌∷◌, ◌++◌, append_assoc, Option, Some, None, refl, sym, ap, ◌∙◌, arith, length, drop, take}
+use Rattle.std.proofs.Common.{◌≡◌, ℕ, ◌≤◌, ◌-◌, List, [], ◌∷◌, Option, Some, None, refl, sym, ap, ◌∙◌, arith, length, drop, take}
 use Rattle.std.specs.Prelude.{if◌then◌else◌}
 use Rattle.std.specs.List.{slice_get}
 use Rattle.std.proofs.lemmas.Bool.{cond_both}
@@ -20,6 +20,7 @@ use Rattle.dg_mid.specs.declared.code.Code.{Code}
 use Rattle.dg_mid.specs.Code.{label_of, excluded, selected, rules_at}
 use Rattle.dg_mid.specs.State.{Call}
 use Rattle.dg_mid.specs.Step.{first_of, walked}
+use Rattle.dg_mid.proofs.RulesLeft.{EndsIn, ends_here, ends_later, no_longer}
 use Rattle.dg_machine.specs.Layout.{last_rules}
 use Rattle.dg_machine.specs.Refs.{RefsAt}
 use Rattle.dg_machine.specs.Passing.{has_label, view_differs, view_excludes, codes_from, IsFirst}
@@ -62,31 +63,10 @@ codes_selected s refs first c is at (r ∷ rs) =
 
 -- ## The last rules
 
--- some rules stand at the end of others
-pub record EndsIn (all rules : List RuleCode) : Type 0 where
-  pub front : List RuleCode
-  pub is : all ≡ front ++ rules
-
-ends_here : (rules : List RuleCode) → EndsIn rules rules
-ends_here rules = record { front = []; is = refl }
-
-ends_later : (r : RuleCode) (all rules : List RuleCode) → EndsIn all rules → EndsIn (r ∷ all) rules
-ends_later r all rules h = record { front = r ∷ h.front; is = ap (λ l. r ∷ l) h.is }
-
-pub ends_on : (all mid rules : List RuleCode) → EndsIn all mid → EndsIn mid rules → EndsIn all rules
-ends_on all mid rules a b = record { front = a.front ++ b.front; is = a.is ∙ ap (λ l. a.front ++ l) b.is ∙ sym (append_assoc a.front b.front rules) }
-
-pub selected_end : (first : Option Value) (rules : List RuleCode) → EndsIn rules (selected first rules)
-selected_end first [] = ends_here []
-selected_end first (r ∷ rs) = cond_both (excluded first r.key) (selected first rs) (r ∷ rs) (EndsIn (r ∷ rs)) (λ e. ends_later r rs (selected first rs) (selected_end first rs)) (λ e. ends_here (r ∷ rs))
-
 pub last_end : (code : Code) (pred left : ℕ) → EndsIn (rules_at code pred) (last_rules code pred left)
 last_end code pred left =
     let all = rules_at code pred in
     record { front = take (length all - left) all; is = sym (take-append-drop (length all - left) all) }
-
-pub next_end : (r : RuleCode) (all rules : List RuleCode) → EndsIn all (r ∷ rules) → EndsIn all rules
-next_end r all rules h = record { front = h.front ++ r ∷ []; is = h.is ∙ sym (append_assoc h.front (r ∷ []) rules) }
 
 -- rules at the end are the last so many
 pub record AreLast (code : Code) (pred : ℕ) (rules : List RuleCode) : Type 0 where
@@ -99,9 +79,6 @@ are_last code pred rules h =
     let len = ap length h.is ∙ length-append h.front rules in
     let front : length all - length rules ≡ length h.front = omega (arith, len) in
     record { there = omega (arith, len); are = sym (ap (λ n. drop n all) front ∙ ap (drop (length h.front)) h.is ∙ drop-append_seam h.front rules) }
-
-pub no_longer : (all rules : List RuleCode) → EndsIn all rules → length rules ≤ length all
-no_longer all rules h = let len = ap length h.is ∙ length-append h.front rules in omega (arith, len)
 
 pub passed_end : (first : Option View) (rules : List RuleCode) → EndsIn rules (codes_from first rules)
 passed_end first [] = ends_here []

@@ -44,7 +44,7 @@ use Rattle.dg_machine.specs.Layout.{Holds}
 use Rattle.dg_machine.specs.Measure.{left_of}
 use Rattle.dg_machine.specs.Standing.{CodeIs, Stands, HasOutside}
 use Rattle.dg_outside.specs.declared.outside.Outside.{Outside}
-use Rattle.dg_machine.proofs.Seeks.{all_seek}
+use Rattle.dg_mid.proofs.Seeks.{all_seek}
 use Rattle.dg_machine.specs.Built.{IsBuilt}
 use Rattle.dg_machine.specs.declared.tables.Tables.{Tables}
 use Rattle.dg_machine.specs.Tables.{IsOf}

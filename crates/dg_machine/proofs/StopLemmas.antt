@@ -3,9 +3,10 @@ use Rattle.std.proofs.Common.{◌≡◌, ℕ, zero, suc, ◌*◌, ◌<◌, ◌�
 use Rattle.std.specs.List.{slice_get}
 use Rattle.dg_meaning.specs.OneRun.{Begins}
 use Rattle.dg_mid.specs.State.{Stop, Choice as ChoiceOf}
+use Rattle.dg_mid.specs.Stops.{choices_of}
 use Rattle.dg_machine.specs.declared.now.Choice.{Choice}
 use Rattle.dg_machine.specs.Links.{named}
-use Rattle.dg_machine.specs.Stops.{tags_of, StopIs, choices_of, Among, IsUnder}
+use Rattle.dg_machine.specs.Stops.{tags_of, StopIs, Among, IsUnder}
 
 -- ## Names
 

@@ -34,7 +34,7 @@ use Rattle.dg_mid.specs.Reads.{outside_of}
 use Rattle.dg_mid.specs.State.{Place, Find as FindOf, Way as WayOf, Tries as TriesOf, Mid, Runs as RunsOf, Fails as FailsOf, inner_for, place_of}
 use Rattle.dg_mid.specs.Heights.{MidOrdered, PlacesNamed}
 use Rattle.dg_mid.specs.Step.{setting, commits, cut_to, runs, step, bound, done, unified, if_agreed, goes_on, inside, trying, trying_cells, tries}
-use Rattle.dg_machine.specs.Built.{OpsBuilt, IsBuilt, LeavesFirst}
+use Rattle.dg_machine.specs.Built.{OpsBuilt, IsBuilt}
 use Rattle.dg_machine.specs.declared.memory.Memory.{Memory}
 use Rattle.dg_machine.specs.declared.now.Now.{Now}
 use Rattle.dg_machine.specs.declared.now.Now.TheVariants.{Runs, Enters, Resumes, Leaves, Misses, Fails, Ended}
@@ -45,7 +45,7 @@ use Rattle.dg_machine.specs.Layout.{WayAt, Holds, Lacks, Matched, Unmatched}
 use Rattle.dg_machine.specs.Links.{below}
 use Rattle.dg_machine.specs.Measure.{lap, left_of, choices_left, way_left, with_way}
 use Rattle.dg_machine.specs.Refs.{RefsAt}
-use Rattle.dg_machine.specs.Seeking.{WaySeeks}
+use Rattle.dg_mid.specs.Seeking.{LeavesFirst, WaySeeks}
 use Rattle.dg_machine.specs.Standing.{Stands, Falls, Around, HoldsAround}
 use Rattle.dg_machine.proofs.Hands.{few, at_most_one, cut_left}
 use Rattle.dg_machine.proofs.Leads.{charged_led, full_stands, was_cut}

@@ -1,5 +1,5 @@
 -- The code that a machine runs. Hold it against the README.
-use Rattle.std.specs.Prelude.{ℕ, ◌≡◌, ◌≤◌, List, [], ◌∷◌, Bool, true, false, length}
+use Rattle.std.specs.Prelude.{ℕ, ◌≤◌, List, [], ◌∷◌, length}
 use Rattle.dg_base.specs.declared.program.Term.{Term}
 use Rattle.dg_base.specs.declared.program.Term.TheOpen as term
 use Rattle.dg_mid.specs.declared.code.Op.{Op}
@@ -8,6 +8,7 @@ use Rattle.dg_mid.specs.declared.code.Action.{Action}
 use Rattle.dg_mid.specs.declared.code.Action.TheVariants as action
 use Rattle.dg_mid.specs.declared.code.Code.{Code}
 use Rattle.dg_mid.specs.Code.{block_at}
+use Rattle.dg_mid.specs.Seeking.{OpsLeave}
 
 -- A term that isn't a pair.
 abbrev pub IsNoPair : term.Term-F Term → Type 0
@@ -77,26 +78,6 @@ OpBuilt op.Done = Unit {0}
 abbrev pub OpsBuilt : List Op → Type 0
 OpsBuilt [] = Unit {0}
 OpsBuilt (x ∷ ops) = OpBuilt x × OpsBuilt ops
-
--- Code begins with the leaving of an inner construct.
-abbrev pub begins_commit : List Op → Bool
-begins_commit (op.Commit ∷ ops) = true
-begins_commit ops = false
-
--- Where one answer of a query of objects is wanted, it goes on at a block that leaves an inner construct first.
-abbrev pub LeavesFirst : Code → Bool → ℕ → Type 0
-LeavesFirst code true next = Unit {0}
-LeavesFirst code false next = begins_commit (block_at code next) ≡ true
-
--- So does an instruction.
-abbrev pub OpLeaves : Code → Op → Type 0
-OpLeaves code (op.Find place terms many next) = LeavesFirst code many next
-OpLeaves code x = Unit {0}
-
--- So does each of some instructions.
-abbrev pub OpsLeave : Code → List Op → Type 0
-OpsLeave code [] = Unit {0}
-OpsLeave code (x ∷ ops) = OpLeaves code x × OpsLeave code ops
 
 -- Code has no other instructions, and queries of objects in it go on so.
 pub record IsBuilt (code : Code) : Type 0 where

@@ -24,11 +24,11 @@ use Rattle.dg_machine.specs.declared.now.Now.TheVariants.{Enters, Resumes}
 use Rattle.dg_machine.specs.declared.now.Search.{Search}
 use Rattle.dg_machine.specs.declared.now.Way.TheVariants.{Tries}
 use Rattle.dg_machine.specs.declared.tables.Tables.{Tables}
-use Rattle.dg_machine.specs.Built.{LeavesFirst, OpBuilt}
+use Rattle.dg_machine.specs.Built.{OpBuilt}
 use Rattle.dg_machine.specs.Layout.{FindAt, Holds}
 use Rattle.dg_machine.specs.Measure.{lap, left_of, choices_left, with_way}
 use Rattle.dg_machine.specs.Refs.{RefsAt}
-use Rattle.dg_machine.specs.Seeking.{WaySeeks}
+use Rattle.dg_mid.specs.Seeking.{LeavesFirst, WaySeeks}
 use Rattle.dg_machine.specs.Standing.{CodeIs, Stands, Falls, Around}
 use Rattle.dg_machine.specs.Tables.{IsOf}
 

@@ -14,6 +14,7 @@ use Rattle.dg_mid.specs.Code.{rules_at}
 use Rattle.dg_outside.specs.Finding.{counted}
 use Rattle.dg_mid.specs.State.{Place, Mid, Stop, Frame as FrameOf, Call as CallOf, Find as FindOf, Way as WayOf, Goes as GoesOf, Takes as TakesOf, Calls as CallsOf, Tries as TriesOf, Choice as ChoiceOf}
 use Rattle.dg_mid.specs.Step.{more, inside, new_stop, back_at, bound, trail_more}
+use Rattle.dg_mid.specs.Stops.{choices_of}
 use Rattle.dg_unify.specs.declared.bindings.Ref.{Ref}
 use Rattle.dg_unify.specs.declared.bindings.Mark.{Mark}
 use Rattle.dg_machine.specs.declared.now.Row.{Row}
@@ -28,7 +29,7 @@ use Rattle.dg_machine.specs.declared.memory.Memory.{Memory}
 use Rattle.dg_machine.specs.Links.{named}
 use Rattle.dg_machine.specs.Refs.{RowAt, RefsAt}
 use Rattle.dg_machine.specs.Built.{most_args}
-use Rattle.dg_machine.specs.Stops.{tags_of, StopIs, choices_of, Among, IsUnder}
+use Rattle.dg_machine.specs.Stops.{tags_of, StopIs, Among, IsUnder}
 
 -- ## Frames and inner constructs
 

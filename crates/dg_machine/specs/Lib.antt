@@ -6,7 +6,6 @@ pub mod Stops
 pub mod Heads
 pub mod Layout
 pub mod Built
-pub mod Seeking
 pub mod Measure
 pub mod Standing
 pub mod Wording

@@ -47,7 +47,7 @@ use Rattle.dg_machine.specs.Measure.{left_of, with_way}
 use Rattle.dg_machine.specs.declared.tables.Tables.{Tables}
 use Rattle.dg_machine.specs.Tables.{IsOf}
 use Rattle.dg_machine.specs.Built.{OpBuilt, OpsBuilt, IsBuilt}
-use Rattle.dg_machine.specs.Seeking.{WaySeeks}
+use Rattle.dg_mid.specs.Seeking.{WaySeeks}
 
 -- What is done next, where an instruction with this code behind it comes to that.
 abbrev pub comes_to : Did → Bor (List Op) → Now

@@ -1,6 +1,6 @@
 -- How stoppable parts lie in memory, and the choices that they keep. Hold it against the Dialog manual, chapter "Control flow".
 use Rattle.std.specs.Prelude.{ℕ, ◌*◌, ◌≡◌, ◌<◌, ◌≤◌, ◌++◌, ◌⊎◌, List, [], ◌∷◌, Option, length}
-use Rattle.dg_mid.specs.State.{Stop, Goes, Choice as ChoiceOf}
+use Rattle.dg_mid.specs.State.{Stop, Choice as ChoiceOf}
 use Rattle.dg_machine.specs.declared.now.Choice.{Choice}
 use Rattle.dg_machine.specs.Links.{named}
 
@@ -13,24 +13,6 @@ tags_of (s ∷ ss) = tags_of ss ++ s.place.tag ∷ []
 pub record StopIs (tags : List ℕ) (n : ℕ) (stop : Option ℕ) : Type 0 where
   pub within : n ≤ length tags
   pub is : named tags n ≡ stop
-
--- A stoppable part is kept as the choice that opened with it.
-abbrev pub choice_of : Stop → List Stop → ChoiceOf
-choice_of s around = record {
-  place = s.place;
-  way = Goes s.block;
-  frames = s.frames;
-  inner = s.inner;
-  stops = around;
-  stop = s.place.outer;
-  height = s.height;
-  state = s.state;
-}
-
--- So is each of some, the innermost first.
-abbrev pub choices_of : List Stop → List ChoiceOf
-choices_of [] = []
-choices_of (s ∷ ss) = choice_of s ss ∷ choices_of ss
 
 -- Choices are among others, in their order, and stand for some of what those stand for.
 abbrev pub Among : List Choice → List ChoiceOf → List Choice → List ChoiceOf → Type 0

@@ -1,7 +1,8 @@
 // Whether a machine runs each instruction of some code.
 ghost use Rattle.std.specs.Prelude.{◌≡◌, IsTrue};
-ghost use Rattle.dg_machine.specs.Built as spec;
-ghost use Rattle.dg_machine.specs.Built.{AreArguments, AreBranches, ActionBuilt, OpBuilt, OpsBuilt, LeavesFirst, OpLeaves, OpsLeave, IsBuilt};
+ghost use Rattle.dg_machine.specs.Built.{AreArguments, AreBranches, ActionBuilt, OpBuilt, OpsBuilt, IsBuilt};
+ghost use Rattle.dg_mid.specs.Seeking as spec;
+ghost use Rattle.dg_mid.specs.Seeking.{LeavesFirst, OpLeaves, OpsLeave};
 
 use crate::doing::code_at;
 use crate::refs::MOST_ARGS;

@@ -19,6 +19,9 @@ pub mod Simulation
 pub mod Whole
 pub mod Shown
 pub mod Heights
+pub mod RulesLeft
+pub mod Asked
+pub mod Seeks
 pub mod Falling
 pub mod Pending
 pub mod Trails

@@ -6,9 +6,11 @@ use Rattle.dg_meaning.specs.Transcript.{run}
 use Rattle.dg_mid.specs.declared.code.Code.{Code}
 use Rattle.dg_mid.specs.State.{Status}
 use Rattle.dg_mid.specs.Step.{Setting, setting, step, takes_goal}
+use Rattle.dg_mid.specs.Code.{block_at}
 use Rattle.dg_mid.specs.Codes.{Codes}
 use Rattle.dg_mid.specs.Runs.{after, IsAt, ShowsAll, ShowsFaults}
 use Rattle.dg_mid.specs.Heights.{StatusOrdered}
+use Rattle.dg_mid.specs.Seeking.{OpsLeave, StatusSeeks}
 use Rattle.dg_mid.specs.Falling.{left_at}
 use Rattle.dg_mid.specs.Potential.{Tidy, IsOver}
 
@@ -28,6 +30,11 @@ CodeShowsFaults = (g : Game) (code : Code) (limits : Limits) → Codes g.program
 -- In every run of any code, heights order places as tags do.
 abbrev pub HeightsOrder : Type 0
 HeightsOrder = (s : Setting) (typed : List ℕ) (k : ℕ) → StatusOrdered (after s typed k).now
+
+-- In every run of code in which queries of objects for one answer leave an inner construct first, objects are tried where they may be found.
+abbrev pub ObjectsTried : Type 0
+ObjectsTried = (s : Setting) → ((b : ℕ) → OpsLeave s.code (block_at s.code b)) → (typed : List ℕ) (k : ℕ) →
+    StatusSeeks s.game s.code (after s typed k).now
 
 -- In tidy code a number falls at each step that takes no goal, until the run has ended.
 abbrev pub Falls : Type 0

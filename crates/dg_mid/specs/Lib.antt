@@ -9,6 +9,8 @@ pub mod Reads
 pub mod Left
 pub mod Runs
 pub mod Heights
+pub mod Stops
+pub mod Seeking
 pub mod Falling
 pub mod Potential
 pub mod Laws

@@ -1,5 +1,5 @@
 // What holds of all register code.
-ghost use Rattle.dg_mid.specs.Laws.{CodeShows, CodeShowsFaults, CostsItsWork, Falls, HeightsOrder, LooksItsWork, MovesOn, RunsAsSearched};
+ghost use Rattle.dg_mid.specs.Laws.{CodeShows, CodeShowsFaults, CostsItsWork, Falls, HeightsOrder, LooksItsWork, MovesOn, ObjectsTried, RunsAsSearched};
 
 /// Every run of code that stands for a program is a run of its search.
 pub fn code_runs_as_searched()
@@ -19,6 +19,11 @@ pub fn code_shows_faults()
 /// Heights order places as tags do, in every run of any code, so an engine may cut by heights.
 pub fn heights_order_places()
     ensures { HeightsOrder }
+{}
+
+/// Objects are tried where they may be found, and where one answer is wanted an inner construct is left then.
+pub fn objects_are_tried_where_they_may_be()
+    ensures { ObjectsTried }
 {}
 
 /// A number falls at each step of tidy code that takes no goal, so the next goal or the end comes.

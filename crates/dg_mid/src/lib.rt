@@ -17,7 +17,7 @@ pub use code::{Action, Block, BodyCode, Code, Gathered, Key, Op, RuleCode};
 pub use heads::{Head, is_plain};
 pub use laws::{
     code_costs_its_work, code_moves_on, code_runs_as_searched, code_shows_faults,
-    code_shows_the_game, heights_order_places, steps_come_to_a_goal,
+    code_shows_the_game, heights_order_places, objects_are_tried_where_they_may_be, steps_come_to_a_goal,
 };
 pub use letting::let_go;
 pub use programs::to_mid;

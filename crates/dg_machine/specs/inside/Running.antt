@@ -33,7 +33,7 @@ use Rattle.dg_machine.specs.declared.tables.Tables.{Tables}
 use Rattle.dg_machine.specs.Tables.{IsOf}
 use Rattle.dg_machine.specs.Built.{BeginsQuietly}
 use Rattle.dg_machine.specs.Layout.{Roomy, Holds}
-use Rattle.dg_machine.specs.Seeking.{StatusSeeks}
+use Rattle.dg_mid.specs.Seeking.{StatusSeeks}
 use Rattle.dg_machine.specs.Standing.{CodeIs, Stands, Around, HasOutside}
 use Rattle.dg_machine.specs.Measure.{left_of, with_way}
 use Rattle.dg_machine.specs.inside.Reading.{IsEnd, LeftBehind, Gave, Failed}

@@ -2,7 +2,8 @@ use Rattle.std.proofs.Common.{◌≡◌, sym, ap, length, ◌∙◌, subst}
 use Rattle.dg_mid.specs.Code.{rules_at}
 use Rattle.dg_machine.specs.Passing.{codes_from}
 use Rattle.dg_machine.proofs.Leaving.{asked_all}
-use Rattle.dg_machine.proofs.PassedRules.{EndsIn, are_last, passed_end}
+use Rattle.dg_mid.proofs.RulesLeft.{EndsIn}
+use Rattle.dg_machine.proofs.PassedRules.{are_last, passed_end}
 use Rattle.dg_machine.proofs.memory.Memory.ask_rules.Goals as goal
 
 pub call_first-requires-clause-there : goal.call_first-requires-clause-there

@@ -28,8 +28,7 @@ use Rattle.dg_mid.specs.Step.{Setting, more, charged, bound, unified, if_agreed,
 use Rattle.dg_mid.specs.Step.{does, runs, commits, refuses, leaves, returns, returned, entered, resumed, goes_on, goes_back, step, passed, parameter, body_equations, body_frame, new_frame, first_of, keeps, gathering, gathers}
 use Rattle.dg_mid.specs.Step.{newest_with, keeps_value, taken_out, takes_newest, takes, trying, trying_cells, tries}
 use Rattle.dg_mid.specs.declared.code.Gathered.{Gathered}
-use Rattle.dg_machine.specs.Built.{LeavesFirst, OpLeaves, OpsLeave}
-use Rattle.dg_machine.specs.Seeking.{WaySeeks, ChoicesSeek, MidSeeks, StatusSeeks}
+use Rattle.dg_mid.specs.Seeking.{LeavesFirst, OpLeaves, OpsLeave, WaySeeks, ChoicesSeek, MidSeeks, StatusSeeks}
 
 -- ## Queries of objects
 

@@ -1,11 +1,37 @@
 -- What choices of objects may try, and where they go on. Hold it against the Dialog manual, chapter "Choice points".
-use Rattle.std.specs.Prelude.{◌≡◌, List, [], ◌∷◌, true}
+use Rattle.std.specs.Prelude.{ℕ, ◌≡◌, List, [], ◌∷◌, Bool, true, false}
 use Rattle.dg_meaning.specs.Facts.{kinds_of}
 use Rattle.dg_meaning.specs.World.{Game}
 use Rattle.dg_outside.specs.Finding.{may_find}
+use Rattle.dg_mid.specs.declared.code.Op.{Op}
+use Rattle.dg_mid.specs.declared.code.Op.TheVariants as op
 use Rattle.dg_mid.specs.declared.code.Code.{Code}
+use Rattle.dg_mid.specs.Code.{block_at}
 use Rattle.dg_mid.specs.State.{Way, Tries, Choice, Mid, Status, Runs, Enters, Resumes, Fails, Ended}
-use Rattle.dg_machine.specs.Built.{LeavesFirst, OpsLeave}
+
+-- ## Code
+
+-- Code begins with the leaving of an inner construct.
+abbrev pub begins_commit : List Op → Bool
+begins_commit (op.Commit ∷ ops) = true
+begins_commit ops = false
+
+-- Where one answer of a query of objects is wanted, it goes on at a block that leaves an inner construct first.
+abbrev pub LeavesFirst : Code → Bool → ℕ → Type 0
+LeavesFirst code true next = Unit {0}
+LeavesFirst code false next = begins_commit (block_at code next) ≡ true
+
+-- So does an instruction.
+abbrev pub OpLeaves : Code → Op → Type 0
+OpLeaves code (op.Find place terms many next) = LeavesFirst code many next
+OpLeaves code x = Unit {0}
+
+-- So does each of some instructions.
+abbrev pub OpsLeave : Code → List Op → Type 0
+OpsLeave code [] = Unit {0}
+OpsLeave code (x ∷ ops) = OpLeaves code x × OpsLeave code ops
+
+-- ## Runs
 
 -- Objects are tried at a place that speaks of them, and where one answer is wanted an inner construct is left first.
 abbrev pub WaySeeks : Game → Code → Way → Type 0
