@@ -12,7 +12,7 @@ use Rattle.dg_base.specs.declared.run.Ending.TheVariants as ending
 use Rattle.dg_meaning.specs.Values.{Value}
 use Rattle.dg_meaning.specs.Substitutions.{IsSubstitution, links}
 use Rattle.dg_meaning.specs.World.{Game, World, Print, Asked, noted, worked}
-use Rattle.dg_meaning.specs.Cells.{cells, writing}
+use Rattle.dg_meaning.specs.Cells.{cells}
 use Rattle.dg_meaning.specs.Path.{Step, Do, Answers, Registers, Rules}
 use Rattle.dg_meaning.specs.Moves.{first_alone, first_looks, choice, exhausted, rules_of, rule_branches}
 use Rattle.dg_meaning.specs.Transcript.{Run}
@@ -84,7 +84,6 @@ module _ (code : Code) (the : Setting) (t : Target) (args : List Value) (many : 
 looks_same : (r r' : Registers) (vs : List Value) → r.bound ≡ r'.bound → first_looks r vs ≡ first_looks r' vs
 looks_same r r' [] e = refl
 looks_same r r' (v ∷ vs) e = ap (λ S. 1 + links S v) e
-
 
 module _ (code : Code) (limits : Limits) (m : Mid) (ps : List Print) (ops : List Op) (g : Game) (n : ℕ) (w : World) (run : Run) (codes : Codes g.program code) (pred : ℕ) (terms : List Term) (many : Bool) (steps : List Step)
     (h : Here code m ps (Do (goal.Ask pred terms many) (vars_of m.frames) (cut_of m.frames).tag ∷ steps) g (suc n) w run) where

@@ -22,6 +22,12 @@ pub mod Heights
 pub mod RulesLeft
 pub mod Asked
 pub mod Seeks
+pub mod Endings
+pub mod Open
+pub mod Standing
+pub mod Deep
+pub mod FitCode
+pub mod CallsFit
 pub mod Falling
 pub mod Pending
 pub mod Trails

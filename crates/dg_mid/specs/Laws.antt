@@ -1,15 +1,19 @@
 -- What holds of all register code. Hold it against the Dialog manual, chapters "Choice points" and "Output", and docs/LANGUAGE.md, "Limits".
-use Rattle.std.specs.Prelude.{ℕ, ◌+◌, ◌*◌, ◌≡◌, ◌<◌, ◌≤◌, ◌⊎◌, List, false}
+use Rattle.std.specs.Prelude.{ℕ, ◌+◌, ◌*◌, ◌≡◌, ◌≢◌, ◌<◌, ◌≤◌, ◌⊎◌, List, false}
+use Rattle.dg_base.specs.declared.run.Ending.TheVariants.{StepLimit}
 use Rattle.dg_base.specs.declared.run.Limits.{Limits}
+use Rattle.dg_base.specs.Sound.{IsSound}
 use Rattle.dg_meaning.specs.World.{Game}
 use Rattle.dg_meaning.specs.Transcript.{run}
 use Rattle.dg_mid.specs.declared.code.Code.{Code}
-use Rattle.dg_mid.specs.State.{Status}
+use Rattle.dg_mid.specs.State.{Status, Ended}
 use Rattle.dg_mid.specs.Step.{Setting, setting, step, takes_goal}
 use Rattle.dg_mid.specs.Code.{block_at}
 use Rattle.dg_mid.specs.Codes.{Codes}
 use Rattle.dg_mid.specs.Runs.{after, IsAt, ShowsAll, ShowsFaults}
 use Rattle.dg_mid.specs.Heights.{StatusOrdered}
+use Rattle.dg_mid.specs.Trails.{StatusTrailed}
+use Rattle.dg_mid.specs.Calls.{AllHoldFew, StatusCuts, StatusFits}
 use Rattle.dg_mid.specs.Seeking.{OpsLeave, StatusSeeks}
 use Rattle.dg_mid.specs.Falling.{left_at}
 use Rattle.dg_mid.specs.Potential.{Tidy, IsOver}
@@ -30,6 +34,24 @@ CodeShowsFaults = (g : Game) (code : Code) (limits : Limits) → Codes g.program
 -- In every run of any code, heights order places as tags do.
 abbrev pub HeightsOrder : Type 0
 HeightsOrder = (s : Setting) (typed : List ℕ) (k : ℕ) → StatusOrdered (after s typed k).now
+
+-- In every run of any code, so do trails.
+abbrev pub TrailsOrder : Type 0
+TrailsOrder = (s : Setting) (typed : List ℕ) (k : ℕ) → StatusTrailed (after s typed k).now
+
+-- In every run of any code, a call that is gone on with cuts to the height of the heap there.
+abbrev pub CallsCut : Type 0
+CallsCut = (s : Setting) (typed : List ℕ) (k : ℕ) → StatusCuts (after s typed k).now
+
+-- No run of any code ends with a step limit: that is its caller's.
+abbrev pub NoStepLimit : Type 0
+NoStepLimit = (s : Setting) (typed : List ℕ) (k : ℕ) → (after s typed k).now ≢ Ended StepLimit
+
+-- In every run of code that stands for a sound program whose goals hold few terms each, calls have as many arguments as the rules that they may enter
+-- have terms in their heads, and no more than that.
+abbrev pub CallsFit : Type 0
+CallsFit = (g : Game) (code : Code) (limits : Limits) → Codes g.program code → IsSound g.program → (n : ℕ) → AllHoldFew n g.program →
+    (typed : List ℕ) (k : ℕ) → StatusFits n code (after (setting g code limits) typed k).now
 
 -- In every run of code in which queries of objects for one answer leave an inner construct first, objects are tried where they may be found.
 abbrev pub ObjectsTried : Type 0

@@ -10,6 +10,8 @@ pub mod Left
 pub mod Runs
 pub mod Heights
 pub mod Stops
+pub mod Trails
+pub mod Calls
 pub mod Seeking
 pub mod Falling
 pub mod Potential

@@ -1,5 +1,6 @@
 // What holds of all register code.
-ghost use Rattle.dg_mid.specs.Laws.{CodeShows, CodeShowsFaults, CostsItsWork, Falls, HeightsOrder, LooksItsWork, MovesOn, ObjectsTried, RunsAsSearched};
+ghost use Rattle.dg_mid.specs.Laws.{CallsCut, CallsFit, CodeShows, CodeShowsFaults, CostsItsWork, Falls, HeightsOrder, LooksItsWork};
+ghost use Rattle.dg_mid.specs.Laws.{MovesOn, NoStepLimit, ObjectsTried, RunsAsSearched, TrailsOrder};
 
 /// Every run of code that stands for a program is a run of its search.
 pub fn code_runs_as_searched()
@@ -19,6 +20,26 @@ pub fn code_shows_faults()
 /// Heights order places as tags do, in every run of any code, so an engine may cut by heights.
 pub fn heights_order_places()
     ensures { HeightsOrder }
+{}
+
+/// So do trails, of choices and of stoppable parts, so what is undone for an older one includes what is undone for a newer one.
+pub fn trails_order_places()
+    ensures { TrailsOrder }
+{}
+
+/// A call that is gone on with cuts to where it is gone on, so an engine needs no place for that in a choice.
+pub fn calls_cut_where_they_go_on()
+    ensures { CallsCut }
+{}
+
+/// A call has as many arguments as the rules that it may enter have terms in their heads.
+pub fn calls_fit_their_rules()
+    ensures { CallsFit }
+{}
+
+/// No run ends with a step limit of its own: the goals are counted outside.
+pub fn runs_meet_no_step_limit()
+    ensures { NoStepLimit }
 {}
 
 /// Objects are tried where they may be found, and where one answer is wanted an inner construct is left then.
