@@ -1,0 +1,39 @@
+-- Where the routines of the run-time stand.
+use Rattle.std.proofs.Common.{◌≡◌, Some, refl}
+use Rattle.z_lang.specs.State.{Program}
+use Rattle.dg_rt.specs.declared.numbers.TheConstants.{WALK, BIND, OCCURS, UNIFY, UNDO, COPY_OUT, COPY_IN, NEWLINE, HEAP_LIMIT, TRAIL_LIMIT}
+use Rattle.dg_rt.specs.declared.unify.TheConstants.{WALK_ACTS, BIND_ACTS, OCCURS_ACTS, UNIFY_ACTS, UNDO_ACTS}
+use Rattle.dg_rt.specs.declared.copies.TheConstants.{COPY_OUT_ACTS, COPY_IN_ACTS}
+use Rattle.dg_rt.specs.declared.closings.TheConstants.{NEWLINE_ACTS, HEAP_LIMIT_ACTS, TRAIL_LIMIT_ACTS}
+use Rattle.dg_rt.specs.RunTime.{routine_of, HasRunTime}
+
+module _ (p : Program) (has : HasRunTime p) where
+  pub walk_at : p.routine_at (p.names.routine WALK) ≡ Some (routine_of 4 WALK_ACTS)
+  walk_at = has.each 0 (routine_of 4 WALK_ACTS) refl
+
+  pub bind_at : p.routine_at (p.names.routine BIND) ≡ Some (routine_of 4 BIND_ACTS)
+  bind_at = has.each 1 (routine_of 4 BIND_ACTS) refl
+
+  pub occurs_at : p.routine_at (p.names.routine OCCURS) ≡ Some (routine_of 4 OCCURS_ACTS)
+  occurs_at = has.each 2 (routine_of 4 OCCURS_ACTS) refl
+
+  pub unify_at : p.routine_at (p.names.routine UNIFY) ≡ Some (routine_of 5 UNIFY_ACTS)
+  unify_at = has.each 3 (routine_of 5 UNIFY_ACTS) refl
+
+  pub undo_at : p.routine_at (p.names.routine UNDO) ≡ Some (routine_of 2 UNDO_ACTS)
+  undo_at = has.each 4 (routine_of 2 UNDO_ACTS) refl
+
+  pub copy_out_at : p.routine_at (p.names.routine COPY_OUT) ≡ Some (routine_of 5 COPY_OUT_ACTS)
+  copy_out_at = has.each 5 (routine_of 5 COPY_OUT_ACTS) refl
+
+  pub copy_in_at : p.routine_at (p.names.routine COPY_IN) ≡ Some (routine_of 5 COPY_IN_ACTS)
+  copy_in_at = has.each 6 (routine_of 5 COPY_IN_ACTS) refl
+
+  pub newline_at : p.routine_at (p.names.routine NEWLINE) ≡ Some (routine_of 0 NEWLINE_ACTS)
+  newline_at = has.each 7 (routine_of 0 NEWLINE_ACTS) refl
+
+  pub heap_limit_at : p.routine_at (p.names.routine HEAP_LIMIT) ≡ Some (routine_of 0 HEAP_LIMIT_ACTS)
+  heap_limit_at = has.each 11 (routine_of 0 HEAP_LIMIT_ACTS) refl
+
+  pub trail_limit_at : p.routine_at (p.names.routine TRAIL_LIMIT) ≡ Some (routine_of 0 TRAIL_LIMIT_ACTS)
+  trail_limit_at = has.each 12 (routine_of 0 TRAIL_LIMIT_ACTS) refl

@@ -1,0 +1,150 @@
+-- The routine that unifies does so.
+use Rattle.std.proofs.Common.{◌≡◌, ◌≢◌, ℕ, zero, suc, ◌+◌, ◌*◌, ◌<◌, ◌≤◌, inl, inr, Bool, true, false, List, [], ◌∷◌, ◌++◌, drop, length, Some, refl, sym, ap, ◌∙◌, subst, arith}
+use Rattle.std.specs.Prelude.{◌==◌, if◌then◌else◌, eqb}
+use Rattle.std.proofs.lemmas.Bool.{eq-eqb, ne_eqb, cases_eq, cases_lt, cases_order, lt-ltb, le-ltb}
+use Rattle.z_lang.specs.declared.act.Atom.TheVariants as atoms
+use Rattle.z_lang.specs.declared.act.Args.TheVariants as args
+use Rattle.z_lang.specs.declared.act.Comparison.TheVariants as comparisons
+use Rattle.z_lang.specs.declared.act.Act.{Act}
+use Rattle.z_lang.specs.declared.act.Act.TheVariants as acts
+use Rattle.z_model.specs.declared.end.Halt.TheVariants.{AtQuit}
+use Rattle.z_lang.specs.State.{State}
+use Rattle.z_lang.specs.Runs.{ActsRun as Runs, ActsOutcome as Outcome, Returns, Stops, at_label, goes, taken, passed, done, calls, calls_last, returns, behind_label}
+use Rattle.dg_meaning.specs.Values.{Label, Closure, Unknown, Value, Var, Node, Values, NoMore, More, leaf, pair}
+use Rattle.dg_meaning.specs.ValueCells.{count_of}
+use Rattle.dg_meaning.specs.Substitutions.{Substitution, walk, links, resolved, FitsFront, Extends}
+use Rattle.dg_meaning.specs.Unify.{same_spelling, same_label, Equations, as_many, side_by_side, Goes, Binds, Clashes, binds, turn, looked, looks, cost, Unified, solve, unify}
+use Rattle.dg_meaning.specs.Letters.{values_compared, compared as letters_compared}
+use Rattle.dg_meaning.proofs.Solving.{solve_extends}
+use Rattle.dg_meaning.proofs.UnifyLaws.{solve_nothing}
+use Rattle.dg_rt.proofs.Standing.{walk_at, bind_at, occurs_at, unify_at}
+use Rattle.dg_rt.specs.Closings.{closing_most}
+use Rattle.dg_rt.specs.declared.unify.TheConstants.{BIND_ACTS, OCCURS_ACTS, UNIFY_ACTS}
+use Rattle.dg_rt.specs.Cells.{compared, bit}
+use Rattle.dg_rt.specs.Areas.{state}
+use Rattle.dg_rt.specs.Shapes.{Shape, Cell, Letters, Shows, number, dict, object, nil, variable, boxed, Filled, pair_in, closure_in, word_in, AllShow, one_more}
+use Rattle.dg_rt.specs.Moments.{trail_of, Setting, Fits, Passes, Moment, in_state}
+use Rattle.dg_rt.specs.Unifies.{closed, Ends, answers, is_full, Unifies, price, UnifyWorks}
+use Rattle.dg_rt.specs.inside.Walks.{ending, Occurs, steps}
+use Rattle.dg_rt.specs.inside.Binds.{IsFull}
+use Rattle.dg_rt.specs.inside.Depth.{AllSmaller, Below, on_top, under}
+use Rattle.dg_rt.proofs.Locals.{first, second, third, fourth, put_first, put_second, put_third, reference, simple_no_reference, boxed_no_reference, simple_is_positive, boxed_is_negative, high_is_negative, older, not_older}
+use Rattle.dg_rt.proofs.Showing.{same_place, node_word, all_low, letters_low}
+use Rattle.dg_rt.proofs.Depth.{below_walk, below_later, below_smaller, parts_smaller, all_smaller_later, levels}
+use Rattle.dg_rt.proofs.Walking.{walk_works}
+use Rattle.dg_rt.proofs.Occurring.{occurs_works}
+use Rattle.dg_rt.proofs.Containing.{looked_found}
+use Rattle.dg_rt.proofs.Binding.{bind_works, bind_passes}
+use Rattle.dg_rt.proofs.Ways.{bound, clashing, nothing, Simple, a_number, a_word, an_object, a_nil, simple_small, same_words, simple_no_box, other_length, many_are, goes_on, letters_on, letters_clash, first_yes, first_no, price_yes, takes_less}
+use Rattle.dg_rt.proofs.UnifySteps.{steps_are, ends_map, ends_counted, first_less, second_less, third_less, first_below, same_words_test, third_zero, same_fields, at_end, read_1, read_2, read_3, read_4, next_1, next_2, end_5, half_5, field}
+use Rattle.dg_rt.proofs.Alone.{Kind, kind_variable, kind_simple, kind_box, kind, Run, Meant, Below_it, Again, Done, two_same, second_younger, first_younger, first_alone, second_alone, two_simple, simple_box, box_simple, other_headers}
+use Rattle.dg_rt.proofs.Together.{Inside, pairs, closures, words}
+
+module _ (g : Setting) (f : ℕ) where
+  module _ (S : Substitution) (m : Moment g S) (a b : Value) where
+    -- ---- two boxes
+
+    boxes : {k k' header header' : ℕ} {h h' : Label} {vs us : Values} (x y z : ℕ) (ks ls : List ℕ) → length ls ≡ length ks → 3335 ≤ f + length ks → Filled g.sh k header (Node h vs) → Filled g.sh k' header' (Node h' us) → Cell g.sh k header → Cell g.sh k' header' →
+        Inside g.sh S ks k (Node h vs) vs → Inside g.sh S ls k' (Node h' us) us → walk S a ≡ Node h vs → walk S b ≡ Node h' us → Below_it g f (unify S a b).count → Again g f (unify S a b).count ks ls → Done g f S m a b (drop 3 UNIFY_ACTS) (49152 + k) (49152 + k') x y z 4
+    boxes x y z ks ls same deep (pair_in {h = h} {t = t} k hd tl one two s q) (pair_in {h = h'} {t = t'} k' hd' tl' one' two' s' q') c c' inside inside' ea eb heads tails = pairs g f S m a b k k' x y z hd hd' tl tl' h t h' t' ks ls same deep c c' one one' two two' s s' q q' inside inside' ea eb heads tails
+    boxes x y z ks ls same deep (closure_in {vs = vs} k place small count few_captured one all) (closure_in {vs = us} k' place' small' count' few_captured' one' all') c c' inside inside' ea eb heads tails =
+        elim (cases_eq place place') [
+          | inl e ↦ closures g f S m a b k k' x y z place place' vs us ks ls same deep small e c c' one one' all all' inside inside' ea eb heads (as_many vs us) refl
+          | inr ne ↦ other_headers g f S m a b k k' (1 + place) (1 + place') x y z inside.small inside'.small c c' (λ (e : 1 + place ≡ 1 + place'). ne (omega arith)) (rw (ea, eb, ne_eqb place place' ne) refl)
+        ]
+    boxes x y z ks ls same deep (word_in {letters = xs} k all) (word_in {letters = ys} k' all') c c' inside inside' ea eb heads tails =
+        elim (cases_eq (length xs) (length ys)) [
+          | inl e ↦ words g f S m a b k k' x y z xs ys inside.small inside'.small e c c' all all' ea eb (same_spelling xs ys) refl
+          | inr ne ↦ other_headers g f S m a b k k' (32768 + length xs) (32768 + length ys) x y z inside.small inside'.small c c' (λ (e : 32768 + length xs ≡ 32768 + length ys). ne (omega arith)) (rw (ea, eb, other_length xs ys ne) refl)
+        ]
+    boxes x y z ks ls same deep (pair_in k hd tl one two s q) (closure_in k' place' small' count' few_captured' one' all') c c' inside inside' ea eb heads tails = other_headers g f S m a b k k' 0 (1 + place') x y z inside.small inside'.small c c' (λ (e : 0 ≡ 1 + place'). (omega arith)) (rw (ea, eb) refl)
+    boxes x y z ks ls same deep (pair_in k hd tl one two s q) (word_in {letters = ys} k' all') c c' inside inside' ea eb heads tails = other_headers g f S m a b k k' 0 (32768 + length ys) x y z inside.small inside'.small c c' (λ (e : 0 ≡ 32768 + length ys). (omega arith)) (rw (ea, eb) refl)
+    boxes x y z ks ls same deep (closure_in k place small count few_captured one all) (pair_in k' hd' tl' one' two' s' q') c c' inside inside' ea eb heads tails = other_headers g f S m a b k k' (1 + place) 0 x y z inside.small inside'.small c c' (λ (e : 1 + place ≡ 0). (omega arith)) (rw (ea, eb) refl)
+    boxes x y z ks ls same deep (closure_in k place small count few_captured one all) (word_in {letters = ys} k' all') c c' inside inside' ea eb heads tails = other_headers g f S m a b k k' (1 + place) (32768 + length ys) x y z inside.small inside'.small c c' (λ (e : 1 + place ≡ 32768 + length ys). (omega arith)) (rw (ea, eb) refl)
+    boxes x y z ks ls same deep (word_in {letters = xs} k all) (pair_in k' hd' tl' one' two' s' q') c c' inside inside' ea eb heads tails = other_headers g f S m a b k k' (32768 + length xs) 0 x y z inside.small inside'.small c c' (λ (e : 32768 + length xs ≡ 0). (omega arith)) (rw (ea, eb) refl)
+    boxes x y z ks ls same deep (word_in {letters = xs} k all) (closure_in k' place' small' count' few_captured' one' all') c c' inside inside' ea eb heads tails = other_headers g f S m a b k k' (32768 + length xs) (1 + place') x y z inside.small inside'.small c c' (λ (e : 32768 + length xs ≡ 1 + place'). (omega arith)) (rw (ea, eb) refl)
+
+    -- ---- one level
+
+    by_kind : {u w : ℕ} {v v' : Value} (x y z : ℕ) (ks ls : List ℕ) → 2 ≤ f → Kind g.sh u v → Kind g.sh w v' → Shows g.sh u v → Shows g.sh w v' → walk S a ≡ v → walk S b ≡ v' → Below g.sh S ks v → Below g.sh S ls v' → length ls ≡ length ks → 3336 ≤ suc f + length ks → Below_it g f (unify S a b).count → Again g f (unify S a b).count ks ls → Done g f S m a b (drop 3 UNIFY_ACTS) u w x y z (ending v + ending v')
+    by_kind x y z ks ls two (kind_variable n old) (kind_variable i old') s s' ea eb below below' same deep heads tails =
+        elim (cases_order n i) [
+          | inl e ↦ two_same g f S m a b n i x y z old e ea eb
+          | inr (inl lt) ↦ second_younger g f S m a b n i x y z two old old' lt ea eb
+          | inr (inr gt) ↦ first_younger g f S m a b n i x y z two old old' gt ea eb
+        ]
+    by_kind x y z ks ls two (kind_variable n old) (kind_simple {u = w} {g = h'} q) s s' ea eb below below' same deep heads tails = first_alone g f S m a b n w x y z h' NoMore ls two old s' below' (omega arith) ea eb
+    by_kind x y z ks ls two (kind_variable n old) (kind_box {f = h'} {vs = us} k header lt box at inside) s s' ea eb below below' same deep heads tails = first_alone g f S m a b n (49152 + k) x y z h' us ls two old s' below' (omega arith) ea eb
+    by_kind x y z ks ls two (kind_simple {u = u} {g = h} q) (kind_variable n old) s s' ea eb below below' same deep heads tails = second_alone g f S m a b n u x y z h NoMore ks two old s below (omega arith) ea eb
+    by_kind x y z ks ls two (kind_box {f = h} {vs = vs} k header lt box at inside) (kind_variable n old) s s' ea eb below below' same deep heads tails = second_alone g f S m a b n (49152 + k) x y z h vs ks two old s below (omega arith) ea eb
+    by_kind x y z ks ls two (kind_simple {u = u} {g = h} q) (kind_simple {u = w} {g = h'} q') s s' ea eb below below' same deep heads tails = two_simple g f S m a b u w x y z h h' q q' ea eb (same_label h h') refl
+    by_kind x y z ks ls two (kind_simple {u = u} {g = h} q) (kind_box {f = h'} {vs = us} k header lt box at inside) s s' ea eb below below' same deep heads tails = simple_box g f S m a b u k x y z h h' us q (omega arith) (simple_no_box q inside).0 ea eb
+    by_kind x y z ks ls two (kind_box {f = h} {vs = vs} k header lt box at inside) (kind_simple {u = w} {g = h'} q) s s' ea eb below below' same deep heads tails = box_simple g f S m a b k w x y z h h' vs q (omega arith) (simple_no_box q inside).1 ea eb
+    by_kind x y z ks ls two (kind_box {f = h} {vs = vs} k header lt box at inside) (kind_box {f = h'} {vs = us} k' header' lt' box' at' inside') s s' ea eb below below' same deep heads tails =
+        boxes x y z ks ls same (omega arith) inside inside' at at' (record { small = lt; box = box; less = parts_smaller S h vs; below = below }) (record { small = lt'; box = box'; less = parts_smaller S h' us; below = below' }) ea eb heads tails
+
+    level : (u w x y z : ℕ) (ks ls : List ℕ) → Shows g.sh u a → Shows g.sh w b → Below g.sh S ks a → Below g.sh S ls b → length ls ≡ length ks → 3336 ≤ suc f + length ks → Below_it g f (unify S a b).count → Again g f (unify S a b).count ks ls → Meant g f (drop 1 UNIFY_ACTS) m.memory (u ∷ w ∷ x ∷ y ∷ z ∷ []) 7 (price S ((a, b) ∷ [])) (unify S a b)
+    level u w x y z ks ls s s' below below' same deep heads tails =
+        let first_walk = walk_works g.p g.has g.sh g.is 0 0 m.memory g.typed g.output g.drawn 0 0 m.cells m.at.holds S m.at.stands u 0 a s in
+        let second_walk = walk_works g.p g.has g.sh g.is 0 0 m.memory g.typed g.output g.drawn 0 0 m.cells m.at.holds S m.at.stands w 0 b s' in
+        let l = levels g.is S below in
+        let r = by_kind x y z ks ls (omega arith) (kind first_walk.shows) (kind second_walk.shows) first_walk.shows second_walk.shows refl refl (below_walk S m.at.stands.sound below) (below_walk S m.at.stands.sound below') same deep heads tails in
+        let few_a = first_walk.few in
+        let few_b = second_walk.few in
+        ends_map (λ n. suc first_walk.count + (suc second_walk.count + n)) (λ n. omega arith) (λ n o st q. calls {f' = 0} {w' = 0} {n = first_walk.count} {n' = suc second_walk.count + n} {xs = (u, 0, 0)} refl (rw (first g.p m.memory u w x y z g.typed g.drawn g.output) refl) (walk_at g.p g.has) (omega arith) (omega arith) first_walk.runs (put_first g.p m.memory u w x y z first_walk.word g.typed g.drawn g.output)
+        (calls {f' = 0} {w' = 0} {n = second_walk.count} {n' = n} {xs = (w, 0, 0)} refl (rw (second g.p m.memory first_walk.word w x y z g.typed g.drawn g.output) refl) (walk_at g.p g.has) (omega arith) (omega arith) second_walk.runs (put_second g.p m.memory first_walk.word w x y z second_walk.word g.typed g.drawn g.output) q)) r
+
+-- ---- all levels
+
+labelled : {g : Setting} {f : ℕ} {memory locals : List ℕ} {spent most : ℕ} {u : Unified} → Unifies g f (drop 1 UNIFY_ACTS) memory locals spent most u → Unifies g f UNIFY_ACTS memory locals spent most u
+labelled r = ends_map (λ n. n) (λ n. omega arith) (λ n o s q. at_label q) r
+
+-- by the count of the meaning
+unifies : (g : Setting) (limit f : ℕ) (S : Substitution) (m : Moment g S) (u w x y z : ℕ) (a b : Value) (ks ls : List ℕ) → Shows g.sh u a → Shows g.sh w b → Below g.sh S ks a → Below g.sh S ls b → length ls ≡ length ks → 3336 ≤ f + length ks → (unify S a b).count < limit → Unifies g f (drop 1 UNIFY_ACTS) m.memory (u ∷ w ∷ x ∷ y ∷ z ∷ []) 7 (price S ((a, b) ∷ [])) (unify S a b)
+unifies g zero f S m u w x y z a b ks ls s s' below below' same deep lt = absurd (omega arith)
+unifies g (suc limit) zero S m u w x y z a b ks ls s s' below below' same deep lt = let l = levels g.is S below in absurd (omega arith)
+unifies g (suc limit) (suc f) S m u w x y z a b ks ls s s' below below' same deep lt =
+    level g f S m a b u w x y z ks ls s s' below below' same deep
+    (λ S' m' u' w' a' b' ks' ls' q q' inner inner' same' deep' less. labelled (unifies g limit f S' m' u' w' 0 0 0 a' b' ks' ls' q q' inner inner' same' deep' (omega arith)))
+    (λ S' m' u' w' x' y' z' a' b' q q' inner inner' less. unifies g limit (suc f) S' m' u' w' x' y' z' a' b' ks ls q q' inner inner' same deep (omega arith))
+
+-- The routine, called with two values.
+pub unify_works : UnifyWorks
+unify_works g S m x y a b s s' =
+    ends_map (λ n. n) (λ n. omega arith) (λ n o st q. q) (labelled (unifies g (suc (unify S a b).count) 3336 S m x y 0 0 0 a b [] [] s s' (on_top a) (on_top b) refl (omega arith) (omega arith)))
+
+-- ---- what comes of it where it is known whether the bindings fit
+
+-- It answers, and what is meant is bound.
+pub record Answers (g : Setting) (memory : List ℕ) (x y most : ℕ) (u : Unified) : Type 0 where
+  pub m : Moment g u.subst
+  pub locals' : List ℕ
+  pub count : ℕ
+  pub runs : Runs g.p 3336 16680 UNIFY_ACTS UNIFY_ACTS (in_state g memory (x ∷ y ∷ 0 ∷ 0 ∷ 0 ∷ [])) (Returns (bit u.agrees)) (in_state g m.memory locals') count
+  pub few : count ≤ most
+
+-- The trail's limit ends the run.
+pub record Quits (g : Setting) (memory : List ℕ) (x y most : ℕ) : Type 0 where
+  pub memory' : List ℕ
+  pub locals' : List ℕ
+  pub count : ℕ
+  pub runs : Runs g.p 3336 16680 UNIFY_ACTS UNIFY_ACTS (in_state g memory (x ∷ y ∷ 0 ∷ 0 ∷ 0 ∷ [])) (Stops AtQuit) (state memory' locals' g.typed g.drawn (closed g)) count
+  pub few : count ≤ most + closing_most
+
+module _ (g : Setting) (S : Substitution) (m : Moment g S) (x y : ℕ) (a b : Value) (s : Shows g.sh x a) (s' : Shows g.sh y b) where
+  abbrev Whole : Type 0
+  Whole = Unifies g 3336 UNIFY_ACTS m.memory (x ∷ y ∷ 0 ∷ 0 ∷ 0 ∷ []) 0 (price S ((a, b) ∷ [])) (unify S a b)
+
+  pub unify_answers : Fits g (unify S a b).subst → Answers g m.memory x y (price S ((a, b) ∷ [])) (unify S a b)
+  unify_answers room = by_end (unify_works g S m x y a b s s')
+    where
+      by_end : Whole → Answers g m.memory x y (price S ((a, b) ∷ [])) (unify S a b)
+      by_end (answers n m' locals few q) = record { m = m'; locals' = locals; count = n; runs = q; few = omega arith }
+      by_end (is_full n memory locals over few q) = absurd (omega arith)
+
+  pub unify_quits : Passes g (unify S a b).subst → Quits g m.memory x y (price S ((a, b) ∷ []))
+  unify_quits over = by_end (unify_works g S m x y a b s s')
+    where
+      by_end : Whole → Quits g m.memory x y (price S ((a, b) ∷ []))
+      by_end (answers n m' locals few q) = absurd (let room = m'.room in omega arith)
+      by_end (is_full n memory locals over' few q) = record { memory' = memory; locals' = locals; count = n; runs = q; few = omega arith }

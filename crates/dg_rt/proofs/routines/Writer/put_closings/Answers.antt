@@ -1,0 +1,25 @@
+use Rattle.std.proofs.Common.{[], ◌∷◌}
+use Rattle.dg_rt.specs.declared.closings.TheConstants.{NEWLINE_ACTS, DONE_ACTS, FAILED_ACTS, STOPPED_ACTS, HEAP_LIMIT_ACTS, TRAIL_LIMIT_ACTS, AUX_LIMIT_ACTS, KEEP_LIMIT_ACTS}
+use Rattle.dg_rt.specs.RunTime.{routine_of}
+use Rattle.dg_rt.proofs.Puts.{one_more}
+use Rattle.dg_rt.proofs.routines.Writer.put_closings.Goals as goal
+
+pub returns : goal.returns
+returns c =
+    let old = c.args.self.now.all in
+    let r0 = routine_of 0 NEWLINE_ACTS in
+    let r1 = routine_of 0 DONE_ACTS in
+    let r2 = routine_of 0 FAILED_ACTS in
+    let r3 = routine_of 0 STOPPED_ACTS in
+    let r4 = routine_of 0 HEAP_LIMIT_ACTS in
+    let r5 = routine_of 0 TRAIL_LIMIT_ACTS in
+    let r6 = routine_of 0 AUX_LIMIT_ACTS in
+    let r7 = routine_of 0 KEEP_LIMIT_ACTS in
+    let e0 = c.in_ok-put.ensures in
+    let e1 = one_more old (r0 ∷ []) c.put.new.self.all c.put-2.new.self.all r1 e0 c.in_ok-put-2.ensures in
+    let e2 = one_more old (r0 ∷ r1 ∷ []) c.put-2.new.self.all c.put-3.new.self.all r2 e1 c.in_ok-put-3.ensures in
+    let e3 = one_more old (r0 ∷ r1 ∷ r2 ∷ []) c.put-3.new.self.all c.put-4.new.self.all r3 e2 c.in_ok-put-4.ensures in
+    let e4 = one_more old (r0 ∷ r1 ∷ r2 ∷ r3 ∷ []) c.put-4.new.self.all c.put-5.new.self.all r4 e3 c.in_ok-put-5.ensures in
+    let e5 = one_more old (r0 ∷ r1 ∷ r2 ∷ r3 ∷ r4 ∷ []) c.put-5.new.self.all c.put-6.new.self.all r5 e4 c.in_ok-put-6.ensures in
+    let e6 = one_more old (r0 ∷ r1 ∷ r2 ∷ r3 ∷ r4 ∷ r5 ∷ []) c.put-6.new.self.all c.put-7.new.self.all r6 e5 c.in_ok-put-7.ensures in
+    one_more old (r0 ∷ r1 ∷ r2 ∷ r3 ∷ r4 ∷ r5 ∷ r6 ∷ []) c.put-7.new.self.all c.put-8.new.self.all r7 e6 c.in_ok-put-8.ensures

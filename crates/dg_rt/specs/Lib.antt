@@ -1,0 +1,16 @@
+pub mod Cells
+pub mod Areas
+pub mod Shapes
+pub mod Back
+pub mod Closings
+pub mod RunTime
+pub mod Moments
+pub mod Unifies
+pub mod Undoes
+pub mod Laying
+pub mod Copies
+pub mod CopiesIn
+pub mod Charges
+pub mod Frames
+pub mod Choices
+pub mod inside

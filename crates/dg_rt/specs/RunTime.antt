@@ -1,0 +1,44 @@
+-- The routines of the run-time, in the order of their numbers. Hold it against the acts that their sources list.
+use Rattle.std.specs.Prelude.{◌≡◌, ℕ, ◌+◌, List, [], ◌∷◌, ◌++◌, Some, slice_get}
+use Rattle.z_lang.specs.declared.act.Act.{Act}
+use Rattle.z_lang.specs.declared.act.Routine.{Routine}
+use Rattle.z_lang.specs.State.{Program}
+use Rattle.dg_rt.specs.declared.numbers.TheConstants.{WALK}
+use Rattle.dg_rt.specs.declared.unify.TheConstants.{WALK_ACTS, BIND_ACTS, OCCURS_ACTS, UNIFY_ACTS, UNDO_ACTS}
+use Rattle.dg_rt.specs.declared.copies.TheConstants.{COPY_OUT_ACTS, COPY_IN_ACTS}
+use Rattle.dg_rt.specs.declared.closings.TheConstants.{NEWLINE_ACTS, DONE_ACTS, FAILED_ACTS, STOPPED_ACTS, HEAP_LIMIT_ACTS, TRAIL_LIMIT_ACTS, AUX_LIMIT_ACTS, KEEP_LIMIT_ACTS}
+use Rattle.dg_rt.specs.declared.heap.TheConstants.{CHARGE_ACTS}
+use Rattle.dg_rt.specs.declared.frames.TheConstants.{VAR_ACTS, CAPTURE_ACTS, ENTER_ACTS}
+use Rattle.dg_rt.specs.declared.choices.TheConstants.{CUT_ACTS, OPEN_ACTS, FAIL_ACTS}
+use Rattle.dg_rt.specs.Areas.{IsMapped}
+
+-- A routine of so many locals.
+abbrev pub routine_of : ℕ → List Act → Routine
+routine_of locals body = record { locals = locals; body = body }
+
+-- Those of values.
+abbrev pub value_routines : List Routine
+value_routines =
+    routine_of 4 WALK_ACTS ∷ routine_of 4 BIND_ACTS ∷ routine_of 4 OCCURS_ACTS ∷ routine_of 5 UNIFY_ACTS ∷ routine_of 2 UNDO_ACTS
+    ∷ routine_of 5 COPY_OUT_ACTS ∷ routine_of 5 COPY_IN_ACTS ∷ []
+
+-- Those that end a run.
+abbrev pub closing_routines : List Routine
+closing_routines =
+    routine_of 0 NEWLINE_ACTS ∷ routine_of 0 DONE_ACTS ∷ routine_of 0 FAILED_ACTS ∷ routine_of 0 STOPPED_ACTS ∷ routine_of 0 HEAP_LIMIT_ACTS
+    ∷ routine_of 0 TRAIL_LIMIT_ACTS ∷ routine_of 0 AUX_LIMIT_ACTS ∷ routine_of 0 KEEP_LIMIT_ACTS ∷ []
+
+-- Those of frames and choices.
+abbrev pub frame_routines : List Routine
+frame_routines =
+    routine_of 1 CHARGE_ACTS ∷ routine_of 4 VAR_ACTS ∷ routine_of 4 ENTER_ACTS ∷ routine_of 1 CUT_ACTS
+    ∷ routine_of 5 OPEN_ACTS ∷ routine_of 4 FAIL_ACTS ∷ routine_of 8 CAPTURE_ACTS ∷ []
+
+-- All of them. The first has number 1, since a story begins with routine 0.
+abbrev pub runtime : List Routine
+runtime = value_routines ++ (closing_routines ++ frame_routines)
+
+-- The run-time stands in a program: its areas may be written, and each routine has its number.
+pub record HasRunTime (p : Program) : Type 0 where
+  pub mapped : IsMapped p
+  pub each : (k : ℕ) (r : Routine) → slice_get runtime k ≡ Some r → p.routine_at (p.names.routine (WALK + k)) ≡ Some r

@@ -1,0 +1,74 @@
+// What the routines do: each function's clause is a law of one of them.
+ghost use Rattle.dg_rt.specs.Charges.{ChargeWorks};
+ghost use Rattle.dg_rt.specs.Closings.{ClosingsWork};
+ghost use Rattle.dg_rt.specs.Copies.{CopyWorks};
+ghost use Rattle.dg_rt.specs.CopiesIn.{CopyInWorks};
+ghost use Rattle.dg_rt.specs.Choices.{CutWorks, FailWorks, OpenWorks};
+ghost use Rattle.dg_rt.specs.Frames.{CaptureWorks, EnterWorks, VarWorks};
+ghost use Rattle.dg_rt.specs.Undoes.{UndoGivesBack, UndoUnwinds};
+ghost use Rattle.dg_rt.specs.Unifies.{UnifyWorks};
+
+/// The routine that unifies does so; where the trail is full, its limit ends the run.
+pub fn unify_works()
+    ensures { UnifyWorks }
+{}
+
+/// The routine that undoes bindings makes the variables on the trail unbound again.
+pub fn undo_unwinds()
+    ensures { UndoUnwinds }
+{}
+
+/// It gives back the substitution.
+pub fn undo_gives_back()
+    ensures { UndoGivesBack }
+{}
+
+/// The routine that copies a value out of the heap does so.
+pub fn copy_works()
+    ensures { CopyWorks }
+{}
+
+/// The routine that lays a copy of a value on the heap does so.
+pub fn copy_in_works()
+    ensures { CopyInWorks }
+{}
+
+/// The routines that end a run do so.
+pub fn closings_work()
+    ensures { ClosingsWork }
+{}
+
+/// The routine that takes cells does so, or meets the heap's limit.
+pub fn charge_works()
+    ensures { ChargeWorks }
+{}
+
+/// The routine that finds a variable does so.
+pub fn var_works()
+    ensures { VarWorks }
+{}
+
+/// The routine that captures values does so.
+pub fn capture_works()
+    ensures { CaptureWorks }
+{}
+
+/// The routine that enters a rule makes its frame, or meets the heap's limit.
+pub fn enter_works()
+    ensures { EnterWorks }
+{}
+
+/// The routine that drops choices does so.
+pub fn cut_works()
+    ensures { CutWorks }
+{}
+
+/// The routine that opens a choice does so, or meets the heap's limit.
+pub fn open_works()
+    ensures { OpenWorks }
+{}
+
+/// The routine that goes back to the newest choice does so.
+pub fn fail_works()
+    ensures { FailWorks }
+{}

@@ -1,0 +1,67 @@
+// The numbers of the routines of the run-time. A story begins with routine 0, which isn't one of them.
+
+/// Looks a value up.
+pub const WALK: u16 = 1;
+
+/// Binds a variable.
+pub const BIND: u16 = 2;
+
+/// Tests whether a variable stands in a value.
+pub const OCCURS: u16 = 3;
+
+/// Unifies two values.
+pub const UNIFY: u16 = 4;
+
+/// Undoes bindings.
+pub const UNDO: u16 = 5;
+
+/// Copies a value out of the heap.
+pub const COPY_OUT: u16 = 6;
+
+/// Lays a copy of a value on the heap.
+pub const COPY_IN: u16 = 7;
+
+/// Prints a newline behind a text.
+pub const NEWLINE: u16 = 8;
+
+/// Ends a run that is done.
+pub const DONE: u16 = 9;
+
+/// Ends a run that has failed.
+pub const FAILED: u16 = 10;
+
+/// Ends a run that was stopped.
+pub const STOPPED: u16 = 11;
+
+/// Ends a run at the limit of the heap.
+pub const HEAP_LIMIT: u16 = 12;
+
+/// Ends a run at the limit of the trail.
+pub const TRAIL_LIMIT: u16 = 13;
+
+/// Ends a run at the limit of what is gathered.
+pub const AUX_LIMIT: u16 = 14;
+
+/// Ends a run at the limit of what is kept.
+pub const KEEP_LIMIT: u16 = 15;
+
+/// Takes cells of the heap.
+pub const CHARGE: u16 = 16;
+
+/// Finds a variable of the code at hand.
+pub const VAR: u16 = 17;
+
+/// Enters a rule.
+pub const ENTER: u16 = 18;
+
+/// Drops choices.
+pub const CUT: u16 = 19;
+
+/// Opens a choice.
+pub const OPEN: u16 = 20;
+
+/// Goes back to the newest choice.
+pub const FAIL: u16 = 21;
+
+/// Writes captured values into the box of a closure.
+pub const CAPTURE: u16 = 22;

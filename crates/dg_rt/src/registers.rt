@@ -1,0 +1,58 @@
+// The registers of a story: global variables of the machine.
+
+/// How many bindings are on the trail.
+pub const TRAIL: u8 = 17;
+
+/// A reference to the first cell behind the newest mark.
+pub const MARK: u8 = 18;
+
+/// How many cells of the heap are taken.
+pub const HEAP: u8 = 19;
+
+/// The place of the newest frame, or 0.
+pub const FRAME: u8 = 20;
+
+/// The place of the newest choice, or 0.
+pub const CHOICE: u8 = 21;
+
+/// The place of the newest inner construct, or 0.
+pub const INNER: u8 = 22;
+
+/// The place of the stoppable part around, or 0.
+pub const STOP: u8 = 23;
+
+/// The routine behind the query at hand.
+pub const BACK: u8 = 24;
+
+/// The place to which the rule of that query cuts.
+pub const CUT_TO: u8 = 25;
+
+/// 1 where all answers of it are wanted, else 0.
+pub const MANY: u8 = 26;
+
+/// What the first argument of a query is at its top.
+pub const KEY: u8 = 27;
+
+/// The rule that was found first while others are looked for, or 0.
+pub const BEGIN: u8 = 28;
+
+/// 0 as long as no argument of the rule at hand has clashed.
+pub const CLASH: u8 = 29;
+
+/// The word of a box that begins with the cells that were taken last.
+pub const TERM: u8 = 30;
+
+/// The first argument of a query; eleven more follow.
+pub const ARGS: u8 = 32;
+
+/// How the text ends: 0 where nothing was printed.
+pub const LAST: u8 = 44;
+
+/// The word of the box that is being filled.
+pub const WORD: u8 = 52;
+
+/// The address of the next cell of a value that is copied in.
+pub const FROM: u8 = 54;
+
+/// The place in front of which a copy is laid.
+pub const FILL: u8 = 55;

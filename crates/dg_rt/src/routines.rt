@@ -1,0 +1,90 @@
+// The routines of the run-time.
+ghost use Rattle.std.specs.Prelude.{◌≡◌, ◌∷◌, ◌++◌, [], IfOk, OnOk};
+ghost use Rattle.dg_rt.specs.RunTime as spec;
+
+use crate::choices::{CUT_ACTS, FAIL_ACTS, OPEN_ACTS};
+use crate::closings::{
+    AUX_LIMIT_ACTS, DONE_ACTS, FAILED_ACTS, HEAP_LIMIT_ACTS, KEEP_LIMIT_ACTS, NEWLINE_ACTS,
+    STOPPED_ACTS, TRAIL_LIMIT_ACTS,
+};
+use crate::copies::{COPY_IN_ACTS, COPY_OUT_ACTS};
+use crate::frames::{CAPTURE_ACTS, ENTER_ACTS, VAR_ACTS};
+use crate::heap::CHARGE_ACTS;
+use crate::unify::{BIND_ACTS, OCCURS_ACTS, UNDO_ACTS, UNIFY_ACTS, WALK_ACTS};
+use sqlite_items::Items;
+use std::alloc::{AllocError, Global};
+use z_lang::{Act, Routine};
+
+/// Routines that are being written.
+#[derive(Drop)]
+struct Writer {
+    alloc: Global,
+    all: Items<Routine>,
+}
+
+impl Writer {
+    // One more.
+    fn put(&mut self, locals: u8, acts: &[Act]) -> Result<(), AllocError>
+        ensures { OnOk result (self.new.all ≡ self.old.all ++ spec.routine_of locals acts.now ∷ []) }
+    {
+        let body = Items::from_slice(self.alloc, acts)?;
+        self.all.push(Routine { locals, body })
+    }
+
+    // Those of values.
+    fn put_values(&mut self) -> Result<(), AllocError>
+        ensures { OnOk result (self.new.all ≡ self.old.all ++ spec.value_routines) }
+    {
+        self.put(4, &WALK_ACTS)?;
+        self.put(4, &BIND_ACTS)?;
+        self.put(4, &OCCURS_ACTS)?;
+        self.put(5, &UNIFY_ACTS)?;
+        self.put(2, &UNDO_ACTS)?;
+        self.put(5, &COPY_OUT_ACTS)?;
+        self.put(5, &COPY_IN_ACTS)?;
+        Ok(())
+    }
+
+    // Those that end a run.
+    fn put_closings(&mut self) -> Result<(), AllocError>
+        ensures { OnOk result (self.new.all ≡ self.old.all ++ spec.closing_routines) }
+    {
+        self.put(0, &NEWLINE_ACTS)?;
+        self.put(0, &DONE_ACTS)?;
+        self.put(0, &FAILED_ACTS)?;
+        self.put(0, &STOPPED_ACTS)?;
+        self.put(0, &HEAP_LIMIT_ACTS)?;
+        self.put(0, &TRAIL_LIMIT_ACTS)?;
+        self.put(0, &AUX_LIMIT_ACTS)?;
+        self.put(0, &KEEP_LIMIT_ACTS)?;
+        Ok(())
+    }
+
+    // Those of frames and choices.
+    fn put_frames(&mut self) -> Result<(), AllocError>
+        ensures { OnOk result (self.new.all ≡ self.old.all ++ spec.frame_routines) }
+    {
+        self.put(1, &CHARGE_ACTS)?;
+        self.put(4, &VAR_ACTS)?;
+        self.put(4, &ENTER_ACTS)?;
+        self.put(1, &CUT_ACTS)?;
+        self.put(5, &OPEN_ACTS)?;
+        self.put(4, &FAIL_ACTS)?;
+        self.put(8, &CAPTURE_ACTS)?;
+        Ok(())
+    }
+}
+
+/// All of them, in the order of their numbers, the first of which is 1: a story begins with routine 0.
+pub fn runtime(alloc: Global) -> Result<Items<Routine>, AllocError>
+    ensures { IfOk result (λ all. all ≡ spec.runtime) }
+{
+    let mut writer = Writer {
+        alloc,
+        all: Items::new(alloc),
+    };
+    writer.put_values()?;
+    writer.put_closings()?;
+    writer.put_frames()?;
+    Ok(writer.all)
+}
