@@ -1,4 +1,5 @@
 // The forms in memory of the outside: each call that takes memory gives its answer where memory is ample.
+use crate::checks::same;
 use dg_base::{
     Builtin, ByteSink, Failed, Items, MapShelf, Part, Shelf, Sink, StoreFault, SureShelf, SureSink,
     Value, WriteFault, builtin_of, is_keyword, is_named, is_prelude_name, is_refused_name,
@@ -7,23 +8,30 @@ use dg_base::{
 use std::alloc::{AllocError, Global};
 use std::test::Fail;
 
+const PIECES: &[(&[u8], Result<usize, Failed>)] = &[
+    (b"ab", Ok(2)),
+    (b"cd", Err(Failed)),
+    (b"cd", Ok(2)),
+    (b"e", Err(Failed)),
+];
+
 #[test]
 fn a_sink_takes_a_piece_and_refuses_the_listed_call(rt: HostRuntime) -> Result<(), Fail> {
     let mut sink = ByteSink::new(rt.alloc(), 4, vec![in rt.alloc(); 1]?)?;
-    assert_eq!(rt; sink.put(b"ab"), Ok(2));
-    assert_eq!(rt; sink.put(b"cd"), Err(Failed));
-    assert_eq!(rt; sink.put(b"cd"), Ok(2));
-    assert_eq!(rt; sink.put(b"e"), Err(Failed));
-    assert_eq!(rt; sink.taken(), b"abcd".as_slice());
+    for (piece, wanted) in PIECES {
+        same(&rt, &sink.put(piece), wanted, "a piece");
+    }
+    same(&rt, &sink.taken(), &b"abcd".as_slice(), "what was taken");
     Ok(())
 }
 
 #[test]
 fn a_sure_sink_takes_what_it_has_room_for(rt: HostRuntime) -> Result<(), Fail> {
     let mut sink = SureSink::new(rt.alloc(), 3)?;
-    assert_eq!(rt; write_both(&mut sink, b"a", b"b"), Ok(()));
-    assert_eq!(rt; write_all(&mut sink, b"cd"), Err(WriteFault));
-    assert_eq!(rt; sink.taken(), b"ab".as_slice());
+    let both = write_both(&mut sink, b"a", b"b");
+    let more = write_all(&mut sink, b"cd");
+    let wanted = (Ok(()), Err(WriteFault), b"ab".as_slice());
+    same(&rt, &(both, more, sink.taken()), &wanted, "three bytes");
     Ok(())
 }
 
@@ -32,14 +40,14 @@ fn a_shelf_keeps_what_is_added_and_stored(rt: HostRuntime) -> Result<(), Fail> {
     let alloc = rt.alloc();
     let mut shelf = MapShelf::new(alloc, vec![in alloc; 2]?);
     shelf.add(alloc, "p.dg", b"(p)")?;
-    assert_eq!(rt; shelf.store(alloc, "s.z8", b"story"), Ok(()));
+    let first = shelf.store(alloc, "s.z8", b"story");
     let fetched = shelf.fetch(alloc, "p.dg", 3).expect(&rt, "it has contents");
-    assert_eq!(rt; fetched.as_slice(), b"(p)".as_slice());
-    assert_eq!(rt;
-        shelf.store(alloc, "s.z8", b"other"),
-        Err(StoreFault::Failed)
-    );
-    assert_eq!(rt; shelf.contents("s.z8"), Some(b"story".as_slice()));
+    let second = shelf.store(alloc, "s.z8", b"other");
+    let stores = (first, second);
+    same(&rt, &stores, &(Ok(()), Err(StoreFault::Failed)), "stores");
+    let found = (Some(fetched.as_slice()), shelf.contents("s.z8"));
+    let wanted = (Some(b"(p)".as_slice()), Some(b"story".as_slice()));
+    same(&rt, &found, &wanted, "contents");
     Ok(())
 }
 
@@ -48,11 +56,11 @@ fn a_sure_shelf_has_no_bytes_for_a_name_without_contents(rt: HostRuntime) -> Res
     let alloc = rt.alloc();
     let mut shelf = SureShelf::new(alloc);
     shelf.add(alloc, "p.dg", b"(p)")?;
-    assert_eq!(rt; shelf.store(alloc, "q.dg", b"(q)"), Ok(()));
+    let stored = shelf.store(alloc, "q.dg", b"(q)");
     let fetched = shelf.fetch(alloc, "q.dg", 9).expect(&rt, "it never fails");
-    assert_eq!(rt; fetched.as_slice(), b"(q)".as_slice());
     let nothing = shelf.fetch(alloc, "r.dg", 0).expect(&rt, "it never fails");
-    assert_eq!(rt; nothing.len(), 0);
+    let found = (stored, fetched.as_slice(), nothing.len());
+    same(&rt, &found, &(Ok(()), b"(q)".as_slice(), 0), "contents");
     Ok(())
 }
 
@@ -69,19 +77,44 @@ fn parts_of(alloc: Global, words: &[&str]) -> Result<Vec<Part>, AllocError> {
     Ok(parts)
 }
 
+// The words of a name, the name, whether it is a keyword's, one that the profile refuses, or the prelude's, and what is built in.
+const NAMES: &[(&[&str], &[u8], (bool, bool, bool), Option<Builtin>)] = &[
+    (&["elseif"], b"(elseif)", (true, false, false), None),
+    (&["bold"], b"(bold)", (false, true, false), None),
+    (
+        &["save", "undo", "$"],
+        b"(save undo $)",
+        (false, true, false),
+        None,
+    ),
+    (
+        &["$", "is", "one", "of", "$"],
+        b"($ is one of $)",
+        (false, false, true),
+        None,
+    ),
+    (
+        &["repeat", "forever"],
+        b"(repeat forever)",
+        (false, false, false),
+        Some(Builtin::RepeatForever),
+    ),
+    (&["repeat"], b"(repeat)", (false, false, false), None),
+];
+
 #[test]
 fn names_are_found_in_the_tables(rt: HostRuntime) -> Result<(), Fail> {
-    let alloc = rt.alloc();
-    assert!(rt; is_keyword(parts_of(alloc, &["elseif"])?.as_slice()));
-    assert!(rt; !is_keyword(parts_of(alloc, &["bold"])?.as_slice()));
-    assert!(rt; is_refused_name(parts_of(alloc, &["save", "undo", "$"])?.as_slice()));
-    assert!(rt; is_prelude_name(parts_of(alloc, &["$", "is", "one", "of", "$"])?.as_slice()));
-    let forever = parts_of(alloc, &["repeat", "forever"])?;
-    assert_eq!(rt;
-        builtin_of(forever.as_slice()),
-        Some(Builtin::RepeatForever)
-    );
-    assert_eq!(rt; builtin_of(parts_of(alloc, &["repeat"])?.as_slice()), None);
-    assert!(rt; is_named(forever.as_slice(), b"(repeat forever)"));
+    for (words, name, tables, builtin) in NAMES {
+        let parts = parts_of(rt.alloc(), words)?;
+        let parts = parts.as_slice();
+        let found = (
+            is_keyword(parts),
+            is_refused_name(parts),
+            is_prelude_name(parts),
+        );
+        same(&rt, &found, tables, "tables");
+        let named = (is_named(parts, name), builtin_of(parts));
+        same(&rt, &named, &(true, *builtin), "a name");
+    }
     Ok(())
 }

@@ -5,6 +5,7 @@ ghost use Rattle.z_lang.specs.Bodies.{AreFit};
 ghost use Rattle.z_lang.specs.Sizes.{body_bytes};
 ghost use Rattle.z_story.specs.Parts.{AreParts};
 
+use crate::checks::same;
 use dg_base::{SureSink, SureSource};
 use sqlite_items::Items;
 use std::alloc::{AllocError, Global};
@@ -70,8 +71,8 @@ fn played(
     let mut source = SureSource::new(b"Xyzzy\n".as_slice().to_vec(alloc)?);
     let mut sink = SureSink::new(alloc, 100)?;
     let end = player.run(100, &mut source, &[0], &mut sink)?;
-    assert_eq!(rt; end, ZEnd::Quit);
-    assert_eq!(rt; sink.taken(), text.as_bytes(), "{text}");
+    let wanted = (ZEnd::Quit, text.as_bytes());
+    same(rt, &(end, sink.taken()), &wanted, text);
     Ok(())
 }
 

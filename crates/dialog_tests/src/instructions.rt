@@ -1,5 +1,5 @@
 // Encodings that the Inform 6 compiler lists.
-use std::process::Abort;
+use crate::checks::same;
 use std::test::Fail;
 use z_code::{decode, decode_op, encode_op};
 use z_model::{Branch, Extended, Form, Instr, One, Op, Operand, Operands, Several, Two, Zero};
@@ -20,8 +20,40 @@ const B: Operand = Operand::Variable(2);
 
 const G1: Operand = Operand::Variable(17);
 
-fn op(form: Form, number: u8, count: u8, operands: [Operand; 4]) -> Op {
+const LARGE: Operand = Operand::Large(300);
+
+// How an instruction begins: its form, its number, and how many operands there are.
+type Head = (Form, u8, u8);
+
+// What stands behind the operands: where it stores, where it branches, and the length of its text.
+type Tail = (Option<u8>, Option<Branch>, usize);
+
+const PLAIN: Tail = (None, None, 0);
+
+const PUSHES: Tail = (Some(0), None, 0);
+
+const IF_NOT: Branch = Branch {
+    when: false,
+    offset: 0,
+    short: false,
+};
+
+const IF: Branch = Branch {
+    when: true,
+    offset: 0,
+    short: false,
+};
+
+const IF_SHORT: Branch = Branch {
+    when: true,
+    offset: 0,
+    short: true,
+};
+
+fn op_of(head: Head, operands: [Operand; 4], tail: Tail) -> Op {
+    let (form, number, count) = head;
     let [first, second, third, fourth] = operands;
+    let (store, branch, text) = tail;
     Op {
         form,
         number,
@@ -32,137 +64,116 @@ fn op(form: Form, number: u8, count: u8, operands: [Operand; 4]) -> Op {
             third,
             fourth,
         },
-        store: None,
-        branch: None,
-        text: 0,
+        store,
+        branch,
+        text,
     }
 }
 
-fn storing(op: Op, variable: u8) -> Op {
-    Op {
-        store: Some(variable),
-        ..op
-    }
-}
-
-fn branching(op: Op, when: bool, offset: i16, short: bool) -> Op {
-    Op {
-        branch: Some(Branch {
-            when,
-            offset,
-            short,
-        }),
-        ..op
-    }
-}
-
-// Whether these bytes are this instruction, and no more.
-fn decodes(rt: &impl Abort, bytes: &[u8], instr: Instr, op: Op) -> Result<(), Fail> {
-    let end = bytes.len();
-    let found = decode(bytes, 0)?;
-    assert_eq!(rt; found.row.instr, instr);
-    assert_eq!(rt; found.op, op);
-    assert_eq!(rt; found.end, end);
-    assert_eq!(rt; decode_op(bytes, 0), Ok((op, end)));
-    Ok(())
-}
-
-#[test]
-fn two_operands_are_decoded(rt: HostRuntime) -> Result<(), Fail> {
-    let add = op(Form::Long, 20, 2, [A, ONE, NONE, NONE]);
-    let large = op(Form::Variable, 20, 2, [Operand::Large(300), G1, NONE, NONE]);
-    let sub = op(Form::Long, 21, 2, [SP, B, NONE, NONE]);
-    let je = op(Form::Variable, 1, 4, [A, ONE, TWO, THREE]);
-    let jg = op(Form::Long, 3, 2, [SP, SP, NONE, NONE]);
-    let cases: [(&[u8], Two, Op); 5] = [
-        (&[0x54, 0x01, 0x01, 0x11], Two::Add, storing(add, 17)),
-        (
-            &[0xD4, 0x2F, 0x01, 0x2C, 0x11, 0x00],
-            Two::Add,
-            storing(large, 0),
-        ),
-        (&[0x75, 0x00, 0x02, 0x03], Two::Sub, storing(sub, 3)),
-        (
-            &[0xC1, 0x95, 0x01, 0x01, 0x02, 0x03, 0x00, 0x00],
-            Two::Je,
-            branching(je, false, 0, false),
-        ),
-        (
-            &[0x63, 0x00, 0x00, 0xC0],
-            Two::Jg,
-            branching(jg, true, 0, true),
-        ),
-    ];
-    for (bytes, instr, op) in cases {
-        decodes(&rt, bytes, Instr::Two(instr), op)?;
-    }
-    Ok(())
-}
-
-#[test]
-fn one_operand_and_none_are_decoded(rt: HostRuntime) -> Result<(), Fail> {
-    let jz = op(Form::Short, 0, 1, [A, NONE, NONE, NONE]);
-    let jump = op(Form::Short, 12, 1, [Operand::Large(0), NONE, NONE, NONE]);
-    let nop = op(Form::Short, 4, 0, [NONE, NONE, NONE, NONE]);
-    let hello = Op {
-        text: 4,
-        ..op(Form::Short, 2, 0, [NONE, NONE, NONE, NONE])
-    };
-    let cases: [(&[u8], Instr, Op); 4] = [
-        (
-            &[0xA0, 0x01, 0x80, 0x00],
-            Instr::One(One::Jz),
-            branching(jz, true, 0, false),
-        ),
-        (&[0x8C, 0x00, 0x00], Instr::One(One::Jump), jump),
-        (
-            &[0xB2, 0x11, 0xAA, 0xC6, 0x34],
-            Instr::Zero(Zero::Print),
-            hello,
-        ),
-        (&[0xB4], Instr::Zero(Zero::Nop), nop),
-    ];
-    for (bytes, instr, op) in cases {
-        decodes(&rt, bytes, instr, op)?;
-    }
-    Ok(())
-}
-
-#[test]
-fn several_operands_are_decoded(rt: HostRuntime) -> Result<(), Fail> {
-    let storeb = op(Form::Variable, 34, 3, [A, B, Operand::Large(300), NONE]);
-    let read = op(Form::Variable, 36, 2, [A, NONE, NONE, NONE]);
-    let unicode = op(
-        Form::Extended,
-        11,
-        1,
+// The bytes, the instruction, and the parts of its op.
+const LISTED: &[(&[u8], Instr, Head, [Operand; 4], Tail)] = &[
+    (
+        &[0x54, 0x01, 0x01, 0x11],
+        Instr::Two(Two::Add),
+        (Form::Long, 20, 2),
+        [A, ONE, NONE, NONE],
+        (Some(17), None, 0),
+    ),
+    (
+        &[0xD4, 0x2F, 0x01, 0x2C, 0x11, 0x00],
+        Instr::Two(Two::Add),
+        (Form::Variable, 20, 2),
+        [LARGE, G1, NONE, NONE],
+        PUSHES,
+    ),
+    (
+        &[0x75, 0x00, 0x02, 0x03],
+        Instr::Two(Two::Sub),
+        (Form::Long, 21, 2),
+        [SP, B, NONE, NONE],
+        (Some(3), None, 0),
+    ),
+    (
+        &[0xC1, 0x95, 0x01, 0x01, 0x02, 0x03, 0x00, 0x00],
+        Instr::Two(Two::Je),
+        (Form::Variable, 1, 4),
+        [A, ONE, TWO, THREE],
+        (None, Some(IF_NOT), 0),
+    ),
+    (
+        &[0x63, 0x00, 0x00, 0xC0],
+        Instr::Two(Two::Jg),
+        (Form::Long, 3, 2),
+        [SP, SP, NONE, NONE],
+        (None, Some(IF_SHORT), 0),
+    ),
+    (
+        &[0xA0, 0x01, 0x80, 0x00],
+        Instr::One(One::Jz),
+        (Form::Short, 0, 1),
+        [A, NONE, NONE, NONE],
+        (None, Some(IF), 0),
+    ),
+    (
+        &[0x8C, 0x00, 0x00],
+        Instr::One(One::Jump),
+        (Form::Short, 12, 1),
+        [Operand::Large(0), NONE, NONE, NONE],
+        PLAIN,
+    ),
+    (
+        &[0xB2, 0x11, 0xAA, 0xC6, 0x34],
+        Instr::Zero(Zero::Print),
+        (Form::Short, 2, 0),
+        [NONE, NONE, NONE, NONE],
+        (None, None, 4),
+    ),
+    (
+        &[0xB4],
+        Instr::Zero(Zero::Nop),
+        (Form::Short, 4, 0),
+        [NONE, NONE, NONE, NONE],
+        PLAIN,
+    ),
+    (
+        &[0xE2, 0xA3, 0x01, 0x02, 0x01, 0x2C],
+        Instr::Several(Several::Storeb),
+        (Form::Variable, 34, 3),
+        [A, B, LARGE, NONE],
+        PLAIN,
+    ),
+    (
+        &[0xE4, 0x9F, 0x01, 0x00, 0x00],
+        Instr::Several(Several::Aread),
+        (Form::Variable, 36, 2),
+        [A, NONE, NONE, NONE],
+        PUSHES,
+    ),
+    (
+        &[0xBE, 0x0B, 0x7F, 0xE9],
+        Instr::Extended(Extended::PrintUnicode),
+        (Form::Extended, 11, 1),
         [Operand::Small(233), NONE, NONE, NONE],
-    );
-    let call = op(Form::Variable, 32, 4, [Operand::Large(37), ONE, TWO, THREE]);
-    let cases: [(&[u8], Instr, Op); 4] = [
-        (
-            &[0xE2, 0xA3, 0x01, 0x02, 0x01, 0x2C],
-            Instr::Several(Several::Storeb),
-            storeb,
-        ),
-        (
-            &[0xE4, 0x9F, 0x01, 0x00, 0x00],
-            Instr::Several(Several::Aread),
-            storing(read, 0),
-        ),
-        (
-            &[0xBE, 0x0B, 0x7F, 0xE9],
-            Instr::Extended(Extended::PrintUnicode),
-            unicode,
-        ),
-        (
-            &[0xE0, 0x15, 0x00, 0x25, 0x01, 0x02, 0x03, 0x00],
-            Instr::Several(Several::CallVs),
-            storing(call, 0),
-        ),
-    ];
-    for (bytes, instr, op) in cases {
-        decodes(&rt, bytes, instr, op)?;
+        PLAIN,
+    ),
+    (
+        &[0xE0, 0x15, 0x00, 0x25, 0x01, 0x02, 0x03, 0x00],
+        Instr::Several(Several::CallVs),
+        (Form::Variable, 32, 4),
+        [Operand::Large(37), ONE, TWO, THREE],
+        PUSHES,
+    ),
+];
+
+#[test]
+fn instructions_are_decoded(rt: HostRuntime) -> Result<(), Fail> {
+    for (bytes, instr, head, operands, tail) in LISTED {
+        let op = op_of(*head, *operands, *tail);
+        let found = decode(bytes, 0)?;
+        let end = bytes.len();
+        let whole = (found.row.instr, found.op, found.end);
+        same(&rt, &whole, &(*instr, op, end), "an instruction");
+        same(&rt, &decode_op(bytes, 0), &Ok((op, end)), "an op");
     }
     Ok(())
 }
@@ -185,6 +196,7 @@ fn encodes_as_inform_does(rt: HostRuntime) -> Result<(), Fail> {
         text: 0,
     };
     encode_op(&add, &mut out)?;
-    assert_eq!(rt; out.as_slice(), [0x54, 0x01, 0x01, 0x11].as_slice());
+    let wanted: &[u8] = &[0x54, 0x01, 0x01, 0x11];
+    same(&rt, &out.as_slice(), &wanted, "add");
     Ok(())
 }

@@ -1,45 +1,28 @@
 // Runs of millions of goals, in the memory that was taken for them before the first.
-
-use crate::commands::gives;
+use crate::calls::play_all;
 use std::test::Fail;
 
-// Fails and begins anew, without an end.
-const FAILING: &str = "(program entry point) (repeat forever) (fail)\n";
-
-// Ends with a call of itself, without an end, and a choice stands behind it.
-const CALLING: &str = "(program entry point) (repeat forever) (p)\n(p) (p)\n";
-
-// Counts down by last calls, fails at the end, and begins anew.
-const COUNTING: &str =
-    "(program entry point) (repeat forever) (p 100)\n(p 0) (fail)\n(p $N) ($N minus 1 into $M) (p $M)\n";
-
-// The words of the command, the source, the status and the transcript.
-const RUNS: [(&str, &str, u8, &str); 3] = [
-    (
-        "debug p.dg --steps 3000000 --heap 20",
-        FAILING,
-        3,
-        "[Step limit]\n",
-    ),
-    (
-        "debug p.dg --steps 500000 --heap 60000",
-        CALLING,
-        3,
-        "[Heap limit]\n",
-    ),
-    (
-        "debug p.dg --steps 500000 --heap 3000 --trail 2000",
-        COUNTING,
-        3,
-        "[Step limit]\n",
-    ),
-];
+// One fails and begins anew, one ends with a call of itself, with a choice behind it, and one counts down by last calls, fails at
+// the end, and begins anew; each without an end.
+const RUNS: &str = "
+>>> debug p.dg --steps 3000000 --heap 20
+(program entry point) (repeat forever) (fail)
+=== 3
+[Step limit]
+>>> debug p.dg --steps 500000 --heap 60000
+(program entry point) (repeat forever) (p)
+(p) (p)
+=== 3
+[Heap limit]
+>>> debug p.dg --steps 500000 --heap 3000 --trail 2000
+(program entry point) (repeat forever) (p 100)
+(p 0) (fail)
+(p $N) ($N minus 1 into $M) (p $M)
+=== 3
+[Step limit]
+";
 
 #[test]
 fn long_runs_stay_in_their_memory(rt: HostRuntime) -> Result<(), Fail> {
-    let alloc = rt.alloc();
-    for (line, source, status, text) in RUNS {
-        gives(&rt, alloc, line, "p.dg", source.as_bytes(), status, text)?;
-    }
-    Ok(())
+    play_all(&rt, rt.alloc(), RUNS)
 }

@@ -2,9 +2,15 @@
 #![tactic(auto)]
 
 #[cfg(test)]
+mod building;
+#[cfg(test)]
+mod calls;
+#[cfg(test)]
+mod checks;
+#[cfg(test)]
 mod choosing;
 #[cfg(test)]
-mod commands;
+mod failing;
 #[cfg(test)]
 mod forms;
 #[cfg(test)]
@@ -14,6 +20,10 @@ mod instructions;
 #[cfg(test)]
 mod lasting;
 #[cfg(test)]
+mod playing;
+#[cfg(test)]
+mod refusals;
+#[cfg(test)]
 mod spacing;
 #[cfg(test)]
 mod stories;
@@ -21,5 +31,9 @@ mod stories;
 mod strings;
 #[cfg(test)]
 mod tokens;
+#[cfg(test)]
+mod transcripts;
+#[cfg(test)]
+mod typing;
 #[cfg(test)]
 mod unifying;

@@ -1,13 +1,16 @@
 // Stories of a few instructions: a player that is run twice, each fault, and typed lines.
+use crate::checks::same;
 use dg_base::{Fault, SureSink, SureSource};
+use std::alloc::Global;
+use std::process::Abort;
 use std::test::Fail;
 use z_model::{ZEnd, ZFault};
 use z_play::Player;
 
 // A story with these instructions, of at most 8 or of 40 bytes, behind its 544 bytes of memory, and zeros behind its length;
 // the run begins so many bytes behind the first of them, and byte 64 has this value.
-fn story(rt: &HostRuntime, code: &[u8], skipped: u8, most: u8) -> Result<Player, Fail> {
-    let mut bytes = vec![in rt.alloc(); 0u8; 544]?;
+fn story(alloc: Global, code: &[u8], skipped: u8, most: u8) -> Result<Player, Fail> {
+    let mut bytes = vec![in alloc; 0u8; 544]?;
     bytes[0] = 8;
     bytes[6] = 2;
     bytes[7] = 32u8.saturating_add(skipped);
@@ -18,24 +21,52 @@ fn story(rt: &HostRuntime, code: &[u8], skipped: u8, most: u8) -> Result<Player,
     bytes.extend_from_slice(code)?;
     bytes.extend_from_slice(&[0; 40])?;
     bytes[27] = if code.len() > 8 { 73 } else { 69 };
-    Ok(Player::load(rt.alloc(), bytes)?)
+    Ok(Player::load(alloc, bytes)?)
+}
+
+// Runs the player over what is typed, and compares how it ends, and what it has written into this room.
+fn runs(
+    rt: &impl Abort,
+    alloc: Global,
+    player: &mut Player,
+    typed: &[u8],
+    room: usize,
+    wanted: (Result<ZEnd, Fault>, &str),
+) -> Result<(), Fail> {
+    let (end, text) = wanted;
+    let mut source = SureSource::new(typed.to_vec(alloc)?);
+    let mut sink = SureSink::new(alloc, room)?;
+    let found = player.run(10000, &mut source, &[0], &mut sink);
+    same(rt, &(found, sink.taken()), &(end, text.as_bytes()), text);
+    Ok(())
+}
+
+// Runs a story of this code once.
+fn plays(
+    rt: &impl Abort,
+    alloc: Global,
+    code: (&[u8], u8, u8),
+    typed: &[u8],
+    wanted: (ZEnd, &str),
+) -> Result<(), Fail> {
+    let (bytes, skipped, most) = code;
+    let (end, text) = wanted;
+    let mut player = story(alloc, bytes, skipped, most)?;
+    runs(rt, alloc, &mut player, typed, 100, (Ok(end), text))
 }
 
 #[test]
 fn runs_again_after_a_failing_sink(rt: HostRuntime) -> Result<(), Fail> {
-    let mut player = story(&rt, &[0xB2, 0xB5, 0xC5, 0xBB, 0xBA], 0, 0)?;
-    let mut source = SureSource::new(vec![in rt.alloc(); 0u8; 0]?);
-    let mut failing = SureSink::new(rt.alloc(), 1)?;
-    let failed = player.run(10, &mut source, &[0], &mut failing);
-    assert_eq!(rt; failed, Err(Fault::Write));
-    let mut sink = SureSink::new(rt.alloc(), 100)?;
-    let end = player.run(10, &mut source, &[0], &mut sink)?;
-    assert_eq!(rt; end, ZEnd::Quit);
-    assert_eq!(rt; sink.taken(), b"hi\n".as_slice());
-    Ok(())
+    let alloc = rt.alloc();
+    let mut player = story(alloc, &[0xB2, 0xB5, 0xC5, 0xBB, 0xBA], 0, 0)?;
+    let failed = (Err(Fault::Write), "h");
+    runs(&rt, alloc, &mut player, b"", 1, failed)?;
+    let whole = (Ok(ZEnd::Quit), "hi\n");
+    runs(&rt, alloc, &mut player, b"", 100, whole)
 }
 
-const FAULTS: [(&[u8], u8, ZFault, u32); 16] = [
+// The code, how many bytes of it stand before the first instruction, the fault, and its place.
+const FAULTS: &[(&[u8], u8, ZFault, u32)] = &[
     (&[0x00], 0, ZFault::BadOpcode, 544),
     (
         &[0xB4, 0xB4, 0xB4, 0xB4, 0xB4, 0xB4, 0xB4, 0x8F],
@@ -77,64 +108,48 @@ const FAULTS: [(&[u8], u8, ZFault, u32); 16] = [
 #[test]
 fn each_fault_comes_with_its_place(rt: HostRuntime) -> Result<(), Fail> {
     for (code, skipped, fault, at) in FAULTS {
-        let mut player = story(&rt, code, skipped, 0)?;
-        let mut source = SureSource::new(vec![in rt.alloc(); b'x'; 1]?);
-        let mut sink = SureSink::new(rt.alloc(), 100)?;
-        let end = player.run(10000, &mut source, &[0], &mut sink)?;
-        assert_eq!(rt; end, ZEnd::Broken(fault, at), "{fault}");
+        let end = ZEnd::Broken(*fault, *at);
+        plays(&rt, rt.alloc(), (code, *skipped, 0), b"x", (end, ""))?;
     }
     Ok(())
 }
 
 // Shifts 1 by four places and prints it, and prints how many codes went into the table at 64.
-const SHIFTS: [u8; 11] = [
+const SHIFTS: &[u8] = &[
     0xBE, 0x02, 0x5F, 0x01, 0x04, 0x00, 0xE6, 0xBF, 0x00, 0xBB, 0xBA,
 ];
 
-const TABLES: [u8; 19] = [
+const TABLES: &[u8] = &[
     0xF3, 0x5F, 0x03, 0x40, 0xE6, 0x7F, 0x2A, 0xF3, 0x3F, 0xFF, 0xFD, 0x0F, 0x40, 0x00, 0x00, 0xE6,
     0xBF, 0x00, 0xBA,
 ];
 
-#[test]
-fn shifts_and_tables_answer(rt: HostRuntime) -> Result<(), Fail> {
-    for (code, text) in [(SHIFTS.as_slice(), "16\n"), (TABLES.as_slice(), "2")] {
-        let mut player = story(&rt, code, 0, 0)?;
-        let mut source = SureSource::new(vec![in rt.alloc(); 0u8; 0]?);
-        let mut sink = SureSink::new(rt.alloc(), 100)?;
-        let end = player.run(100, &mut source, &[0], &mut sink)?;
-        assert_eq!(rt; end, ZEnd::Quit);
-        assert_eq!(rt; sink.taken(), text.as_bytes());
-    }
-    Ok(())
-}
-
 // Reads a line into the buffer at 64, and prints the number of its codes and the first four of them.
-const READS: [u8; 40] = [
+const READS: &[u8] = &[
     0xE4, 0x7F, 0x40, 0x00, 0x10, 0x40, 0x01, 0x00, 0xE6, 0xBF, 0x00, 0x10, 0x40, 0x02, 0x00, 0xE5,
     0xBF, 0x00, 0x10, 0x40, 0x03, 0x00, 0xE5, 0xBF, 0x00, 0x10, 0x40, 0x04, 0x00, 0xE5, 0xBF, 0x00,
     0x10, 0x40, 0x05, 0x00, 0xE5, 0xBF, 0x00, 0xBA,
 ];
 
+// The code, byte 64, which is how many codes a line has at most, what is typed, and what is written.
+const QUITTING: &[(&[u8], u8, &[u8], &str)] = &[
+    (SHIFTS, 0, b"", "16\n"),
+    (TABLES, 0, b"", "2"),
+    (READS, 4, b"L'\xC3\x89P\xC3\x89E\n", "4l'\u{E9}p"),
+    (READS, 1, b"\xC3\x89\xC3\x89", "1\u{E9}"),
+    (READS, 255, b"\xC5\x92\xC5\xB8\r\n", "2\u{153}?"),
+    (READS, 3, b"\xE4A\tb", "3?a "),
+    (READS, 255, b"\xC3", "1?"),
+    (READS, 255, b"\xE2\x82\xACx", "2?x"),
+    (READS, 255, b"\xE2\x82x", "3??x"),
+    (READS, 0, b"abc", "0"),
+];
+
 #[test]
-fn typed_lines_are_read_in_units(rt: HostRuntime) -> Result<(), Fail> {
-    let cases: [(u8, &[u8], &str); 8] = [
-        (4, "L'\u{C9}P\u{C9}E\n".as_bytes(), "4l'\u{E9}p"),
-        (1, "\u{C9}\u{C9}".as_bytes(), "1\u{E9}"),
-        (255, "\u{152}\u{178}\r\n".as_bytes(), "2\u{153}?"),
-        (3, &[0xE4, b'A', b'\t', b'b'], "3?a "),
-        (255, &[0xC3], "1?"),
-        (255, &[0xE2, 0x82, 0xAC, b'x'], "2?x"),
-        (255, &[0xE2, 0x82, b'x'], "3??x"),
-        (0, b"abc", "0"),
-    ];
-    for (most, typed, text) in cases {
-        let mut player = story(&rt, &READS, 0, most)?;
-        let mut source = SureSource::new(typed.to_vec(rt.alloc())?);
-        let mut sink = SureSink::new(rt.alloc(), 100)?;
-        let end = player.run(100, &mut source, &[0], &mut sink)?;
-        assert_eq!(rt; end, ZEnd::Quit);
-        assert_eq!(rt; sink.taken(), text.as_bytes(), "{text}");
+fn shifts_tables_and_typed_lines_are_answered(rt: HostRuntime) -> Result<(), Fail> {
+    for (code, most, typed, text) in QUITTING {
+        let wanted = (ZEnd::Quit, *text);
+        plays(&rt, rt.alloc(), (code, 0, *most), typed, wanted)?;
     }
     Ok(())
 }

@@ -1,4 +1,5 @@
 // What no clause says: that memory suffices, and the tokens of whole sources.
+use crate::checks::same;
 use dg_base::{Kind, ReadFault, Refusal};
 use dg_lex::{TokenKind, lex};
 use std::alloc::Global;
@@ -27,43 +28,42 @@ fn kinds(alloc: Global, source: &[u8]) -> Result<String, ReadFault> {
     Ok(text)
 }
 
+const SOURCES: &[(&str, &str)] = &[
+    ("", ""),
+    ("%% alone", ""),
+    ("(p $X $) %% (q)\n  *(r #a #)\n#b @c @", "|bwvaepbwose|ods"),
+    ("a%b c%%d\n%e", "|ww|w"),
+    ("\\(x\\) y\\\\ ~[a/b|{}]", "|wwpbwpbee"),
+    ("\u{FEFF}(\u{e9}t\u{e9} $\u{e9})", "|bwve"),
+];
+
 #[test]
 fn sources_have_their_tokens(rt: HostRuntime) -> Result<(), Fail> {
-    let cases = [
-        ("", ""),
-        ("%% alone", ""),
-        ("(p $X $) %% (q)\n  *(r #a #)\n#b @c @", "|bwvaepbwose|ods"),
-        ("a%b c%%d\n%e", "|ww|w"),
-        ("\\(x\\) y\\\\ ~[a/b|{}]", "|wwpbwpbee"),
-        ("\u{FEFF}(\u{e9}t\u{e9} $\u{e9})", "|bwve"),
-    ];
-    for (source, wanted) in cases {
-        match kinds(rt.alloc(), source.as_bytes()) {
-            Ok(found) => assert_eq!(rt; found.as_str(), wanted, "{source}"),
-            Err(_) => assert!(rt; false, "{source}"),
-        }
+    for (source, wanted) in SOURCES {
+        let found = kinds(rt.alloc(), source.as_bytes())?;
+        same(&rt, &found.as_str(), wanted, source);
     }
     Ok(())
 }
 
+// A source, and the line of its bad character.
+const BAD: &[(&[u8], u32)] = &[
+    (b"(p)\n\xFF", 2),
+    (b"(p)\n\n%% \x01", 3),
+    (b"a\\b", 1),
+    (b"\\", 1),
+    (b"\n\xF0\x9F\x98\x80", 2),
+];
+
 #[test]
 fn bad_characters_are_refused_with_their_line(rt: HostRuntime) -> Result<(), Fail> {
-    let cases = [
-        (b"(p)\n\xFF".as_slice(), 2),
-        (b"(p)\n\n%% \x01".as_slice(), 3),
-        (b"a\\b".as_slice(), 1),
-        (b"\\".as_slice(), 1),
-        (b"\n\xF0\x9F\x98\x80".as_slice(), 2),
-    ];
-    for (source, line) in cases {
+    for (source, line) in BAD {
         let wanted = ReadFault::Refused(Refusal {
             kind: Kind::BadByte,
-            line,
+            line: *line,
         });
-        match lex(rt.alloc(), source) {
-            Ok(_) => assert!(rt; false),
-            Err(fault) => assert_eq!(rt; fault, wanted),
-        }
+        let found = kinds(rt.alloc(), source).err();
+        same(&rt, &found, &Some(wanted), "a bad character");
     }
     Ok(())
 }

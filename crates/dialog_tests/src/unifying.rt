@@ -2,20 +2,20 @@
 ghost use Rattle.std.specs.Prelude.{All, IfOk};
 ghost use Rattle.dg_unify.specs.Store.{Holds, Kept};
 
+use crate::checks::same;
 use dg_arena::Arena;
 use dg_base::Simple;
 use dg_unify::{Bindings, Full, ListBindings, Ref, View, unify};
-use std::alloc::{AllocError, Global};
 use std::test::Fail;
 
 // A value: a variable by its number, a value without parts, a pair, a closure with one captured value, or an unknown word
 // of two letters.
-#[derive(Drop)]
+#[derive(Clone, Copy)]
 enum Tree {
     Var(usize),
     Is(Simple),
-    Pair(Box<Tree>, Box<Tree>),
-    Closure(u16, Box<Tree>),
+    Pair(&'static Tree, &'static Tree),
+    Closure(u16, &'static Tree),
     Unknown(u16, u16),
 }
 
@@ -45,6 +45,7 @@ fn build<B: Bindings>(store: &mut B, vars: &[Ref], tree: &Tree) -> Result<Ref, F
     }
 }
 
+// Whether the two values unify, and what the two variables are then.
 fn answer<B: Bindings>(store: &mut B, a: &Tree, b: &Tree) -> Result<(bool, View, View), Full> {
     let x = store.fresh()?;
     let y = store.fresh()?;
@@ -53,12 +54,6 @@ fn answer<B: Bindings>(store: &mut B, a: &Tree, b: &Tree) -> Result<(bool, View,
     let right = build(store, &vars, b)?;
     let agreed = unify(store, left, right)?;
     Ok((agreed, store.walk(x), store.walk(y)))
-}
-
-// Whether the two values unify, and what the two variables are then.
-fn unified(alloc: Global, a: Tree, b: Tree) -> Result<(bool, View, View), Full> {
-    let mut store = ListBindings::new(alloc, 100, 100);
-    answer(&mut store, &a, &b)
 }
 
 const X: Tree = Tree::Var(0);
@@ -73,13 +68,13 @@ const WORD: Tree = Tree::Is(Simple::Word(1));
 
 const NIL: Tree = Tree::Is(Simple::Nil);
 
-fn pair(alloc: Global, head: Tree, tail: Tree) -> Result<Tree, AllocError> {
-    Ok(Tree::Pair(Box::new(alloc, head)?, Box::new(alloc, tail)?))
-}
+const ONE_TWO: Tree = Tree::Pair(&ONE, &Tree::Pair(&TWO, &NIL));
 
-fn closure(alloc: Global, place: u16, captured: Tree) -> Result<Tree, AllocError> {
-    Ok(Tree::Closure(place, Box::new(alloc, captured)?))
-}
+const X_TWO: Tree = Tree::Pair(&X, &TWO);
+
+const ONE_Y: Tree = Tree::Pair(&ONE, &Y);
+
+const AB: Tree = Tree::Unknown(97, 98);
 
 // The two variables where nothing is bound, and the two numbers.
 const FREE: View = View::Unbound(Ref(0));
@@ -90,102 +85,74 @@ const IS_ONE: View = View::Simple(Simple::Num(1));
 
 const IS_TWO: View = View::Simple(Simple::Num(2));
 
-#[test]
-fn values_without_parts_unify(rt: HostRuntime) -> Result<(), Fail> {
-    let al = rt.alloc();
-    assert_eq!(rt; unified(al, ONE, ONE), Ok((true, FREE, OTHER)));
-    assert_eq!(rt; unified(al, ONE, TWO), Ok((false, FREE, OTHER)));
-    assert_eq!(rt; unified(al, ONE, WORD), Ok((false, FREE, OTHER)));
-    assert_eq!(rt; unified(al, X, ONE), Ok((true, IS_ONE, OTHER)));
-    assert_eq!(rt; unified(al, TWO, Y), Ok((true, FREE, IS_TWO)));
-    assert_eq!(rt; unified(al, X, Y), Ok((true, FREE, FREE)));
-    assert_eq!(rt; unified(al, Y, X), Ok((true, FREE, FREE)));
-    assert_eq!(rt; unified(al, X, X), Ok((true, FREE, OTHER)));
-    Ok(())
-}
+// Two values; whether they unify, and what the two variables are then.
+const CASES: &[(Tree, Tree, (bool, View, View))] = &[
+    (ONE, ONE, (true, FREE, OTHER)),
+    (ONE, TWO, (false, FREE, OTHER)),
+    (ONE, WORD, (false, FREE, OTHER)),
+    (X, ONE, (true, IS_ONE, OTHER)),
+    (TWO, Y, (true, FREE, IS_TWO)),
+    (X, Y, (true, FREE, FREE)),
+    (Y, X, (true, FREE, FREE)),
+    (X, X, (true, FREE, OTHER)),
+    (NIL, Tree::Pair(&TWO, &NIL), (false, FREE, OTHER)),
+    (X, Tree::Pair(&ONE, &X), (false, FREE, OTHER)),
+    (X_TWO, ONE_Y, (true, IS_ONE, IS_TWO)),
+    (
+        Tree::Pair(&X, &X),
+        Tree::Pair(&ONE, &TWO),
+        (false, IS_ONE, OTHER),
+    ),
+    (
+        Tree::Pair(&X, &Y),
+        Tree::Pair(&Y, &TWO),
+        (true, IS_TWO, IS_TWO),
+    ),
+    (
+        ONE_TWO,
+        Tree::Pair(&X, &Tree::Pair(&Y, &NIL)),
+        (true, IS_ONE, IS_TWO),
+    ),
+    (
+        ONE_TWO,
+        Tree::Pair(&X, &Tree::Pair(&Y, &ONE)),
+        (false, IS_ONE, IS_TWO),
+    ),
+    (Tree::Closure(3, &Y), Y, (false, FREE, OTHER)),
+    (
+        Tree::Closure(3, &X),
+        Tree::Closure(3, &TWO),
+        (true, IS_TWO, OTHER),
+    ),
+    (
+        Tree::Closure(3, &X),
+        Tree::Closure(4, &TWO),
+        (false, FREE, OTHER),
+    ),
+    (AB, AB, (true, FREE, OTHER)),
+    (AB, Tree::Unknown(97, 99), (false, FREE, OTHER)),
+    (AB, WORD, (false, FREE, OTHER)),
+];
 
 #[test]
-fn lists_unify(rt: HostRuntime) -> Result<(), Fail> {
-    let al = rt.alloc();
-    assert_eq!(rt;
-        unified(al, NIL, pair(al, TWO, NIL)?),
-        Ok((false, FREE, OTHER))
-    );
-    assert_eq!(rt; unified(al, X, pair(al, ONE, X)?), Ok((false, FREE, OTHER)));
-    assert_eq!(rt;
-        unified(al, pair(al, X, TWO)?, pair(al, ONE, Y)?),
-        Ok((true, IS_ONE, IS_TWO))
-    );
-    assert_eq!(rt;
-        unified(al, pair(al, X, X)?, pair(al, ONE, TWO)?),
-        Ok((false, IS_ONE, OTHER))
-    );
-    assert_eq!(rt;
-        unified(al, pair(al, X, Y)?, pair(al, Y, TWO)?),
-        Ok((true, IS_TWO, IS_TWO))
-    );
-    assert_eq!(rt;
-        unified(
-            al,
-            pair(al, ONE, pair(al, TWO, NIL)?)?,
-            pair(al, X, pair(al, Y, NIL)?)?
-        ),
-        Ok((true, IS_ONE, IS_TWO))
-    );
-    assert_eq!(rt;
-        unified(
-            al,
-            pair(al, ONE, pair(al, TWO, NIL)?)?,
-            pair(al, X, pair(al, Y, ONE)?)?
-        ),
-        Ok((false, IS_ONE, IS_TWO))
-    );
-    Ok(())
-}
-
-#[test]
-fn closures_and_unknown_words_unify(rt: HostRuntime) -> Result<(), Fail> {
-    let al = rt.alloc();
-    assert_eq!(rt;
-        unified(al, closure(al, 3, Y)?, Y),
-        Ok((false, FREE, OTHER))
-    );
-    assert_eq!(rt;
-        unified(al, closure(al, 3, X)?, closure(al, 3, TWO)?),
-        Ok((true, IS_TWO, OTHER))
-    );
-    assert_eq!(rt;
-        unified(al, closure(al, 3, X)?, closure(al, 4, TWO)?),
-        Ok((false, FREE, OTHER))
-    );
-    assert_eq!(rt;
-        unified(al, Tree::Unknown(97, 98), Tree::Unknown(97, 98)),
-        Ok((true, FREE, OTHER))
-    );
-    assert_eq!(rt;
-        unified(al, Tree::Unknown(97, 98), Tree::Unknown(97, 99)),
-        Ok((false, FREE, OTHER))
-    );
-    assert_eq!(rt;
-        unified(al, Tree::Unknown(97, 98), WORD),
-        Ok((false, FREE, OTHER))
-    );
+fn values_unify(rt: HostRuntime) -> Result<(), Fail> {
+    for (left, right, wanted) in CASES {
+        let mut store = ListBindings::new(rt.alloc(), 100, 100);
+        let found = answer(&mut store, left, right)?;
+        same(&rt, &found, wanted, "two values");
+    }
     Ok(())
 }
 
 #[test]
 fn an_arena_holds_values_and_blocks(rt: HostRuntime) -> Result<(), Fail> {
-    let al = rt.alloc();
-    let mut arena = Arena::new(al, 100, 100)?;
+    let mut arena = Arena::new(rt.alloc(), 100, 100)?;
     let block = arena.block(&[70_000, 7])?;
-    assert_eq!(rt; arena.word(block), 70_000);
-    let left = pair(al, X, TWO)?;
-    let right = pair(al, ONE, Y)?;
-    assert_eq!(rt;
-        answer(&mut arena, &left, &right),
-        Ok((true, IS_ONE, IS_TWO))
-    );
-    let mut full = Arena::new(al, 7, 100)?;
-    assert_eq!(rt; answer(&mut full, &left, &right), Err(Full::Heap));
+    same(&rt, &arena.word(block), &70_000, "a word");
+    let found = answer(&mut arena, &X_TWO, &ONE_Y)?;
+    same(&rt, &found, &(true, IS_ONE, IS_TWO), "two pairs");
+    let mut full = Arena::new(rt.alloc(), 7, 100)?;
+    let failed = answer(&mut full, &X_TWO, &ONE_Y).err();
+    same(&rt, &failed, &Some(Full::Heap), "a full heap");
     Ok(())
 }
