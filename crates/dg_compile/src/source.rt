@@ -118,6 +118,13 @@ pub fn sources_have_one_answer()
     dg_expand::one_answer();
 }
 
+/// A source that is refused has no program.
+pub fn refused_sources_have_no_program()
+    ensures { (source : List ℕ) (r : Refusal) (p : Core) → Compiles source (Err r) → Compiles source (Ok p) → ⊥ }
+{
+    sources_have_one_answer();
+}
+
 /// A source of more than 1,048,576 bytes is refused, at line 1.
 pub fn long_sources_are_refused()
     ensures { (source : List ℕ) → 1048576 < length source → Compiles source (Err (refusal_at kind.SourceTooLong 1)) }

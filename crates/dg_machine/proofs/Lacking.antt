@@ -5,10 +5,10 @@ use Rattle.dg_base.specs.Written.{SinkView, Wrote, BrokeOff}
 use Rattle.dg_base.specs.declared.program.CoreProgram.{CoreProgram}
 use Rattle.dg_base.specs.declared.run.Ending.TheVariants.{KeepLimit}
 use Rattle.dg_base.specs.declared.run.Limits.{Limits}
-use Rattle.dg_meaning.specs.Engines.{game, left_told, ForTyped, HasShown, HasLostOutput}
+use Rattle.dg_meaning.specs.Engines.{game, left_told, ForTyped, HasShown}
+use Rattle.dg_machine.specs.Program.{HasLostText, to_the_end}
 use Rattle.dg_meaning.specs.Facts.{kinds_of, kept_size, start_facts}
 use Rattle.dg_meaning.specs.Render.{render}
-use Rattle.dg_meaning.specs.Shows.{whole}
 use Rattle.dg_meaning.specs.Transcript.{closed, line_of}
 use Rattle.dg_meaning.proofs.Engines.{as_told, for_typed, start_shows}
 
@@ -27,11 +27,11 @@ module _ (p : CoreProgram) (dice : List ℕ) (l : Limits) (over : l.keep < kept_
         wrote = subst (Wrote k k') (sym line_alone) wrote;
       })
 
-  pub lack_lost : BrokeOff k k' (line_of KeepLimit) → ForTyped i.left (λ typed. HasLostOutput (game p dice) typed l (left_told i i) k k')
+  pub lack_lost : BrokeOff k k' (line_of KeepLimit) → ForTyped i.left (λ typed. HasLostText (game p dice) typed l i i k k')
   lack_lost broke =
-      for_typed i.left (λ typed. HasLostOutput (game p dice) typed l (left_told i i) k k') (λ typed is.
+      for_typed i.left (λ typed. HasLostText (game p dice) typed l i i k k') (λ typed is.
       record {
         bytes = closed [] (line_of KeepLimit);
-        may_write = whole (record { ending = KeepLimit; goals = 0 }) (inr (start_shows p l dice typed (left_told i i) (as_told i i typed is) over));
+        writing = to_the_end (record { ending = KeepLimit; goals = 0 }) (inr (start_shows p l dice typed (left_told i i) (as_told i i typed is) over));
         broke = subst (BrokeOff k k') (sym line_alone) broke;
       })

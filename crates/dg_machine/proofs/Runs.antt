@@ -14,7 +14,7 @@ use Rattle.dg_meaning.specs.Words.{behind_first}
 use Rattle.std.specs.Prelude.{if◌then◌else◌, ◌⊎◌}
 use Rattle.dg_meaning.specs.Growth.{ending_line}
 use Rattle.dg_meaning.specs.Transcript.{Run, run, text_of, line_of, input_fault_line}
-use Rattle.dg_meaning.specs.Shows.{IsLeft, Shows, ShowsInputFault, HasGiven, in_part, whole, without_input}
+use Rattle.dg_meaning.specs.Shows.{IsLeft, Shows, ShowsInputFault, HasGiven}
 use Rattle.dg_meaning.specs.OneRun.{EndsWith, Grows}
 use Rattle.dg_meaning.proofs.Keeps.{stands_happened}
 use Rattle.dg_meaning.proofs.Dropping.{prints_append}
@@ -33,7 +33,7 @@ use Rattle.dg_mid.specs.Runs.{after, left_after, closed_text}
 use Rattle.dg_mid.proofs.Whole.{is_at}
 use Rattle.dg_mid.proofs.Shown.{shows_all, shows_faults, until_left}
 use Rattle.dg_mid.proofs.Outsides.{Leads}
-use Rattle.dg_mid.proofs.Typed.{typed_stays, left_at}
+use Rattle.dg_mid.proofs.Typed.{typed_stays, left_at, stops_there}
 use Rattle.dg_mid.proofs.Heights.{all_ordered}
 use Rattle.dg_spacing.specs.declared.spacer.Spacer.{Spacer}
 use Rattle.dg_spacing.specs.Spacer.{StandsFor}
@@ -51,7 +51,9 @@ use Rattle.dg_machine.specs.Tables.{IsOf}
 use Rattle.dg_machine.specs.inside.Running.{rests, MarkDone, DoesMarks, ReadsGoal, LosesText, LosesLine, BreaksAt, HasText, HasSettled, Settles, IsAt, IsLost, IsUnread, EndsSo, HasEnded, IsLostWithin, IsUnreadWithin}
 use Rattle.dg_machine.specs.inside.Reading.{LeftBehind}
 use Rattle.dg_machine.proofs.Readings.{mark_leaves}
-use Rattle.dg_meaning.specs.Engines.{HasShown, HasLostInput, HasLostOutput}
+use Rattle.dg_meaning.specs.Engines.{left_told, HasShown, HasLostInput}
+use Rattle.dg_machine.specs.Program.{HasLostText, up_to_goal, to_the_end, up_to_fault}
+use Rattle.dg_base.specs.Causes.{Rose}
 
 -- what was printed up to here is the beginning of the whole text
 prints_begin : (w : World) (x : Run) (ps : List Print) → Grows w x.world → prints w.events ≡ ps → (text : List ℕ) × (text_of x.world.events ≡ render ps ++ text)
@@ -220,12 +222,12 @@ module _ (code : Code) (g : Game) (l : Limits) (codes : Codes g.program code) (t
         wrote = wrote_on start k k' (render ps) (ending_line ps (line_of e)) h.text.wrote (close ps h.text.stands);
       }
 
-  pub closing_lost : (e : Ending) (left : ℕ) (r : Memory) (s : Spacer) (start k k' : SinkView) (rest : List ℕ) (told : Option (List ℕ)) → IsLeft told rest → HasEnded code g l typed (l.steps - left) e left r s start k rest → left ≤ l.steps → ((ps : List Print) → StandsFor s ps → BrokeOff k k' (ending_line ps (line_of e))) → HasLostOutput g typed l told start k'
-  closing_lost e left r s start k k' rest told is h le close =
+  pub closing_lost : (e : Ending) (left : ℕ) (r : Memory) (s : Spacer) (start k k' : SinkView) (i i' : SourceView) (rest : List ℕ) → IsLeft (left_told i i') rest → HasEnded code g l typed (l.steps - left) e left r s start k rest → left ≤ l.steps → ((ps : List Print) → StandsFor s ps → BrokeOff k k' (ending_line ps (line_of e))) → HasLostText g typed l i i' start k'
+  closing_lost e left r s start k k' i i' rest is h le close =
       let ps = (after the_set typed h.steps).prints in
       record {
         bytes = closed_text ps (line_of e);
-        may_write = whole (record { ending = e; goals = l.steps - left }) (shows_told g typed l _ _ (left_after the_set typed h.steps) told (subst (IsLeft told) (sym h.left_is) is) (ended_shows e left h.steps h.ends h.goals_is le));
+        writing = to_the_end (record { ending = e; goals = l.steps - left }) (shows_told g typed l _ _ (left_after the_set typed h.steps) (left_told i i') (subst (IsLeft (left_told i i')) (sym h.left_is) is) (ended_shows e left h.steps h.ends h.goals_is le));
         broke = broke_later start k k' (render ps) (ending_line ps (line_of e)) h.text.wrote (close ps h.text.stands);
       }
 
@@ -252,12 +254,12 @@ module _ (code : Code) (g : Game) (l : Limits) (codes : Codes g.program code) (t
         wrote = wrote_on start k k' (render ps) (ending_line ps input_fault_line) h.unread.text.wrote (close ps h.unread.text.stands);
       }
 
-  pub fault_lost : (r : Memory) (s : Spacer) (start k k' : SinkView) (taken rest : List ℕ) (told : Option (List ℕ)) → IsLeft told rest → IsUnreadWithin code g l typed l.steps r s start k (taken ++ rest) → length (behind_first (taken ++ rest)) ≤ length rest → ((ps : List Print) → StandsFor s ps → BrokeOff k k' (ending_line ps input_fault_line)) → HasLostOutput g typed l told start k'
-  fault_lost r s start k k' taken rest told is h short close =
+  pub fault_lost : (r : Memory) (s : Spacer) (start k k' : SinkView) (i i' : SourceView) (taken rest : List ℕ) → Rose i.faults i'.faults → IsLeft (left_told i i') rest → IsUnreadWithin code g l typed l.steps r s start k (taken ++ rest) → length (behind_first (taken ++ rest)) ≤ length rest → ((ps : List Print) → StandsFor s ps → BrokeOff k k' (ending_line ps input_fault_line)) → HasLostText g typed l i i' start k'
+  fault_lost r s start k k' i i' taken rest rose is h short close =
       let ps = (after the_set typed h.unread.steps).prints in
       record {
         bytes = closed_text ps input_fault_line;
-        may_write = without_input (fault_told (closed_text ps input_fault_line) rest told is (fault_shows r s start k taken rest h short));
+        writing = up_to_fault rose (fault_told (closed_text ps input_fault_line) rest (left_told i i') is (fault_shows r s start k taken rest h short));
         broke = broke_later start k k' (render ps) (ending_line ps input_fault_line) h.unread.text.wrote (close ps h.unread.text.stands);
       }
 
@@ -270,29 +272,33 @@ module _ (code : Code) (g : Game) (l : Limits) (codes : Codes g.program code) (t
       let begins = prints_begin c.world (run g typed goals) ps (stands_happened g at.lives at.ways _ more c.world (run g typed goals) at.stands) at.mirrors.printed_is in
       subst (BrokeOff start k) (sym begins.1) (broke_first start k (render ps) begins.0 x.broke)
 
-  pub text_lost : (r : Memory) (start k : SinkView) (rest : List ℕ) (told : Option (List ℕ)) → IsLeft told rest → IsLostWithin code g l typed l.steps r start k rest → HasLostOutput g typed l told start k
-  text_lost r start k rest told is h =
+  pub text_lost : (r : Memory) (start k : SinkView) (i i' : SourceView) (rest : List ℕ) → IsLeft (left_told i i') rest → IsLostWithin code g l typed l.steps r start k rest → HasLostText g typed l i i' start k
+  text_lost r start k i i' rest is h =
       let x = h.lost in
       let one : (after the_set typed (suc x.steps)).goals ≡ suc h.goals = ap (λ b. one_if b + (after the_set typed x.steps).goals) x.takes ∙ omega (arith, x.goals_is) in
-      let before : (after the_set typed x.steps).goals + 1 ≡ suc h.goals = omega (arith, x.goals_is) in
-      let behind : (after the_set typed (suc x.steps)).goals + 0 ≡ suc h.goals = omega (arith, one) in
+      let first : (after the_set typed (suc x.steps)).goals - 1 ≡ h.goals = omega (arith, one) in
+      let last : (after the_set typed (suc x.steps)).goals ≡ h.goals + 1 = omega (arith, one) in
+      let before : (after the_set typed x.steps).goals + 1 ≡ h.goals + 1 = omega (arith, x.goals_is) in
+      let behind : (after the_set typed (suc x.steps)).goals + 0 ≡ h.goals + 1 = omega (arith, one) in
+      let stops = stops_there g code l codes typed (after the_set typed x.steps) (left_after the_set typed x.steps) x.takes (is_at g code l codes typed x.steps) (left_at g code l codes typed x.steps).left in
       record {
-        bytes = text_of (run g typed (suc h.goals)).world.events;
-        may_write = in_part
+        bytes = text_of (run g typed (h.goals + 1)).world.events;
+        writing = up_to_goal
             (record {
-              goals = suc h.goals;
-              within = omega (arith, h.within);
+              goals = h.goals;
+              below = h.within;
+              goes_on = subst (λ n. (run g typed n).ending ≡ StepLimit) x.goals_is (ap (λ (y : Run). y.ending) stops.is);
               text = refl;
               input =
                   record {
                     rest = rest;
                     left_is = is;
-                    since = subst (λ n. EndsWith (run g typed (n - 1)).world.typed rest) one (subst (EndsWith (run g typed ((after the_set typed (suc x.steps)).goals - 1)).world.typed) x.left_is (left_at g code l codes typed (suc x.steps)).since);
-                    until = subst (λ n. EndsWith rest (run g typed n).world.typed) one (subst (λ (xs : List ℕ). EndsWith xs (run g typed (after the_set typed (suc x.steps)).goals).world.typed) x.left_is (until_left g code l codes typed (suc x.steps)));
+                    since = subst (λ n. EndsWith (run g typed n).world.typed rest) first (subst (EndsWith (run g typed ((after the_set typed (suc x.steps)).goals - 1)).world.typed) x.left_is (left_at g code l codes typed (suc x.steps)).since);
+                    until = subst (λ n. EndsWith rest (run g typed n).world.typed) last (subst (λ (xs : List ℕ). EndsWith xs (run g typed (after the_set typed (suc x.steps)).goals).world.typed) x.left_is (until_left g code l codes typed (suc x.steps)));
                   };
             });
         broke = elim x.broke [
-          | inl here ↦ part_broke x.steps 1 (suc h.goals) start k before here
-          | inr there ↦ part_broke (suc x.steps) 0 (suc h.goals) start k behind there
+          | inl here ↦ part_broke x.steps 1 (h.goals + 1) start k before here
+          | inr there ↦ part_broke (suc x.steps) 0 (h.goals + 1) start k behind there
         ];
       }

@@ -9,7 +9,8 @@ ghost use Rattle.dg_mid.specs.Potential.{Tidy};
 ghost use Rattle.dg_machine.specs.Built.{IsBuilt};
 ghost use Rattle.dg_machine.specs.Tables.{IsOf};
 ghost use Rattle.dg_machine.specs.Layout.{Roomy};
-ghost use Rattle.dg_meaning.specs.Engines.{game, left_told, ForTyped, HasShown, HasLostInput, HasLostOutput};
+ghost use Rattle.dg_machine.specs.Program.{HasLostText};
+ghost use Rattle.dg_meaning.specs.Engines.{game, left_told, ForTyped, HasShown, HasLostInput};
 
 use crate::built::is_built;
 use crate::doing::code_at;
@@ -103,8 +104,8 @@ impl Machine {
             StartsOutside p self.old.limits dice outside.old → ForTyped (S.view source.old).left (λ typed. HasLostInput (game p dice) typed
             self.old.limits (S.view source.new).left (K.view sink.old) (K.view sink.new)) }
         ensures output { IsErrOf result Fault.Write → (p : CoreProgram) → (dice : List ℕ) → Codes p self.old.code → IsOf p self.old.tables →
-            StartsOutside p self.old.limits dice outside.old → ForTyped (S.view source.old).left (λ typed. HasLostOutput (game p dice) typed
-            self.old.limits (left_told (S.view source.old) (S.view source.new)) (K.view sink.old) (K.view sink.new)) }
+            StartsOutside p self.old.limits dice outside.old → ForTyped (S.view source.old).left (λ typed. HasLostText (game p dice) typed
+            self.old.limits (S.view source.old) (S.view source.new) (K.view sink.old) (K.view sink.new)) }
         ensures read { IsErrOf result Fault.Read → Rose (S.view source.old).faults (S.view source.new).faults }
         ensures later { (S.view source.old).faults ≤ (S.view source.new).faults }
         ensures code { self.new.code ≡ self.old.code }

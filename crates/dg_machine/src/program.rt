@@ -5,10 +5,10 @@ ghost use Rattle.dg_base.specs.Sound.{IsSound};
 ghost use Rattle.dg_base.specs.Streams.{SourceView};
 ghost use Rattle.dg_base.specs.declared.program.CoreProgram.{CoreProgram};
 ghost use Rattle.dg_base.specs.declared.run.Limits.{Limits};
-ghost use Rattle.dg_meaning.specs.Engines.{game, left_told, ForTyped, HasShown, HasLostInput, HasLostOutput};
+ghost use Rattle.dg_meaning.specs.Engines.{game, left_told, ForTyped, HasShown, HasLostInput};
 ghost use Rattle.dg_mid.specs.Potential.{Tidy};
 ghost use Rattle.dg_outside.specs.Outside.{LacksAtStart};
-ghost use Rattle.dg_machine.specs.Program.{IsReady, IsUntouched};
+ghost use Rattle.dg_machine.specs.Program.{IsReady, IsUntouched, HasLostText};
 
 use crate::machine::Machine;
 use crate::tables::Tables;
@@ -36,8 +36,8 @@ fn run_code<S: Source, K: Sink>(
         ForTyped (S.view source.old).left (λ typed. HasLostInput (game p dice) typed limits.now (S.view source.new).left
         (K.view sink.old) (K.view sink.new)) }
     ensures output { IsErrOf result RunFault.Write → (p : CoreProgram) → (dice : List ℕ) → IsReady p limits.now dice code tables outside.old →
-        ForTyped (S.view source.old).left (λ typed. HasLostOutput (game p dice) typed limits.now
-        (left_told (S.view source.old) (S.view source.new)) (K.view sink.old) (K.view sink.new)) }
+        ForTyped (S.view source.old).left (λ typed. HasLostText (game p dice) typed limits.now (S.view source.old) (S.view source.new)
+        (K.view sink.old) (K.view sink.new)) }
     ensures memory { IsErrOf result RunFault.OutOfMemory → IsUntouched (S.view source.old) (S.view source.new) (K.view sink.old) (K.view sink.new) }
     ensures read { IsErrOf result RunFault.Read → Rose (S.view source.old).faults (S.view source.new).faults }
     ensures later { (S.view source.old).faults ≤ (S.view source.new).faults }
@@ -61,7 +61,7 @@ fn write_lack<K: Sink>(lack: Lack, sink: &mut K) -> Result<Outcome, RunFault>
     ensures shows { (p : CoreProgram) → (dice : List ℕ) → (l : Limits) → LacksAtStart p l.keep lack → (i : SourceView) → IfOk result (λ outcome.
         ForTyped i.left (λ typed. HasShown (game p dice) typed l outcome (left_told i i) (K.view sink.old) (K.view sink.new))) }
     ensures output { IsErrOf result RunFault.Write → (p : CoreProgram) → (dice : List ℕ) → (l : Limits) → LacksAtStart p l.keep lack →
-        (i : SourceView) → ForTyped i.left (λ typed. HasLostOutput (game p dice) typed l (left_told i i) (K.view sink.old) (K.view sink.new)) }
+        (i : SourceView) → ForTyped i.left (λ typed. HasLostText (game p dice) typed l i i (K.view sink.old) (K.view sink.new)) }
     ensures memory { IsErrOf result RunFault.OutOfMemory → K.view sink.new ≡ K.view sink.old }
     ensures read { IsErrOf result RunFault.Read → ⊥ }
 {
@@ -94,7 +94,7 @@ pub fn run_program<S: Source, K: Sink>(
     ensures input { IsErrOf result RunFault.Read → ForTyped (S.view source.old).left
         (λ typed. HasLostInput (game program dice.now) typed limits.now (S.view source.new).left (K.view sink.old) (K.view sink.new)) }
     ensures output { IsErrOf result RunFault.Write → ForTyped (S.view source.old).left
-        (λ typed. HasLostOutput (game program dice.now) typed limits.now (left_told (S.view source.old) (S.view source.new))
+        (λ typed. HasLostText (game program dice.now) typed limits.now (S.view source.old) (S.view source.new)
         (K.view sink.old) (K.view sink.new)) }
     ensures memory { IsErrOf result RunFault.OutOfMemory → IsUntouched (S.view source.old) (S.view source.new) (K.view sink.old) (K.view sink.new) }
     ensures read { IsErrOf result RunFault.Read → Rose (S.view source.old).faults (S.view source.new).faults }

@@ -15,13 +15,15 @@ use Rattle.dg_machine.specs.Program.{IsUntouched}
 use Rattle.z_model.specs.Story.{story_refusal}
 use Rattle.z_model.specs.declared.story.StoryRefusal.{StoryRefusal}
 use Rattle.z_model.specs.declared.story.StoryRefusal.TheVariants.{BadLength}
-use Rattle.dialog_tool.specs.Command.{Command, debug, play, run, build, singles, make, Task, source_named}
-use Rattle.dialog_tool.specs.Call.{Call, Outside, Finds, IsAsTold, IsFetched}
+use Rattle.dialog_tool.specs.Command.{Command, debug, play, run, build, singles, make, Task}
+use Rattle.dialog_tool.specs.layer.Statuses.{source_named}
+use Rattle.dialog_tool.specs.Call.{Call, Outside, Finds, IsAsTold}
+use Rattle.dialog_tool.specs.inside.Calls.{IsFetched}
 use Rattle.dialog_tool.specs.Lines.{Says, usage_line, refusal_line, story_line, file_fault_line}
 use Rattle.dialog_tool.specs.Report.{report}
 use Rattle.dg_compile.specs.Source.{Compiles, refusal_at}
-use Rattle.dialog_tool.specs.Answers
-use Rattle.dialog_tool.specs.Answers.{Keeps, Prints, Reads, RunsSource, Does, ComesTo, lost, refused, program, lost_story, no_story, no_memory, does}
+use Rattle.dialog_tool.specs.Promise
+use Rattle.dialog_tool.specs.Promise.{Keeps, Prints, Reads, RunsProgram, Does, ComesTo, lost, refused, program, lost_story, no_story, no_memory, does}
 use Rattle.dialog_tool.proofs.Never.{never}
 
 -- ## What is told
@@ -44,7 +46,7 @@ any_typed (Some typed) = (typed, refl, λ is. refl)
 -- ## Answers
 
 -- what a call comes to, whatever is found
-pub answers : (c : Call) (o : Outside) (result : ℕ) → Finds c o → ComesTo c o result → Answers.Answers c result
+pub answers : (c : Call) (o : Outside) (result : ℕ) → Finds c o → ComesTo c o result → Promise.Answers c result
 answers c o result found a = record { outside = o; found = found; answer = a }
 
 -- what it does, by its words
@@ -109,23 +111,23 @@ nothing_here c =
 -- a source that the words name is read first
 pub reading : (c : Call) (o : Outside) (result : ℕ) (command : Option Command) (name : List ℕ) → source_named command ≡ Some name → ((P : Core → Type 0) → Reads c o name P result) → Does c o command result
 reading c o result None name e r = cc
-reading c o result (Some (debug t)) name e r = subst (λ (n : List ℕ). Reads c o n (λ p. RunsSource c o t p result) result) (let same : name ≡ t.name = cc in same) (r (λ p. RunsSource c o t p result))
+reading c o result (Some (debug t)) name e r = subst (λ (n : List ℕ). Reads c o n (λ p. RunsProgram c o t p result) result) (let same : name ≡ t.name = cc in same) (r (λ p. RunsProgram c o t p result))
 reading c o result (Some (play t)) name e r = cc
-reading c o result (Some (run t)) name e r = subst (λ (n : List ℕ). Reads c o n (λ p. Answers.Builds c o t p result) result) (let same : name ≡ t.name = cc in same) (r (λ p. Answers.Builds c o t p result))
-reading c o result (Some (build n to)) name e r = subst (λ (m : List ℕ). Reads c o m (λ p. Answers.HasNone c n p result) result) (let same : name ≡ n = cc in same) (r (λ p. Answers.HasNone c n p result))
-reading c o result (Some (singles n)) name e r = subst (λ (m : List ℕ). Reads c o m (λ p. Answers.Lists c p result) result) (let same : name ≡ n = cc in same) (r (λ p. Answers.Lists c p result))
+reading c o result (Some (run t)) name e r = subst (λ (n : List ℕ). Reads c o n (λ p. Promise.Builds c o t p result) result) (let same : name ≡ t.name = cc in same) (r (λ p. Promise.Builds c o t p result))
+reading c o result (Some (build n to)) name e r = subst (λ (m : List ℕ). Reads c o m (λ p. Promise.HasNone c n p result) result) (let same : name ≡ n = cc in same) (r (λ p. Promise.HasNone c n p result))
+reading c o result (Some (singles n)) name e r = subst (λ (m : List ℕ). Reads c o m (λ p. Promise.Lists c p result) result) (let same : name ≡ n = cc in same) (r (λ p. Promise.Lists c p result))
 reading c o result (Some (make n)) name e r = cc
 
 -- the shelf failed at the source
 pub source_lost : (c : Call) (name : List ℕ) (result : ℕ) → source_named c.command ≡ Some name → Keeps c → Rose c.shelf.faults c.shelf_after.faults
-    → (IsTrue c.shelf.sure → WhereTold c.shelf.contents (λ contents. IsSome (contents name) → ⊥)) → c.input_after ≡ c.input → Says 5 (file_fault_line name) c.out c.out_after result → Answers.Answers c result
+    → (IsTrue c.shelf.sure → WhereTold c.shelf.contents (λ contents. IsSome (contents name) → ⊥)) → c.input_after ≡ c.input → Says 5 (file_fault_line name) c.out c.out_after result → Promise.Answers c result
 source_lost c name result words kept rose missing same says =
     let n = nothing_here c in
     answers c n.0 result n.1 (does kept (reading c n.0 result c.command name words (λ P. lost (record { rose = rose; missing = missing }) (prints c 5 (file_fault_line name) result same says))))
 
 -- the source is refused
 pub source_refused : (c : Call) (name file : List ℕ) (result : ℕ) (r : Refusal) → source_named c.command ≡ Some name → IsFetched c.shelf c.shelf_after name file → Compiles file (Err r) → c.input_after ≡ c.input
-    → Says 1 (refusal_line name r) c.out c.out_after result → Answers.Answers c result
+    → Says 1 (refusal_line name r) c.out c.out_after result → Promise.Answers c result
 source_refused c name file result r words f is same says =
     let h = file_here c name file f in
     let o = outside_of c name file h in
@@ -134,7 +136,7 @@ source_refused c name file result r words f is same says =
 
 -- the source is too long
 pub source_long : ((source : List ℕ) → 1048576 < length source → Compiles source (Err (refusal_at SourceTooLong 1))) → (c : Call) (name : List ℕ) (result : ℕ) (r : Refusal) → source_named c.command ≡ Some name → Keeps c → WhereTold c.shelf.contents (λ told. 1048576 < length (held (told name)))
-    → r ≡ refusal_at SourceTooLong 1 → c.input_after ≡ c.input → Says 1 (refusal_line name r) c.out c.out_after result → Answers.Answers c result
+    → r ≡ refusal_at SourceTooLong 1 → c.input_after ≡ c.input → Says 1 (refusal_line name r) c.out c.out_after result → Promise.Answers c result
 source_long law c name result r words kept more e same says =
     let long = long_here c name 1048576 kept more in
     let o = outside_of c name long.0 long.2 in
@@ -146,7 +148,7 @@ source_long law c name result r words kept more e same says =
 -- what is done with a program, on typed bytes as they are told
 pub with_program : (c : Call) (command : Command) (name file : List ℕ) (result : ℕ) (p : Core) (P : Outside → Core → Type 0) → c.command ≡ Some command → IsFetched c.shelf c.shelf_after name file → Compiles file (Ok p)
     → ((o : Outside) → Reads c o name (P o) result → Does c o (Some command) result)
-    → (typed : List ℕ) → IsAsTold c.input.left typed → ((contents : List ℕ → Option (List ℕ)) → P (outside contents typed) p) → Answers.Answers c result
+    → (typed : List ℕ) → IsAsTold c.input.left typed → ((contents : List ℕ → Option (List ℕ)) → P (outside contents typed) p) → Promise.Answers c result
 with_program c command name file result p P words f is reads typed told d =
     let h = file_here c name file f in
     let o = outside h.contents typed in
@@ -155,18 +157,18 @@ with_program c command name file result p P words f is reads typed told d =
 
 -- a program was run, on typed bytes as they are told
 pub run_comes : (c : Call) (t : Task) (file : List ℕ) (result : ℕ) (p : Core) (P : List ℕ → Type 0) → c.command ≡ Some (debug t) → IsFetched c.shelf c.shelf_after t.name file → Compiles file (Ok p)
-    → ((typed : List ℕ) (contents : List ℕ → Option (List ℕ)) → P typed → RunsSource c (outside contents typed) t p result) → ForTyped c.input.left P → Answers.Answers c result
+    → ((typed : List ℕ) (contents : List ℕ → Option (List ℕ)) → P typed → RunsProgram c (outside contents typed) t p result) → ForTyped c.input.left P → Promise.Answers c result
 run_comes c t file result p P words f is runs h =
     let s = some_typed c.input.left P h in
-    with_program c (debug t) t.name file result p (λ o q. RunsSource c o t q result) words f is (λ o d. d) s.0 s.1 (λ contents. runs s.0 contents s.2)
+    with_program c (debug t) t.name file result p (λ o q. RunsProgram c o t q result) words f is (λ o d. d) s.0 s.1 (λ contents. runs s.0 contents s.2)
 
 -- ## The report on a source
 
 pub says_report : (c : Call) (name file : List ℕ) (result : ℕ) → c.command ≡ Some (singles name) → IsFetched c.shelf c.shelf_after name file → (p : Core) → Compiles file (Ok p) → (set : List Bool) → AreSingles p.preds set
-    → c.input_after ≡ c.input → Says 0 (report p set) c.out c.out_after result → Answers.Answers c result
+    → c.input_after ≡ c.input → Says 0 (report p set) c.out c.out_after result → Promise.Answers c result
 says_report c name file result words f p is set single same says =
     let any = any_typed c.input.left in
-    with_program c (singles name) name file result p (λ o q. Answers.Lists c q result) words f is (λ o d. d) any.0 any.1
+    with_program c (singles name) name file result p (λ o q. Promise.Lists c q result) words f is (λ o d. d) any.0 any.1
     (λ contents. record { set = set; single = single; prints = prints c 0 (report p set) result same says })
 
 -- ## Where nothing runs
@@ -179,35 +181,35 @@ keeps_if : (c : Call) → c.shelf_after ≡ c.shelf → Keeps c
 keeps_if c same = subst (λ (s : ShelfView). KeepsAll c.shelf.contents s.contents) (sym same) (keeps_same c.shelf.contents)
 
 -- the words are no command
-pub no_words : (c : Call) (result : ℕ) → c.command ≡ None → c.shelf_after ≡ c.shelf → c.input_after ≡ c.input → Says 2 usage_line c.out c.out_after result → Answers.Answers c result
+pub no_words : (c : Call) (result : ℕ) → c.command ≡ None → c.shelf_after ≡ c.shelf → c.input_after ≡ c.input → Says 2 usage_line c.out c.out_after result → Promise.Answers c result
 no_words c result none shelf input says =
     let n = nothing_here c in
     answers c n.0 result n.1 (by_words c n.0 result None none (keeps_if c shelf) (prints c 2 usage_line result input says, shelf))
 
 -- no memory was found
-pub no_room : (c : Call) (result : ℕ) → Keeps c → c.input_after ≡ c.input → Says 6 no_memory_line c.out c.out_after result → Answers.Answers c result
+pub no_room : (c : Call) (result : ℕ) → Keeps c → c.input_after ≡ c.input → Says 6 no_memory_line c.out c.out_after result → Promise.Answers c result
 no_room c result kept same says = let n = nothing_here c in answers c n.0 result n.1 (no_memory kept (prints c 6 no_memory_line result same says))
 
 -- no memory was found for a run
-pub no_room_to_run : (c : Call) (name file : List ℕ) (mid : SinkView) (result : ℕ) → IsFetched c.shelf c.shelf_after name file → IsUntouched c.input c.input_after c.out mid → Says 6 no_memory_line mid c.out_after result → Answers.Answers c result
+pub no_room_to_run : (c : Call) (name file : List ℕ) (mid : SinkView) (result : ℕ) → IsFetched c.shelf c.shelf_after name file → IsUntouched c.input c.input_after c.out mid → Says 6 no_memory_line mid c.out_after result → Promise.Answers c result
 no_room_to_run c name file mid result f untouched says = no_room c result f.kept untouched.source (subst (λ (k : SinkView). Says 6 no_memory_line k c.out_after result) untouched.sink says)
 
 -- no memory was found for the words
-pub no_room_first : (c : Call) (result : ℕ) → c.shelf_after ≡ c.shelf → c.input_after ≡ c.input → Says 6 no_memory_line c.out c.out_after result → Answers.Answers c result
+pub no_room_first : (c : Call) (result : ℕ) → c.shelf_after ≡ c.shelf → c.input_after ≡ c.input → Says 6 no_memory_line c.out c.out_after result → Promise.Answers c result
 no_room_first c result shelf same says = no_room c result (keeps_if c shelf) same says
 
 -- ## Files that are no stories
 
 -- the shelf failed at the story
 pub story_lost : (c : Call) (t : Task) (result : ℕ) → c.command ≡ Some (play t) → Keeps c → Rose c.shelf.faults c.shelf_after.faults
-    → (IsTrue c.shelf.sure → WhereTold c.shelf.contents (λ contents. IsSome (contents t.name) → ⊥)) → c.input_after ≡ c.input → Says 5 (file_fault_line t.name) c.out c.out_after result → Answers.Answers c result
+    → (IsTrue c.shelf.sure → WhereTold c.shelf.contents (λ contents. IsSome (contents t.name) → ⊥)) → c.input_after ≡ c.input → Says 5 (file_fault_line t.name) c.out c.out_after result → Promise.Answers c result
 story_lost c t result words kept rose missing same says =
     let n = nothing_here c in
     answers c n.0 result n.1 (by_words c n.0 result (Some (play t)) words kept (lost_story (record { rose = rose; missing = missing }) (prints c 5 (file_fault_line t.name) result same says)))
 
 -- the file is no story
 pub story_refused : (c : Call) (t : Task) (file : List ℕ) (result : ℕ) (r : StoryRefusal) → c.command ≡ Some (play t) → IsFetched c.shelf c.shelf_after t.name file → story_refusal file ≡ Some r → c.input_after ≡ c.input
-    → Says 4 (story_line t.name r) c.out c.out_after result → Answers.Answers c result
+    → Says 4 (story_line t.name r) c.out c.out_after result → Promise.Answers c result
 story_refused c t file result r words f is same says =
     let h = file_here c t.name file f in
     let o = outside_of c t.name file h in
@@ -219,7 +221,7 @@ long_story file more = let test : nat_lt 524288 (length file) ≡ true = grind (
 
 -- the file is too long for a story
 pub story_long : (c : Call) (t : Task) (result : ℕ) → c.command ≡ Some (play t) → Keeps c → WhereTold c.shelf.contents (λ told. 524288 < length (held (told t.name)))
-    → c.input_after ≡ c.input → Says 4 (story_line t.name BadLength) c.out c.out_after result → Answers.Answers c result
+    → c.input_after ≡ c.input → Says 4 (story_line t.name BadLength) c.out c.out_after result → Promise.Answers c result
 story_long c t result words kept more same says =
     let long = long_here c t.name 524288 kept more in
     let o = outside_of c t.name long.0 long.2 in

@@ -3,17 +3,14 @@ use Rattle.std.proofs.Common.{◌≡◌, ◌<◌, ◌≤◌, ℕ, List, Option, 
 use Rattle.std.specs.Prelude.{◌≢◌}
 use Rattle.dg_base.specs.Causes.{Rose}
 use Rattle.dg_base.specs.Shelves.{Told, ShelfView, WhereTold, KeepsAll, KeepsOthers}
-use Rattle.dg_base.specs.Streams.{SourceView}
-use Rattle.dg_base.specs.Written.{SinkView}
 use Rattle.dg_base.specs.declared.program.CoreProgram.{CoreProgram as Core}
 use Rattle.dg_story.specs.Refusals as story
-use Rattle.z_model.specs.Story.{story_refusal}
-use Rattle.dialog_tool.specs.Answers
-use Rattle.dialog_tool.specs.Answers.{Reads, HasStory, HasNone, Builds, no_story_of, plays, IsStored, stores}
+use Rattle.dialog_tool.specs.Promise
+use Rattle.dialog_tool.specs.Promise.{Reads, HasStory, HasNone, Builds, no_story_of, plays, IsStored, stores}
 use Rattle.dialog_tool.specs.inside.Building.{HasNoStory, none, no_room}
-use Rattle.dialog_tool.specs.Call.{Call, Outside, IsFetched, call}
+use Rattle.dialog_tool.specs.Call.{Call, Outside}
+use Rattle.dialog_tool.specs.inside.Calls.{IsFetched, HasPlayed}
 use Rattle.dialog_tool.specs.Command.{Command, Task, build, run}
-use Rattle.dialog_tool.specs.Playing.{HasPlayed}
 use Rattle.dg_compile.specs.Source.{Compiles}
 use Rattle.dialog_tool.proofs.AnswerLemmas.{any_typed, answers, prints, file_here, outside_of, found_file, with_program, no_room as no_memory_left}
 
@@ -32,7 +29,7 @@ later_rose h r = omega (arith, h, r)
 
 -- a story was handed to the shelf
 pub handed : (c : Call) (name to file : List ℕ) (result : ℕ) (p : Core) (bytes : List ℕ) (before : ShelfView) → c.command ≡ Some (build name to) → IsFetched c.shelf before name file → Compiles file (Ok p) → HasStory p bytes
-    → KeepsOthers to before.contents c.shelf_after.contents → IsStored c to bytes result → Answers.Answers c result
+    → KeepsOthers to before.contents c.shelf_after.contents → IsStored c to bytes result → Promise.Answers c result
 handed c name to file result p bytes before words f is has others stored =
     let h = file_here (record c { shelf_after = before }) name file f in
     let any = any_typed c.input.left in
@@ -50,7 +47,7 @@ handed c name to file result p bytes before words f is has others stored =
 -- ## No story
 
 pub none_to_store : (c : Call) (name to file : List ℕ) (result : ℕ) (p : Core) → c.command ≡ Some (build name to) → IsFetched c.shelf c.shelf_after name file → Compiles file (Ok p) → c.input_after ≡ c.input
-    → HasNoStory p name c.out c.out_after result → Answers.Answers c result
+    → HasNoStory p name c.out c.out_after result → Promise.Answers c result
 none_to_store c name to file result p words f is same (none r e says) =
     let any = any_typed c.input.left in
     with_program c (build name to) name file result p (λ o q. HasNone c name q result) words f is (λ o d. d) any.0 any.1
@@ -58,7 +55,7 @@ none_to_store c name to file result p words f is same (none r e says) =
 none_to_store c name to file result p words f is same (no_room says) = no_memory_left c result f.kept same says
 
 pub none_to_run : (c : Call) (t : Task) (file : List ℕ) (result : ℕ) (p : Core) → c.command ≡ Some (run t) → IsFetched c.shelf c.shelf_after t.name file → Compiles file (Ok p) → c.input_after ≡ c.input
-    → HasNoStory p t.name c.out c.out_after result → Answers.Answers c result
+    → HasNoStory p t.name c.out c.out_after result → Promise.Answers c result
 none_to_run c t file result p words f is same (none r e says) =
     let any = any_typed c.input.left in
     with_program c (run t) t.name file result p (λ o q. Builds c o t q result) words f is (λ o d. d) any.0 any.1
@@ -67,13 +64,9 @@ none_to_run c t file result p words f is same (no_room says) = no_memory_left c 
 
 -- ## A story
 
--- a story that was built is taken by the player
-pub is_taken : (p : Core) (bytes : List ℕ) → HasStory p bytes → story_refusal bytes ≡ None
-is_taken p bytes h = subst (λ (l : List ℕ). story_refusal l ≡ None) h.bytes_are h.is.story.assembled.header.accepted
-
 -- the story of a program was played
 pub built_plays : (c : Call) (t : Task) (file : List ℕ) (result : ℕ) (p : Core) (bytes : List ℕ) → c.command ≡ Some (run t) → IsFetched c.shelf c.shelf_after t.name file → Compiles file (Ok p) → HasStory p bytes
-    → HasPlayed c t bytes result → Answers.Answers c result
+    → HasPlayed c t bytes result → Promise.Answers c result
 built_plays c t file result p bytes words f is has played =
     with_program c (run t) t.name file result p (λ o q. Builds c o t q result) words f is (λ o d. d) played.typed played.told
-    (λ contents. plays bytes has (is_taken p bytes has) (played.plays contents))
+    (λ contents. plays bytes has (played.plays contents))

@@ -7,14 +7,16 @@ use Rattle.dg_base.specs.declared.run.Ending.TheVariants.{Done, Quit, Failed, St
 use Rattle.dg_make.specs.Made.{made_source}
 use Rattle.dg_story.specs.Refusals as build
 use Rattle.dg_story.specs.declared.refusal.BuildRefusal.{BuildRefusal}
-use Rattle.z_model.specs.Story.{story_refusal}
+use Rattle.z_model.specs.Run.{ZRun}
+use Rattle.z_model.specs.Story.{story_refusal, story_run}
 use Rattle.z_model.specs.declared.story.StoryRefusal.{StoryRefusal}
-use Rattle.dialog_tool.specs.Command.{debug, play, run, build, singles, make, Command, Task, source_named}
-use Rattle.dialog_tool.specs.Call.{Call, Outside, IsAsTold, file_at, file_of}
+use Rattle.dialog_tool.specs.Command.{debug, play, run, build, singles, make, Command, Task}
+use Rattle.dialog_tool.specs.layer.Statuses.{source_named, Comes, Decides}
+use Rattle.dialog_tool.specs.Call.{Call, Outside, IsAsTold, file_at, dice_for}
 use Rattle.dialog_tool.specs.Lines.{Says, said, unsaid}
-use Rattle.dialog_tool.specs.Playing.{status_of_end, call_run, played, unread, unwritten}
+use Rattle.dialog_tool.specs.Running.{run_of_story}
 use Rattle.dg_compile.specs.Source.{Compiles}
-use Rattle.dialog_tool.specs.Answers.{Answers, Comes, Decides, Prints, Reads, lost, refused, program, RunsSource, ran, input_lost, out_lost, Lists, Makes, reports, overflows, refuses, Loads, lost_story, no_story, story, Builds, no_story_of, plays, HasNone, IsStored, held, not_held, no_room_for_it, Stores, Does, ComesTo, no_memory, does, stores, status_of}
+use Rattle.dialog_tool.specs.Promise.{Answers, Prints, Reads, lost, refused, program, Runs, ran, input_lost, out_lost, RunsProgram, EndsStory, status_of_end, Lists, Makes, reports, overflows, refuses, Loads, lost_story, no_story, story, Builds, no_story_of, plays, HasNone, IsStored, held, not_held, no_room_for_it, Stores, Does, ComesTo, no_memory, does, stores, status_of}
 
 -- a source has one answer
 abbrev IsOne : Type 0
@@ -98,11 +100,11 @@ ended {result = result} e is = which (status_ends e)
     which (inl zero) = inl (is ∙ zero)
     which (inr three) = inr (inl (is ∙ three))
 
-run_ended : (c : Call) (o : Outside) (t : Task) (p : Core) (result : ℕ) → (result ≡ 5) ⊎ RunsSource c o t p result → (result ≡ 0) ⊎ Comes 3 result
+run_ended : (c : Call) (o : Outside) (t : Task) (p : Core) (result : ℕ) → (result ≡ 5) ⊎ RunsProgram c o t p result → (result ≡ 0) ⊎ Comes 3 result
 run_ended c o t p result (inl e) = inr (early e)
-run_ended c o t p result (inr (ran outcome e shown)) = ended outcome.ending e
-run_ended c o t p result (inr (input_lost e rose h)) = inr (early e)
-run_ended c o t p result (inr (out_lost e h)) = inr (early e)
+run_ended c o t p result (inr (ran text rest e wrote left)) = ended e.0.ending e.1
+run_ended c o t p result (inr (input_lost e rose n rest h wrote left)) = inr (early e)
+run_ended c o t p result (inr (out_lost e rose status written text rest h broke left)) = inr (early e)
 
 listed : (c : Call) (p : Core) (result : ℕ) → (result ≡ 5) ⊎ Lists c p result → Comes 0 result
 listed c p result (inl e) = early e
@@ -116,27 +118,30 @@ made_so one c n status result text q h p (reports r k output outcome left shows 
     here : Comes status result → (result ≡ 0) ⊎ Comes 3 result
     here (inl s) = ended outcome.ending (s ∙ e)
     here (inr other) = inr (inr other)
-made_so one c n status result text q h p (overflows r k output left may long e d) = inr (subst (λ (s : ℕ). Comes s result) e (printed c status text result p))
+made_so one c n status result text q h p (overflows r k output outcome left shows long e d) = inr (subst (λ (s : ℕ). Comes s result) e (printed c status text result p))
 made_so one c n status result text q h p (refuses r k e d) = no_program one (made_source n) q r h k
 
 made_badly : IsOne → (c : Call) (n status result : ℕ) (text : List ℕ) (r : Refusal) → Compiles (made_source n) (Err r) → Prints c status text result → Makes c.dice n status text → Comes 1 result
 made_badly one c n status result text r h p (reports q k output outcome left shows e d) = no_program one (made_source n) q r k h
-made_badly one c n status result text r h p (overflows q k output left may long e d) = no_program one (made_source n) q r k h
+made_badly one c n status result text r h p (overflows q k output outcome left shows long e d) = no_program one (made_source n) q r k h
 made_badly one c n status result text r h p (refuses q k e d) = subst (λ (s : ℕ). Comes s result) e (printed c status text result p)
 
 -- ## Stories
 
-no_story_there : (c : Call) (o : Outside) (t : Task) (result : ℕ) (r : StoryRefusal) → story_refusal (file_of o t) ≡ Some r → Loads c o t result → Comes 4 result
+no_story_there : (c : Call) (o : Outside) (t : Task) (result : ℕ) (r : StoryRefusal) → story_refusal (file_at o t.name) ≡ Some r → Loads c o t result → Comes 4 result
 no_story_there c o t result r h (lost_story l p) = early (five c _ result p)
 no_story_there c o t result r h (no_story q k p) = printed c 4 _ result p
 no_story_there c o t result r h (story k p) = let no = sym h ∙ k in cc
 
-played_so : (c : Call) (o : Outside) (t : Task) (result : ℕ) → story_refusal (file_of o t) ≡ None → Loads c o t result → Comes (status_of_end (call_run c o t (file_of o t)).end) result
+story_ended : (c : Call) (r : ℕ → ZRun) (most result : ℕ) → Runs c (run_of_story r) most (EndsStory (r most)) result → Comes (status_of_end (r most).end) result
+story_ended c r most result (ran text rest e wrote left) = inl e.0
+story_ended c r most result (input_lost e rose n rest h wrote left) = early e
+story_ended c r most result (out_lost e rose status written text rest h broke left) = early e
+
+played_so : (c : Call) (o : Outside) (t : Task) (result : ℕ) → story_refusal (file_at o t.name) ≡ None → Loads c o t result → Comes (status_of_end (story_run (file_at o t.name) o.typed (dice_for c t) t.steps).end) result
 played_so c o t result h (lost_story l p) = early (five c _ result p)
 played_so c o t result h (no_story q k p) = let no = sym h ∙ k in cc
-played_so c o t result h (story k (played end e p)) = inl (e ∙ ap status_of_end p.plays.ends)
-played_so c o t result h (story k (unread e rose p)) = early e
-played_so c o t result h (story k (unwritten e rose p)) = early e
+played_so c o t result h (story k d) = story_ended c (story_run (file_at o t.name) o.typed (dice_for c t)) t.steps result d.0
 
 not_both : {A : Type 0} (p : Core) (r : BuildRefusal) → build.build_refusal p ≡ None → build.build_refusal p ≡ Some r → A
 not_both p r h k = let no = sym h ∙ k in cc
@@ -144,7 +149,7 @@ not_both p r h k = let no = sym h ∙ k in cc
 no_story_to_run : (c : Call) (o : Outside) (t : Task) (p : Core) (result : ℕ) (r : BuildRefusal) → build.build_refusal p ≡ Some r → (result ≡ 5) ⊎ Builds c o t p result → Comes 7 result
 no_story_to_run c o t p result r h (inl e) = early e
 no_story_to_run c o t p result r h (inr (no_story_of q k q')) = printed c 7 _ result q'
-no_story_to_run c o t p result r h (inr (plays bytes s k d)) = not_both p r s.fits h
+no_story_to_run c o t p result r h (inr (plays bytes s d)) = not_both p r s.fits h
 
 no_story_to_store : (c : Call) (name : List ℕ) (p : Core) (result : ℕ) → (result ≡ 5) ⊎ HasNone c name p result → Comes 7 result
 no_story_to_store c name p result (inl e) = early e
@@ -203,8 +208,8 @@ decided c result one a =
       no_story = λ o told t words r h. by (Some (play t)) _ words inr (no_story_there c a.outside t result r (found o told t.name (λ l. story_refusal l ≡ Some r) h)) (λ name to e s. cc);
       plays = λ o told typed t words h.
           let same = outside_is a.outside o (here_it_is c.shelf.contents a.outside o told a.found.contents) (as_told c.input.left o.typed a.outside.typed typed a.found.typed) in
-          by (Some (play t)) _ words inr (λ d. subst (λ (p : Outside). Comes (status_of_end (call_run c p t (file_of p t)).end) result) (sym same)
-          (played_so c a.outside t result (subst (λ (p : Outside). story_refusal (file_of p t) ≡ None) same h) d)) (λ name to e s. cc);
+          by (Some (play t)) _ words inr (λ d. subst (λ (p : Outside). Comes (status_of_end (story_run (file_at p t.name) p.typed (dice_for c t) t.steps).end) result) (sym same)
+          (played_so c a.outside t result (subst (λ (p : Outside). story_refusal (file_at p t.name) ≡ None) same h) d)) (λ name to e s. cc);
     }
   where
     stored_anyway : (o : Outside) → c.shelf.contents ≡ Some o.contents → (name : List ℕ) → source_named c.command ≡ Some name → (r : Refusal) → Compiles (file_at o name) (Err r)

@@ -9,3 +9,4 @@ pub mod AnswerLemmas
 pub mod BuildLemmas
 pub mod DecideLemmas
 pub mod PlayLemmas
+pub mod RunLemmas

@@ -2,7 +2,7 @@
 use Rattle.std.proofs.Common.{◌≡◌, ◌<◌, ◌-◌, ℕ, ◌%◌, suc, List, [], ◌∷◌, ◌++◌, length, length-append, refl, sym, ◌∙◌, ap, subst, arith, append_assoc, append-nil}
 use Rattle.rand_pcg.specs.Lcg.{Lcg}
 use Rattle.rand_pcg.specs.Pcg.{pcg32}
-use Rattle.dialog_tool.specs.Dice.{generated, halves}
+use Rattle.dialog_tool.specs.layer.Dice.{generated, halves}
 
 words_more : (n : ℕ) (g : Lcg) → generated (suc n) g ≡ (pcg32 g).0 ∷ generated n (pcg32 g).1
 unfolding generated

@@ -1,6 +1,6 @@
 -- A call of the program, and what it may find outside.
-use Rattle.std.specs.Prelude.{◌≡◌, ◌≤◌, ℕ, List, Option, Some, None, IsTrue}
-use Rattle.dg_base.specs.Shelves.{ShelfView, held, WhereTold, KeepsAll}
+use Rattle.std.specs.Prelude.{◌≡◌, ℕ, List, Option, Some, None}
+use Rattle.dg_base.specs.Shelves.{ShelfView, held}
 use Rattle.dg_base.specs.Streams.{SourceView}
 use Rattle.dg_base.specs.Written.{SinkView}
 use Rattle.dialog_tool.specs.Command.{Command, Task, task_dice}
@@ -15,19 +15,6 @@ pub record Call : Type 0 where
   pub input_after : SourceView
   pub out : SinkView
   pub out_after : SinkView
-
-abbrev pub call : Option Command → List ℕ → ShelfView → ShelfView → SourceView → SourceView → SinkView → SinkView → Call
-call command dice shelf shelf_after input input_after out out_after =
-    record {
-      command = command;
-      dice = dice;
-      shelf = shelf;
-      shelf_after = shelf_after;
-      input = input;
-      input_after = input_after;
-      out = out;
-      out_after = out_after;
-    }
 
 -- What a call may find: the contents of each name, and the bytes to be typed.
 pub record Outside : Type 0 where
@@ -48,17 +35,6 @@ pub record Finds (c : Call) (o : Outside) : Type 0 where
 abbrev pub file_at : Outside → List ℕ → List ℕ
 file_at o name = held (o.contents name)
 
--- the bytes of a task's file
-abbrev pub file_of : Outside → Task → List ℕ
-file_of o t = file_at o t.name
-
 -- the dice that are thrown for a task
 abbrev pub dice_for : Call → Task → List ℕ
 dice_for c t = task_dice t.dice c.dice
-
--- A shelf's file is this, as far as the shelf tells; it keeps what it holds, has failed no less often, and stays sure.
-pub record IsFetched (before after : ShelfView) (name file : List ℕ) : Type 0 where
-  pub told : WhereTold before.contents (λ contents. file ≡ held (contents name))
-  pub kept : KeepsAll before.contents after.contents
-  pub later : before.faults ≤ after.faults
-  pub sure : IsTrue before.sure → IsTrue after.sure

@@ -158,18 +158,6 @@ abbrev pub task_dice : Option (List ℕ) → List ℕ → List ℕ
 task_dice None handed = handed
 task_dice (Some dice) handed = dice
 
--- ---- files
-
--- the source that a command names
-abbrev pub source_named : Option Command → Option (List ℕ)
-source_named None = None
-source_named (Some (debug t)) = Some t.name
-source_named (Some (play t)) = None
-source_named (Some (run t)) = Some t.name
-source_named (Some (build name to)) = Some name
-source_named (Some (singles name)) = Some name
-source_named (Some (make n)) = None
-
 -- ---- the words
 
 -- the command of this word, with options

@@ -1,9 +1,9 @@
 pub mod Command
-pub mod Dice
 pub mod Lines
 pub mod Call
-pub mod Playing
+pub mod Running
 pub mod Report
 pub mod Making
-pub mod Answers
+pub mod Promise
+pub mod layer
 pub mod inside

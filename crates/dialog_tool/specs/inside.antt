@@ -1,2 +1,3 @@
 pub mod CommandView
 pub mod Building
+pub mod Calls

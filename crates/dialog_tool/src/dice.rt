@@ -1,6 +1,6 @@
 // The dice that are made of a seed.
 ghost use Rattle.std.specs.Prelude.{◌≡◌, IfOk, length};
-ghost use Rattle.dialog_tool.specs.Dice as spec;
+ghost use Rattle.dialog_tool.specs.layer.Dice as spec;
 
 use rand_core::utils::NextWord;
 use rand_pcg::Lcg64Xsh32;

@@ -2,8 +2,8 @@
 ghost use Rattle.std.specs.Prelude.{◌≡◌, ◌<◌, ℕ, List, length, Some, Ok};
 ghost use Rattle.dg_base.specs.Shelves.{ShelfView};
 ghost use Rattle.dg_base.specs.Sound.{IsSound};
-ghost use Rattle.dialog_tool.specs.Answers.{Answers, Decides};
-ghost use Rattle.dialog_tool.specs.Call.{call, IsFetched};
+ghost use Rattle.dialog_tool.specs.Promise.{Answers};
+ghost use Rattle.dialog_tool.specs.inside.Calls.{call, IsFetched};
 ghost use Rattle.dialog_tool.specs.Command.{texts, command_of, debug as debug_command, limits_of};
 ghost use Rattle.dialog_tool.specs.inside.CommandView.{task_view, HasDice};
 ghost use Rattle.dg_compile.specs.Source.{Compiles};
@@ -17,7 +17,6 @@ use crate::playing::{play, thrown};
 use crate::reading::program_in;
 use crate::statuses::status_of;
 use dg_base::{CoreProgram, Limits, RunFault, Shelf, Sink, Source};
-use dg_compile::sources_have_one_answer;
 use dg_machine::run_program;
 use std::alloc::Global;
 
@@ -77,31 +76,6 @@ fn debug<F: Shelf, S: Source, K: Sink>(
     }
 }
 
-// Does what the words ask for.
-fn answer<F: Shelf, S: Source, K: Sink>(
-    alloc: Global,
-    words: &[String],
-    shelf: &mut F,
-    input: &mut S,
-    out: &mut K,
-    dice: &[u16],
-) -> u8
-    requires { 0 < length dice.now }
-    ensures { Answers (call (command_of (texts words.now)) dice.now
-        (F.view shelf.old) (F.view shelf.new) (S.view input.old) (S.view input.new) (K.view out.old) (K.view out.new)) result }
-{
-    match command_of(alloc, words) {
-        Ok(Some(Command::Debug(task))) => debug(alloc, &task, shelf, input, out, dice),
-        Ok(Some(Command::Play(task))) => play(alloc, &task, shelf, input, out, dice),
-        Ok(Some(Command::Run(task))) => run(alloc, &task, shelf, input, out, dice),
-        Ok(Some(Command::Build(name, to))) => build(alloc, name, to, shelf, out),
-        Ok(Some(Command::Singles(name))) => list_file(alloc, name, shelf, out),
-        Ok(Some(Command::Make(n))) => make(alloc, n, out, dice),
-        Ok(None) => usage(out),
-        Err(_) => no_memory(out),
-    }
-}
-
 /// Does what the words behind the program's name ask for, and answers the exit status: 0 the run ended, the report is written or the story is stored,
 /// 1 the source is refused, 2 the words are no command, 3 a limit was met, 4 the story is refused or broke, 5 the shelf, the input or the
 /// output failed, 6 memory ran out, 7 the source has no story.
@@ -114,11 +88,25 @@ pub fn tool<F: Shelf, S: Source, K: Sink>(
     dice: &[u16],
 ) -> u8
     requires { 0 < length dice.now }
-    ensures answers { Answers (call (command_of (texts words.now)) dice.now
-        (F.view shelf.old) (F.view shelf.new) (S.view input.old) (S.view input.new) (K.view out.old) (K.view out.new)) result }
-    ensures decides { Decides (call (command_of (texts words.now)) dice.now
-        (F.view shelf.old) (F.view shelf.new) (S.view input.old) (S.view input.new) (K.view out.old) (K.view out.new)) result }
+    ensures answers { Answers (record {
+        command = command_of (texts words.now);
+        dice = dice.now;
+        shelf = F.view shelf.old;
+        shelf_after = F.view shelf.new;
+        input = S.view input.old;
+        input_after = S.view input.new;
+        out = K.view out.old;
+        out_after = K.view out.new;
+    }) result }
 {
-    sources_have_one_answer();
-    answer(alloc, words, shelf, input, out, dice)
+    match command_of(alloc, words) {
+        Ok(Some(Command::Debug(task))) => debug(alloc, &task, shelf, input, out, dice),
+        Ok(Some(Command::Play(task))) => play(alloc, &task, shelf, input, out, dice),
+        Ok(Some(Command::Run(task))) => run(alloc, &task, shelf, input, out, dice),
+        Ok(Some(Command::Build(name, to))) => build(alloc, name, to, shelf, out),
+        Ok(Some(Command::Singles(name))) => list_file(alloc, name, shelf, out),
+        Ok(Some(Command::Make(n))) => make(alloc, n, out, dice),
+        Ok(None) => usage(out),
+        Err(_) => no_memory(out),
+    }
 }

@@ -3,8 +3,8 @@ ghost use Rattle.std.specs.Prelude.{◌≡◌, ◌++◌, ℕ, List, Bool, Some, 
 ghost use Rattle.dg_base.specs.Shelves.{ShelfView};
 ghost use Rattle.dg_base.specs.Streams.{SourceView};
 ghost use Rattle.dg_single.specs.Singles.{AreSingles};
-ghost use Rattle.dialog_tool.specs.Answers.{Answers};
-ghost use Rattle.dialog_tool.specs.Call.{call, IsFetched};
+ghost use Rattle.dialog_tool.specs.Promise.{Answers};
+ghost use Rattle.dialog_tool.specs.inside.Calls.{call, IsFetched};
 ghost use Rattle.dialog_tool.specs.Command.{singles as singles_command};
 ghost use Rattle.dialog_tool.specs.Lines.{Says};
 ghost use Rattle.dialog_tool.specs.Report.{answers_word, is_listed, report_line, report};

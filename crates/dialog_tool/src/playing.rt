@@ -2,11 +2,10 @@
 ghost use Rattle.std.specs.Prelude.{◌≡◌, ◌<◌, ℕ, List, Option, length, Some, IfSome};
 ghost use Rattle.std.specs.Option.{option_map};
 ghost use Rattle.dg_base.specs.Shelves.{ShelfView};
-ghost use Rattle.dialog_tool.specs.Answers.{Answers};
-ghost use Rattle.dialog_tool.specs.Call.{call, IsFetched};
+ghost use Rattle.dialog_tool.specs.Promise.{status_of_end, Answers};
+ghost use Rattle.dialog_tool.specs.inside.Calls.{call, IsFetched, HasPlayed};
 ghost use Rattle.dialog_tool.specs.Command.{Command, task_dice, play as play_command};
 ghost use Rattle.dialog_tool.specs.inside.CommandView.{task_view, HasDice};
-ghost use Rattle.dialog_tool.specs.Playing.{status_of_end, HasPlayed};
 ghost use Rattle.z_play.specs.Ready.{IsLoaded};
 
 use crate::command::Task;
@@ -14,7 +13,7 @@ use crate::lines::{DONE, FAULT, LIMIT, STORY, file_fault, no_memory, refuse_stor
 use dg_base::{Fault, Shelf, ShelfFault, Sink, Source};
 use std::alloc::Global;
 use z_model::{StoryRefusal, ZEnd};
-use z_play::{LoadFault, Player, fronts_are_written};
+use z_play::{LoadFault, Player};
 
 const MOST_BYTES: usize = 524_288;
 
@@ -55,7 +54,6 @@ pub fn run_player<S: Source, K: Sink>(
         HasPlayed (call command dice.now before after (S.view input.old) (S.view input.new) (K.view out.old) (K.view out.new))
         (task_view task.now) bytes result }
 {
-    fronts_are_written();
     let dice = thrown(&task.dice, dice);
     match player.run(task.steps, input, dice, out) {
         Ok(end) => status_of_end(end),

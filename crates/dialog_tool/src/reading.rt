@@ -2,9 +2,10 @@
 ghost use Rattle.std.specs.Prelude.{◌≡◌, ℕ, List, Option, Some, Ok, IfOk, IfErr, OnOk};
 ghost use Rattle.dg_base.specs.Sound.{IsSound};
 ghost use Rattle.dg_base.specs.Streams.{SourceView};
-ghost use Rattle.dialog_tool.specs.Answers.{Answers};
-ghost use Rattle.dialog_tool.specs.Call.{call, IsFetched};
-ghost use Rattle.dialog_tool.specs.Command.{Command, source_named};
+ghost use Rattle.dialog_tool.specs.Promise.{Answers};
+ghost use Rattle.dialog_tool.specs.inside.Calls.{call, IsFetched};
+ghost use Rattle.dialog_tool.specs.Command.{Command};
+ghost use Rattle.dialog_tool.specs.layer.Statuses.{source_named};
 ghost use Rattle.dg_compile.specs.Source.{Compiles, refusal_at};
 
 use crate::lines::{file_fault, no_memory, refuse};

@@ -1,6 +1,6 @@
 // The statuses of endings.
 ghost use Rattle.std.specs.Prelude.{◌≡◌};
-ghost use Rattle.dialog_tool.specs.Answers.{status_of};
+ghost use Rattle.dialog_tool.specs.Promise.{status_of};
 
 use crate::lines::{DONE, LIMIT};
 use dg_base::Ending;

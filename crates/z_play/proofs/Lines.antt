@@ -8,6 +8,7 @@ use Rattle.z_model.specs.Machine.{Machine}
 use Rattle.z_model.specs.Run.{ZGiven, ZState, ZRun, zrun}
 use Rattle.z_model.specs.Closing.{end_line, unread_line, is_open, newline_if, with_end_line, played_text}
 use Rattle.z_model.specs.Story.{layout_of, first_address, memory_of, first_machine, given_of, start_state}
+use Rattle.dg_base.specs.Causes.{Rose}
 use Rattle.dg_base.specs.Written.{SinkView, Wrote, BrokeOff}
 use Rattle.z_play.specs.Output.{BrokeBehind}
 use Rattle.z_play.specs.inside.Scene.{Scene, given_by, state}
@@ -63,9 +64,9 @@ end_shows r end old new begun seen after first same_begun same_seen some ran wro
   wrote = subst (λ (l : List ℕ). Wrote old.seen after l) (text_is r end new.begun some ran.ends (ran.begins ∙ ap (λ (b : Bool). is_open b r.state.output) first)) (wrote_on old.seen new.seen after r.state.output (newline_if new.begun ++ end_line end) ran.wrote (rw (same_seen, same_begun) wrote_then));
 }
 
-pub end_cut : (w : ZGiven) (s : ZState) (n : ℕ) (end : ZEnd) (old new : Scene) (begun : Bool) (seen after : SinkView) → old.begun ≡ false → new.begun ≡ begun → new.seen ≡ seen →
-    end ≢ ends.Quit → RanTo (zrun w n s) end old new → BrokeOff seen after (newline_if begun ++ end_line end) → OutputFailed w s n new.left old.seen after
-end_cut w s n end old new begun seen after first same_begun same_seen some ran cut =
+pub end_cut : (w : ZGiven) (s : ZState) (n before now : ℕ) (end : ZEnd) (old new : Scene) (begun : Bool) (seen after : SinkView) → old.begun ≡ false → new.begun ≡ begun → new.seen ≡ seen →
+    end ≢ ends.Quit → RanTo (zrun w n s) end old new → BrokeOff seen after (newline_if begun ++ end_line end) → OutputFailed w s n before now new.left old.seen after
+end_cut w s n before now end old new begun seen after first same_begun same_seen some ran cut =
     let r : ZRun = zrun w n s in
     inr (inl (record {
       left_is = ran.left;
@@ -89,20 +90,18 @@ fault_shows w s n old new begun seen after first same_begun same_seen ran wrote_
       wrote = subst (λ (l : List ℕ). Wrote old.seen after l) (fault_text output new.begun (ran.begins ∙ ap (λ (b : Bool). is_open b output) first)) (wrote_on old.seen new.seen after output (newline_if new.begun ++ unread_line) ran.wrote (rw (same_seen, same_begun) wrote_then));
     }
 
-pub fault_cut : (w : ZGiven) (s : ZState) (n : ℕ) (old new : Scene) (begun : Bool) (seen after : SinkView) → old.begun ≡ false → new.begun ≡ begun → new.seen ≡ seen →
-    RanUnread w s n old new → BrokeOff seen after (newline_if begun ++ unread_line) → OutputFailed w s n new.left old.seen after
-fault_cut w s n old new begun seen after first same_begun same_seen ran cut =
+pub fault_cut : (w : ZGiven) (s : ZState) (n before now : ℕ) (old new : Scene) (begun : Bool) (seen after : SinkView) → old.begun ≡ false → new.begun ≡ begun → new.seen ≡ seen →
+    Rose before now → RanUnread w s n old new → BrokeOff seen after (newline_if begun ++ unread_line) → OutputFailed w s n before now new.left old.seen after
+fault_cut w s n before now old new begun seen after first same_begun same_seen rose ran cut =
     let output : List ℕ = (zrun w ran.m s).state.output in
     inr (inr (record {
+      rose = rose;
       m = ran.m;
       rest = ran.rest;
       left_is = ran.left;
       stopped = ran.stopped;
       cut = subst (λ (l : List ℕ). BrokeBehind old.seen after output l) (fault_text output new.begun (ran.begins ∙ ap (λ (b : Bool). is_open b output) first)) (broke_after old.seen new.seen after output (newline_if new.begun ++ unread_line) ran.wrote (rw (same_seen, same_begun) cut));
     }))
-
-pub unwritten_shows : (w : ZGiven) (s : ZState) (n : ℕ) (old new : Scene) (seen : SinkView) → new.seen ≡ seen → PrintUnwritten w s n new.left old.seen new.seen → OutputFailed w s n new.left old.seen seen
-unwritten_shows w s n old new seen same cut = inl (subst (λ (v : SinkView). PrintUnwritten w s n new.left old.seen v) same cut)
 
 -- ---- the output failed
 

@@ -49,8 +49,9 @@ pub record EndUnwritten (r : ZRun) (left : Option (List ℕ)) (old new : SinkVie
   pub left_is : left ≡ Some r.state.typed
   pub cut : BrokeBehind old new r.state.output (played_text r)
 
--- The input failed, and then the output in the line that says so: the sink took the output until then.
-pub record InputFailedUnwritten (w : ZGiven) (s : ZState) (n : ℕ) (left : Option (List ℕ)) (old new : SinkView) : Type 0 where
+-- The input failed, whose count rose, and then the output in the line that says so: the sink took the output until then.
+pub record InputFailedUnwritten (w : ZGiven) (s : ZState) (n before now : ℕ) (left : Option (List ℕ)) (old new : SinkView) : Type 0 where
+  pub rose : Rose before now
   pub m : ℕ
   pub rest : List ℕ
   pub left_is : left ≡ Some rest
@@ -58,20 +59,21 @@ pub record InputFailedUnwritten (w : ZGiven) (s : ZState) (n : ℕ) (left : Opti
   pub cut : BrokeBehind old new (zrun w m s).state.output (with_end_line (zrun w m s).state.output unread_line)
 
 -- The output failed within an instruction or in a line behind the run.
-abbrev pub OutputFailed : ZGiven → ZState → ℕ → Option (List ℕ) → SinkView → SinkView → Type 0
-OutputFailed w s n left old new = PrintUnwritten w s n left old new ⊎ (EndUnwritten (zrun w n s) left old new ⊎ InputFailedUnwritten w s n left old new)
+abbrev pub OutputFailed : ZGiven → ZState → (n before now : ℕ) → Option (List ℕ) → SinkView → SinkView → Type 0
+OutputFailed w s n before now left old new = PrintUnwritten w s n left old new
+    ⊎ (EndUnwritten (zrun w n s) left old new ⊎ InputFailedUnwritten w s n before now left old new)
 
--- what a run did, by its answer
-abbrev pub Plays : Result ZEnd Fault → ZGiven → ZState → ℕ → Option (List ℕ) → SinkView → SinkView → Type 0
-Plays (Ok end) w s n left old new = Played (zrun w n s) end left old new
-Plays (Err Read) w s n left old new = InputFailed w s n left old new
-Plays (Err Write) w s n left old new = OutputFailed w s n left old new
+-- What a run of n instructions did, by its answer. Before it and now are the input's counts of faults.
+abbrev pub Plays : Result ZEnd Fault → ZGiven → ZState → (n before now : ℕ) → Option (List ℕ) → SinkView → SinkView → Type 0
+Plays (Ok end) w s n before now left old new = Played (zrun w n s) end left old new
+Plays (Err Read) w s n before now left old new = InputFailed w s n left old new
+Plays (Err Write) w s n before now left old new = OutputFailed w s n before now left old new
 
 -- For some typed bytes, and some that are left, a story's run did so: what is known where the source tells nothing.
-pub record PlaysSome (answer : Result ZEnd Fault) (w : ZGiven) (story : List ℕ) (n : ℕ) (old new : SinkView) : Type 0 where
+pub record PlaysSome (answer : Result ZEnd Fault) (w : ZGiven) (story : List ℕ) (n before now : ℕ) (old new : SinkView) : Type 0 where
   pub typed : List ℕ
   pub left : List ℕ
-  pub plays : Plays answer w (start_state story typed) n (Some left) old new
+  pub plays : Plays answer w (start_state story typed) n before now (Some left) old new
 
 -- Each fault has its cause, and no count falls.
 pub record HasCauses {T : Type 0} (input input' : SourceView) (out out' : SinkView) (result : Result T Fault) : Type 0 where

@@ -12,7 +12,7 @@ ghost use Rattle.z_play.specs.inside.Acting.{text_of, Finishes, MayBeLeft};
 ghost use Rattle.z_play.specs.inside.Advancing.{Advances, RunsOn};
 ghost use Rattle.z_play.specs.Played.{Plays, PlaysSome, HasCauses};
 ghost use Rattle.z_play.specs.Ready.{IsStory, IsLoaded, text_of_load};
-ghost use Rattle.dg_base.specs.Causes.{HasCause};
+ghost use Rattle.dg_base.specs.Causes.{HasCause, Rose};
 ghost use Rattle.dg_base.specs.Streams.{SourceView};
 
 use crate::engine::{Called, Engine};
@@ -349,8 +349,9 @@ fn close_failed<K: Sink>(sink: &mut K, begun: bool) -> Result<(), WriteFault>
 
 // Writes the line behind a run, if there is one.
 fn close_run<K: Sink>(ended: Result<ZEnd, Fault>, begun: bool, sink: &mut K) -> Result<ZEnd, Fault>
-    ensures plays { (w : ZGiven) (s : ZState) (n : ℕ) (old new : Scene) → old.begun ≡ false → new.begun ≡ begun → new.seen ≡ K.view sink.old →
-        RunsOn ended w s n old new → Plays result w s n new.left old.seen (K.view sink.new) }
+    ensures plays { (w : ZGiven) (s : ZState) (n before now : ℕ) (old new : Scene) → old.begun ≡ false → new.begun ≡ begun →
+        new.seen ≡ K.view sink.old → (ended ≡ Err Fault.Read → Rose before now) → RunsOn ended w s n old new →
+        Plays result w s n before now new.left old.seen (K.view sink.new) }
     ensures causes { (input left : SourceView) (out : SinkView) → HasCauses input left out (K.view sink.old) ended →
         HasCauses input left out (K.view sink.new) result }
 {
@@ -470,8 +471,10 @@ impl Player {
         requires { 0 < length dice.now }
         ensures kept { self.new ≡ self.old }
         ensures told { (typed : List ℕ) → (S.view source.old).left ≡ Some typed →
-            Plays result (given_of self.old dice.now) (start_state self.old typed) steps (S.view source.new).left (K.view sink.old) (K.view sink.new) }
-        ensures untold { PlaysSome result (given_of self.old dice.now) self.old steps (K.view sink.old) (K.view sink.new) }
+            Plays result (given_of self.old dice.now) (start_state self.old typed) steps (S.view source.old).faults (S.view source.new).faults
+            (S.view source.new).left (K.view sink.old) (K.view sink.new) }
+        ensures untold { PlaysSome result (given_of self.old dice.now) self.old steps (S.view source.old).faults (S.view source.new).faults
+            (K.view sink.old) (K.view sink.new) }
         ensures causes { HasCauses (S.view source.old) (S.view source.new) (K.view sink.old) (K.view sink.new) result }
     {
         reset(&mut self.engine, &self.story, self.start);

@@ -1,8 +1,8 @@
 use Rattle.std.proofs.Common.{◌∙◌, refl, sym, subst, Some, List, ℕ}
 use Rattle.dg_base.specs.Written.{SinkView}
-use Rattle.dialog_tool.specs.Answers.{Answers, HasStory}
+use Rattle.dialog_tool.specs.Promise.{Answers, HasStory}
 use Rattle.dialog_tool.specs.inside.Building.{HasNoStory}
-use Rattle.dialog_tool.specs.Call.{call}
+use Rattle.dialog_tool.specs.inside.Calls.{call}
 use Rattle.dialog_tool.specs.Command.{build as build_command}
 use Rattle.dialog_tool.proofs.BuildLemmas.{none_to_store}
 use Rattle.dialog_tool.proofs.building.build.Goals as goal

@@ -1,8 +1,8 @@
 use Rattle.std.proofs.Common.{◌∙◌, refl, subst, Some}
 use Rattle.dg_base.specs.Written.{SinkView}
-use Rattle.dialog_tool.specs.Answers.{Answers}
+use Rattle.dialog_tool.specs.Promise.{Answers}
 use Rattle.dialog_tool.specs.inside.Building.{HasNoStory}
-use Rattle.dialog_tool.specs.Call.{call}
+use Rattle.dialog_tool.specs.inside.Calls.{call}
 use Rattle.dialog_tool.specs.Command.{run as run_command}
 use Rattle.dialog_tool.specs.inside.CommandView.{task_view}
 use Rattle.dialog_tool.proofs.BuildLemmas.{none_to_run}

@@ -1,5 +1,5 @@
 use Rattle.std.proofs.Common.{refl}
-use Rattle.dialog_tool.specs.Answers.{held, not_held, no_room_for_it}
+use Rattle.dialog_tool.specs.Promise.{held, not_held, no_room_for_it}
 use Rattle.dialog_tool.proofs.AnswerLemmas.{prints}
 use Rattle.dialog_tool.proofs.BuildLemmas.{handed, later_rose}
 use Rattle.dialog_tool.proofs.building.store.Goals as goal

@@ -1,5 +1,5 @@
 use Rattle.std.proofs.Common.{◌≡◌, ◌≤◌, ◌-◌, ◌++◌, length}
-use Rattle.dialog_tool.specs.Dice.{generated, halves, dice_of}
+use Rattle.dialog_tool.specs.layer.Dice.{generated, halves, dice_of}
 use Rattle.dialog_tool.proofs.dice.dice_of.Given as goal
 
 abbrev pub invariant-loop-words : goal.invariant-loop-words

@@ -1,7 +1,7 @@
 use Rattle.std.proofs.Common.{Some, subst}
 use Rattle.dg_base.specs.Written.{SinkView}
-use Rattle.dialog_tool.specs.Answers.{Answers}
-use Rattle.dialog_tool.specs.Call.{call}
+use Rattle.dialog_tool.specs.Promise.{Answers}
+use Rattle.dialog_tool.specs.inside.Calls.{call}
 use Rattle.dialog_tool.specs.Command.{singles as singles_command}
 use Rattle.dialog_tool.proofs.listing.list_file.Goals as goal
 

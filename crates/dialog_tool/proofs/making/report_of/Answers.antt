@@ -17,6 +17,6 @@ returns-in-Err-Write c =
     let lost = rw (c.in-Err-Write.field-0-is, c.debug-limits.ensures, c.new-input.ensures, c.new-2.ensures.items) at c.in-Err-Write.ensures.output in
     if_both _ _ _ c.too_long.result
     (λ report text status n source is.
-    made_long n c.args.program c.args.dice.now c.in_ok-output.output.bytes report.text.items _ c.in_ok-output.output.room _ report.status _ is
+    made_long n c.args.program c.args.dice.now c.in_ok-output.output.bytes report.text.items _ _ c.in_ok-output.output.room _ report.status _ is
     (ap (λ s. s.room) c.in_ok-output.ensures) (lost refl) text status)
     c.too_long.ensures.text c.too_long.ensures.status

@@ -10,8 +10,8 @@ returns-in-Ok g c = λ command before after bytes loaded.
     let untold = rw c.thrown-dice.ensures.dice at c.in-Ok.ensures.untold in
     play_ends _ (task_view c.args.task.now) bytes _ c.in-Ok.end c.status_of_end.ensures
     (record {
-      told = λ typed is. file_plays bytes c.args.player.now loaded (Ok c.in-Ok.end) _ typed _ _ _ _ (told typed is);
-      untold = file_plays_some bytes c.args.player.now loaded (Ok c.in-Ok.end) _ _ _ _ untold;
+      told = λ typed is. file_plays bytes c.args.player.now loaded (Ok c.in-Ok.end) _ typed _ (g.S.Source.view c.args.input.now).faults (g.S.Source.view c.run.new.source).faults _ _ _ (told typed is);
+      untold = file_plays_some bytes c.args.player.now loaded (Ok c.in-Ok.end) _ _ (g.S.Source.view c.args.input.now).faults (g.S.Source.view c.run.new.source).faults _ _ untold;
     })
 
 pub returns-in-Err-Read : goal.returns-in-Err-Read
@@ -21,8 +21,8 @@ returns-in-Err-Read g c = λ command before after bytes loaded.
     let causes = rw c.in-Err-Read.field-0-is at c.in-Err-Read.ensures.causes in
     play_unread _ (task_view c.args.task.now) bytes _ refl (causes.read_failed refl)
     (record {
-      told = λ typed is. file_plays bytes c.args.player.now loaded (Err Read) _ typed _ _ _ _ (told typed is);
-      untold = file_plays_some bytes c.args.player.now loaded (Err Read) _ _ _ _ untold;
+      told = λ typed is. file_plays bytes c.args.player.now loaded (Err Read) _ typed _ (g.S.Source.view c.args.input.now).faults (g.S.Source.view c.run.new.source).faults _ _ _ (told typed is);
+      untold = file_plays_some bytes c.args.player.now loaded (Err Read) _ _ (g.S.Source.view c.args.input.now).faults (g.S.Source.view c.run.new.source).faults _ _ untold;
     })
 
 pub returns-in-Err-Write : goal.returns-in-Err-Write
@@ -30,8 +30,8 @@ returns-in-Err-Write g c = λ command before after bytes loaded.
     let told = rw (c.in-Err-Write.field-0-is, c.thrown-dice.ensures.dice) at c.in-Err-Write.ensures.told in
     let untold = rw (c.in-Err-Write.field-0-is, c.thrown-dice.ensures.dice) at c.in-Err-Write.ensures.untold in
     let causes = rw c.in-Err-Write.field-0-is at c.in-Err-Write.ensures.causes in
-    play_unwritten c.fronts_are_written.ensures.prints c.fronts_are_written.ensures.rests _ (task_view c.args.task.now) bytes _ refl (causes.write_failed refl)
+    play_unwritten _ (task_view c.args.task.now) bytes _ refl (causes.write_failed refl)
     (record {
-      told = λ typed is. file_plays bytes c.args.player.now loaded (Err Write) _ typed _ _ _ _ (told typed is);
-      untold = file_plays_some bytes c.args.player.now loaded (Err Write) _ _ _ _ untold;
+      told = λ typed is. file_plays bytes c.args.player.now loaded (Err Write) _ typed _ (g.S.Source.view c.args.input.now).faults (g.S.Source.view c.run.new.source).faults _ _ _ (told typed is);
+      untold = file_plays_some bytes c.args.player.now loaded (Err Write) _ _ (g.S.Source.view c.args.input.now).faults (g.S.Source.view c.run.new.source).faults _ _ untold;
     })

@@ -1,7 +1,8 @@
 use Rattle.std.proofs.Common.{◌-◌, arith}
-use Rattle.dg_meaning.specs.Engines.{game, left_told, HasShown, HasLostInput, HasLostOutput}
+use Rattle.dg_meaning.specs.Engines.{game, left_told, HasShown, HasLostInput}
 use Rattle.dg_meaning.proofs.Engines.{as_told, for_given}
 use Rattle.dg_machine.specs.declared.now.Now.TheVariants.{Runs}
+use Rattle.dg_machine.specs.Program.{HasLostText}
 use Rattle.dg_machine.proofs.Runs.{shown, closing_lost, text_lost, input_lost, fault_lost}
 use Rattle.dg_machine.proofs.Starts.{at_start, somewhere_first, roomy_after}
 use Rattle.dg_machine.proofs.machine.Machine.run.Goals as goal
@@ -50,10 +51,9 @@ returns-in-Err-close-clause-output g c e p dice codes is_of starts =
     let h = c.in-Ok.ensures.ok in
     let at = at_start m.code p dice m.limits h.typed c.clear.new.self c.args.outside.now c.code_at.result c.new-spacer.result k c.requires.built c.code_at.ensures (c.clear.ensures.held m.code m.limits m.roomy) c.clear.ensures.none c.new-spacer.ensures starts in
     let i' = g.S.Source.view c.go.new.source in
-    let told = left_told i i' in
     let k' = g.K.Sink.view c.close-in-Ok.new.sink in
-    for_given i.left h.typed (λ typed. HasLostOutput x typed m.limits told k k') h.is_typed
-    (closing_lost m.code x m.limits codes h.typed c.in-Ok.ending c.in-Ok.left c.go.new.memory c.go.new.spacer k (g.K.Sink.view c.go.new.sink) k' h.rest told h.is_rest (h.ends x is_of m.limits h.typed k at) h.within (rw c.line.ensures at c.in-Err-close.ensures.err))
+    for_given i.left h.typed (λ typed. HasLostText x typed m.limits i i' k k') h.is_typed
+    (closing_lost m.code x m.limits codes h.typed c.in-Ok.ending c.in-Ok.left c.go.new.memory c.go.new.spacer k (g.K.Sink.view c.go.new.sink) k' i i' h.rest h.is_rest (h.ends x is_of m.limits h.typed k at) h.within (rw c.line.ensures at c.in-Err-close.ensures.err))
 
 pub returns-in-Err-Write-clause-output : goal.returns-in-Err-Write-clause-output
 returns-in-Err-Write-clause-output g c e p dice codes is_of starts =
@@ -64,9 +64,8 @@ returns-in-Err-Write-clause-output g c e p dice codes is_of starts =
     let h = rw c.in-Err-Write.field-0-is at c.in-Err-Write.ensures.err in
     let at = at_start m.code p dice m.limits h.typed c.clear.new.self c.args.outside.now c.code_at.result c.new-spacer.result k c.requires.built c.code_at.ensures (c.clear.ensures.held m.code m.limits m.roomy) c.clear.ensures.none c.new-spacer.ensures starts in
     let i' = g.S.Source.view c.go.new.source in
-    let told = left_told i i' in
     let k' = g.K.Sink.view c.go.new.sink in
-    for_given i.left h.typed (λ typed. HasLostOutput x typed m.limits told k k') h.is_typed (text_lost m.code x m.limits codes h.typed c.go.new.memory k k' h.rest told (as_told i i' h.rest h.is_rest) (h.loses x is_of m.limits h.typed k at))
+    for_given i.left h.typed (λ typed. HasLostText x typed m.limits i i' k k') h.is_typed (text_lost m.code x m.limits codes h.typed c.go.new.memory k k' i i' h.rest (as_told i i' h.rest h.is_rest) (h.loses x is_of m.limits h.typed k at))
 
 pub returns-in-Err-clause-output : goal.returns-in-Err-clause-output
 returns-in-Err-clause-output g c e p dice codes is_of starts =
@@ -77,10 +76,9 @@ returns-in-Err-clause-output g c e p dice codes is_of starts =
     let h = rw c.in-Err-Read.field-0-is at c.in-Err-Read.ensures.err in
     let at = at_start m.code p dice m.limits h.typed c.clear.new.self c.args.outside.now c.code_at.result c.new-spacer.result k c.requires.built c.code_at.ensures (c.clear.ensures.held m.code m.limits m.roomy) c.clear.ensures.none c.new-spacer.ensures starts in
     let i' = g.S.Source.view c.go.new.source in
-    let told = left_told i i' in
     let k' = g.K.Sink.view c.close.new.sink in
-    for_given i.left h.typed (λ typed. HasLostOutput x typed m.limits told k k') h.is_typed
-    (fault_lost m.code x m.limits codes h.typed c.go.new.memory c.go.new.spacer k (g.K.Sink.view c.go.new.sink) k' h.taken h.rest told (as_told i i' h.rest h.is_rest) (h.fails x is_of m.limits h.typed k at) h.short c.in-Err.ensures.err)
+    for_given i.left h.typed (λ typed. HasLostText x typed m.limits i i' k k') h.is_typed
+    (fault_lost m.code x m.limits codes h.typed c.go.new.memory c.go.new.spacer k (g.K.Sink.view c.go.new.sink) k' i i' h.taken h.rest h.rose (as_told i i' h.rest h.is_rest) (h.fails x is_of m.limits h.typed k at) h.short c.in-Err.ensures.err)
 
 pub returns-in-Ok-close-clause-input : goal.returns-in-Ok-close-clause-input
 returns-in-Ok-close-clause-input g c e p dice codes is_of starts =

@@ -11,9 +11,9 @@ returns-clause-told g c = λ typed told.
     let first : machine c.reset.new.engine ≡ first_machine c.args.self.now c.self.inside.start = search rules in
     let whole : memory_of c.args.self.now ≡ c.args.self.now = search rules in
     let at : c.self.inside.start ≡ first_address c.args.self.now = search rules in
-    c.close_run.ensures.plays (given_of c.args.self.now c.args.dice.now) (start_state c.args.self.now typed) c.args.steps
+    c.close_run.ensures.plays (given_of c.args.self.now c.args.dice.now) (start_state c.args.self.now typed) c.args.steps (g.S.Source.view c.args.source.now).faults (g.S.Source.view c.run_steps-ended.new.source).faults
     (scene (machine c.reset.new.engine) 0 false (g.S.Source.view c.args.source.now).left (g.K.Sink.view c.args.sink.now))
-    (scene (machine c.run_steps-ended.new.engine) 0 c.run_steps-ended.new.begun (g.S.Source.view c.run_steps-ended.new.source).left (g.K.Sink.view c.run_steps-ended.new.sink)) refl refl refl
+    (scene (machine c.run_steps-ended.new.engine) 0 c.run_steps-ended.new.begun (g.S.Source.view c.run_steps-ended.new.source).left (g.K.Sink.view c.run_steps-ended.new.sink)) refl refl refl c.run_steps-ended.ensures.causes.read_failed
     (runs_as c.args.self.now c.args.dice.now typed (layout_in c.reset.new.engine) c.self.inside.start (machine c.reset.new.engine) c.run_steps-ended.result c.args.steps
     (scene (machine c.reset.new.engine) 0 false (g.S.Source.view c.args.source.now).left (g.K.Sink.view c.args.sink.now))
     (scene (machine c.run_steps-ended.new.engine) 0 c.run_steps-ended.new.begun (g.S.Source.view c.run_steps-ended.new.source).left (g.K.Sink.view c.run_steps-ended.new.sink)) layout whole at first
@@ -29,9 +29,9 @@ returns-clause-untold g c =
     record {
       typed = ran.0;
       left = ran.1;
-      plays = c.close_run.ensures.plays (given_of c.args.self.now c.args.dice.now) (start_state c.args.self.now ran.0) c.args.steps
+      plays = c.close_run.ensures.plays (given_of c.args.self.now c.args.dice.now) (start_state c.args.self.now ran.0) c.args.steps (g.S.Source.view c.args.source.now).faults (g.S.Source.view c.run_steps-ended.new.source).faults
           (scene (machine c.reset.new.engine) 0 false (Some ran.0) (g.K.Sink.view c.args.sink.now))
-          (scene (machine c.run_steps-ended.new.engine) 0 c.run_steps-ended.new.begun (Some ran.1) (g.K.Sink.view c.run_steps-ended.new.sink)) refl refl refl
+          (scene (machine c.run_steps-ended.new.engine) 0 c.run_steps-ended.new.begun (Some ran.1) (g.K.Sink.view c.run_steps-ended.new.sink)) refl refl refl c.run_steps-ended.ensures.causes.read_failed
           (runs_as c.args.self.now c.args.dice.now ran.0 (layout_in c.reset.new.engine) c.self.inside.start (machine c.reset.new.engine) c.run_steps-ended.result c.args.steps
           (scene (machine c.reset.new.engine) 0 false (Some ran.0) (g.K.Sink.view c.args.sink.now))
           (scene (machine c.run_steps-ended.new.engine) 0 c.run_steps-ended.new.begun (Some ran.1) (g.K.Sink.view c.run_steps-ended.new.sink)) layout whole at first

@@ -1,38 +1,40 @@
--- The answers of the program, command by command: hold them against the table of statuses in man/dialog.1.
-use Rattle.std.specs.Prelude.{◌≡◌, ◌⊎◌, ◌<◌, ℕ, List, [], length, codes, Option, Some, None, Bool, IsTrue, IsSome, Ok, Err}
+-- What the program promises of a call, command by command: hold it against the table of statuses in man/dialog.1. From it alone follows which status
+-- comes where.
+use Rattle.std.specs.Prelude.{◌≡◌, ◌<◌, ℕ, List, [], length, codes, Option, Some, None, Bool, IsTrue, IsSome, Ok, Err}
 use Rattle.dg_base.specs.Causes.{Rose}
 use Rattle.dg_base.specs.Shelves.{WhereTold, KeepsAll, KeepsOthers}
+use Rattle.dg_base.specs.Written.{Wrote}
 use Rattle.dg_base.specs.declared.program.CoreProgram.{CoreProgram as Core}
 use Rattle.dg_base.specs.declared.refusal.Refusal.{Refusal}
 use Rattle.dg_base.specs.declared.run.Ending.{Ending}
 use Rattle.dg_base.specs.declared.run.Ending.TheVariants.{Done, Quit, Failed, Stopped, InputEnded, StepLimit, HeapLimit, TrailLimit, AuxLimit, KeepLimit}
+use Rattle.dg_base.specs.declared.run.Limits.{Limits}
 use Rattle.dg_base.specs.declared.run.Outcome.{Outcome}
 use Rattle.dg_make.specs.Made.{made_source}
-use Rattle.dg_meaning.specs.Shows.{MayWrite, Shows}
-use Rattle.dg_meaning.specs.Transcript.{no_memory_line}
+use Rattle.dg_meaning.specs.Shows.{IsLeft, Shows}
+use Rattle.dg_meaning.specs.Transcript.{no_memory_line, input_fault_line}
 use Rattle.dg_meaning.specs.World.{Game}
-use Rattle.dg_meaning.specs.Engines.{game, left_told, HasShown, HasLostInput, HasLostOutput}
+use Rattle.dg_meaning.specs.Engines.{game}
 use Rattle.dg_single.specs.Singles.{AreSingles}
 use Rattle.dg_story.specs.Agrees.{Agrees}
-use Rattle.dg_story.specs.Built.{IsBuilt}
 use Rattle.dg_story.specs.Refusals as build
-use Rattle.dg_story.specs.declared.building.Built.{Built}
 use Rattle.dg_story.specs.declared.refusal.BuildRefusal.{BuildRefusal}
-use Rattle.z_model.specs.Story.{story_refusal}
+use Rattle.z_model.specs.Closing.{played_text}
+use Rattle.z_model.specs.Run.{ZRun}
+use Rattle.z_model.specs.Story.{story_refusal, story_run}
+use Rattle.z_model.specs.declared.end.ZEnd.{ZEnd}
+use Rattle.z_model.specs.declared.end.ZEnd.TheVariants as ends
 use Rattle.z_model.specs.declared.story.StoryRefusal.{StoryRefusal}
-use Rattle.dialog_tool.specs.Command.{Command, debug, play, run, build, singles, make, Task, limits_of, source_named}
-use Rattle.dialog_tool.specs.Call.{Call, Outside, Finds, file_at, file_of, dice_for}
+use Rattle.z_play.specs.Output.{BrokeBehind}
+use Rattle.dialog_tool.specs.Command.{Command, debug, play, run, build, singles, make, Task, limits_of}
+use Rattle.dialog_tool.specs.Call.{Call, Outside, Finds, file_at, dice_for}
 use Rattle.dialog_tool.specs.Lines.{Says, usage_line, refusal_line, story_line, build_line, file_fault_line}
 use Rattle.dialog_tool.specs.Making.{made_limits, most_output, made_report, too_long_line}
-use Rattle.dialog_tool.specs.Playing.{call_run, status_of_end, PlaysStory}
 use Rattle.dialog_tool.specs.Report.{report}
+use Rattle.dialog_tool.specs.Running.{Run, run_of_game, run_of_story, LosesInput, IsWriting}
 use Rattle.dg_compile.specs.Source.{Compiles}
 
 -- ---- statuses
-
--- this status, or one of the two that may come before it
-abbrev pub Comes : ℕ → ℕ → Type 0
-Comes status result = (result ≡ status) ⊎ ((result ≡ 5) ⊎ (result ≡ 6))
 
 -- the status of an ending
 abbrev pub status_of : Ending → ℕ
@@ -46,6 +48,13 @@ status_of HeapLimit = 3
 status_of TrailLimit = 3
 status_of AuxLimit = 3
 status_of KeepLimit = 3
+
+-- the status of the end of a story's run
+abbrev pub status_of_end : ZEnd → ℕ
+status_of_end ends.Quit = 0
+status_of_end ends.InputEnded = 0
+status_of_end ends.StepLimit = 3
+status_of_end (ends.Broken fault at) = 4
 
 -- ---- what is printed at once
 
@@ -63,6 +72,22 @@ pub record LostFile (c : Call) (name : List ℕ) : Type 0 where
   pub rose : Rose c.shelf.faults c.shelf_after.faults
   pub missing : IsTrue c.shelf.sure → WhereTold c.shelf.contents (λ contents. IsSome (contents name) → ⊥)
 
+-- ---- runs
+
+-- The input has these bytes left, where it told its bytes, as far as it tells them.
+abbrev pub Leaves : Call → List ℕ → Type 0
+Leaves c rest = IsSome c.input.left → IsLeft c.input_after.left rest
+
+-- What a run of at most so many steps comes to that ends so, with a status, a text and typed bytes left: out took that text; or, at 5, the input failed,
+-- and out took what was printed before with the line that says so; or, at 5, out failed within a text, behind what was surely written of it.
+pub data Runs (c : Call) (r : Run) (most : ℕ) (Ends : ℕ → List ℕ → List ℕ → Type 0) (result : ℕ) : Type 0 where
+  ran : (text rest : List ℕ) → Ends result text rest → Wrote c.out c.out_after text → Leaves c rest → Runs c r most Ends result
+  input_lost : result ≡ 5 → Rose c.input.faults c.input_after.faults → (n : ℕ) (rest : List ℕ) → LosesInput r most n rest
+      → Wrote c.out c.out_after (r.closed n input_fault_line) → Leaves c rest → Runs c r most Ends result
+  out_lost : result ≡ 5 → Rose c.out.faults c.out_after.faults → (status : ℕ) (written text rest : List ℕ)
+      → IsWriting r most (Ends status) (Rose c.input.faults c.input_after.faults) written text rest
+      → BrokeBehind c.out c.out_after written text → Leaves c rest → Runs c r most Ends result
+
 -- ---- sources
 
 -- A source is read: its file is lost, at 5, or it is refused, at 1, or it is a program with which this is done.
@@ -71,19 +96,14 @@ pub data Reads (c : Call) (o : Outside) (name : List ℕ) (Does : Core → Type 
   refused : (r : Refusal) → Compiles (file_at o name) (Err r) → Prints c 1 (refusal_line name r) result → Reads c o name Does result
   program : (p : Core) → Compiles (file_at o name) (Ok p) → Does p → Reads c o name Does result
 
--- the game of a program
-abbrev pub game_of : Call → Task → Core → Game
-game_of c t p = game p (dice_for c t)
+-- How a program's run ends within the limits: at the status of its ending, with a text that shows it.
+abbrev pub EndsProgram : Game → List ℕ → Limits → ℕ → List ℕ → List ℕ → Type 0
+EndsProgram g typed limits status text rest = (outcome : Outcome) × (status ≡ status_of outcome.ending) × Shows g typed limits text outcome (Some rest)
 
--- A program is run: at 0 and 3 out took a text that shows a run of it on the typed bytes; at 5 the input failed, and out took the text up to
--- there with its closing, or out failed within a text that it may be writing.
-pub data RunsSource (c : Call) (o : Outside) (t : Task) (p : Core) (result : ℕ) : Type 0 where
-  ran : (outcome : Outcome) → result ≡ status_of outcome.ending
-      → HasShown (game_of c t p) o.typed (limits_of t) outcome (left_told c.input c.input_after) c.out c.out_after → RunsSource c o t p result
-  input_lost : result ≡ 5 → Rose c.input.faults c.input_after.faults
-      → HasLostInput (game_of c t p) o.typed (limits_of t) c.input_after.left c.out c.out_after → RunsSource c o t p result
-  out_lost : result ≡ 5
-      → HasLostOutput (game_of c t p) o.typed (limits_of t) (left_told c.input c.input_after) c.out c.out_after → RunsSource c o t p result
+-- A program is run on the typed bytes, with the dice and within the limits of a task.
+abbrev pub RunsProgram : Call → Outside → Task → Core → ℕ → Type 0
+RunsProgram c o t p result =
+    let g = game p (dice_for c t) in Runs c (run_of_game g o.typed) t.steps (EndsProgram g o.typed (limits_of t)) result
 
 -- The predicates of a program are listed, at 0: out took the report, by which those of the set are single.
 pub record Lists (c : Call) (p : Core) (result : ℕ) : Type 0 where
@@ -93,15 +113,15 @@ pub record Lists (c : Call) (p : Core) (result : ℕ) : Type 0 where
 
 -- ---- sources that are made
 
--- What the source of a number comes to, as a status and a text: a report on a run of it without typed bytes, 3 where such a run would write
--- too much, or 1 and a line where it is refused.
+-- What the source of a number comes to, as a status and a text: a report on a run of it without typed bytes, 3 where such a run writes too
+-- much, or 1 and a line where it is refused.
 pub data Makes (dice : List ℕ) (n : ℕ) (status : ℕ) (text : List ℕ) : Type 0 where
   reports : (p : Core) → Compiles (made_source n) (Ok p) → (output : List ℕ) (outcome : Outcome) (left : Option (List ℕ))
       → Shows (game p dice) [] made_limits output outcome left
       → status ≡ status_of outcome.ending → text ≡ made_report (made_source n) output outcome → Makes dice n status text
-  overflows : (p : Core) → Compiles (made_source n) (Ok p) → (output : List ℕ) (left : Option (List ℕ))
-      → MayWrite (game p dice) [] made_limits output left → most_output < length output → status ≡ 3 → text ≡ too_long_line →
-      Makes dice n status text
+  overflows : (p : Core) → Compiles (made_source n) (Ok p) → (output : List ℕ) (outcome : Outcome) (left : Option (List ℕ))
+      → Shows (game p dice) [] made_limits output outcome left → most_output < length output
+      → status ≡ 3 → text ≡ too_long_line → Makes dice n status text
   refuses : (r : Refusal) → Compiles (made_source n) (Err r) → status ≡ 1 → text ≡ refusal_line (codes "make") r → Makes dice n status text
 
 -- The source of a number is made and run, at 0, 1 and 3: out took the whole text that it comes to.
@@ -113,24 +133,32 @@ pub record Reports (c : Call) (n : ℕ) (result : ℕ) : Type 0 where
 
 -- ---- stories
 
+-- How a story's run ends: at the status of its end, with its output and the line of that end.
+abbrev pub EndsStory : ZRun → ℕ → List ℕ → List ℕ → Type 0
+EndsStory r status text rest = (status ≡ status_of_end r.end) × (text ≡ played_text r) × (rest ≡ r.state.typed)
+
+-- A story is played on the typed bytes, with the dice and for the steps of a task. An input that told its bytes tells them still.
+abbrev pub PlaysStory : Call → Outside → Task → List ℕ → ℕ → Type 0
+PlaysStory c o t bytes result =
+    let r = story_run bytes o.typed (dice_for c t) in
+    Runs c (run_of_story r) t.steps (EndsStory (r t.steps)) result × (IsSome c.input.left → IsSome c.input_after.left)
+
 -- A file is loaded: it is lost, at 5, or it is no story, at 4, or it is a story and played.
 pub data Loads (c : Call) (o : Outside) (t : Task) (result : ℕ) : Type 0 where
   lost_story : LostFile c t.name → Prints c 5 (file_fault_line t.name) result → Loads c o t result
-  no_story : (r : StoryRefusal) → story_refusal (file_of o t) ≡ Some r → Prints c 4 (story_line t.name r) result → Loads c o t result
-  story : story_refusal (file_of o t) ≡ None → PlaysStory c o t (file_of o t) result → Loads c o t result
+  no_story : (r : StoryRefusal) → story_refusal (file_at o t.name) ≡ Some r → Prints c 4 (story_line t.name r) result → Loads c o t result
+  story : story_refusal (file_at o t.name) ≡ None → PlaysStory c o t (file_at o t.name) result → Loads c o t result
 
--- This is the story of a program that isn't refused, and it agrees with the program: what it writes fits what the program's runs write.
+-- This is a story of a program that isn't refused: the player takes it, and what it writes fits what the program's runs write.
 pub record HasStory (p : Core) (bytes : List ℕ) : Type 0 where
   pub fits : build.build_refusal p ≡ None
-  pub built : Built
-  pub is : IsBuilt p built
-  pub bytes_are : built.story.items ≡ bytes
+  pub taken : story_refusal bytes ≡ None
   pub agrees : Agrees bytes p
 
--- A program is built in memory: it has no story, at 7, or its story, which the player takes, is played.
+-- A program is built in memory: it has no story, at 7, or a story of it is played.
 pub data Builds (c : Call) (o : Outside) (t : Task) (p : Core) (result : ℕ) : Type 0 where
   no_story_of : (r : BuildRefusal) → build.build_refusal p ≡ Some r → Prints c 7 (build_line t.name r) result → Builds c o t p result
-  plays : (bytes : List ℕ) → HasStory p bytes → story_refusal bytes ≡ None → PlaysStory c o t bytes result → Builds c o t p result
+  plays : (bytes : List ℕ) → HasStory p bytes → PlaysStory c o t bytes result → Builds c o t p result
 
 -- A program that is to be stored has no story, at 7.
 pub record HasNone (c : Call) (name : List ℕ) (p : Core) (result : ℕ) : Type 0 where
@@ -143,7 +171,7 @@ pub record HasNone (c : Call) (name : List ℕ) (p : Core) (result : ℕ) : Type
 -- What a call of this command comes to, where the shelf keeps what it holds.
 abbrev pub Does : Call → Outside → Option Command → ℕ → Type 0
 Does c o None result = Prints c 2 usage_line result × (c.shelf_after ≡ c.shelf)
-Does c o (Some (debug t)) result = Reads c o t.name (λ p. RunsSource c o t p result) result
+Does c o (Some (debug t)) result = Reads c o t.name (λ p. RunsProgram c o t p result) result
 Does c o (Some (play t)) result = Loads c o t result
 Does c o (Some (run t)) result = Reads c o t.name (λ p. Builds c o t p result) result
 Does c o (Some (build name to)) result = Reads c o name (λ p. HasNone c name p result) result
@@ -178,28 +206,3 @@ pub record Answers (c : Call) (result : ℕ) : Type 0 where
   pub outside : Outside
   pub found : Finds c outside
   pub answer : ComesTo c outside result
-
--- ---- which statuses come where
-
--- 2 exactly where the words are no command; 1 exactly where a source is refused, 0 and 3 where it is a program that is run, 0 where its predicates
--- are listed; 7 where it has no story, 0 where its story is stored; 4 exactly where a file is no story, and of a story the status of its run's end.
-pub record Decides (c : Call) (result : ℕ) : Type 0 where
-  pub no_command : c.command ≡ None → Comes 2 result
-  pub refuses : (o : Outside) → c.shelf.contents ≡ Some o.contents → (name : List ℕ) → source_named c.command ≡ Some name
-      → (r : Refusal) → Compiles (file_at o name) (Err r) → Comes 1 result
-  pub runs : (o : Outside) → c.shelf.contents ≡ Some o.contents → (t : Task) → c.command ≡ Some (debug t)
-      → (p : Core) → Compiles (file_of o t) (Ok p) → (result ≡ 0) ⊎ Comes 3 result
-  pub lists : (o : Outside) → c.shelf.contents ≡ Some o.contents → (name : List ℕ) → c.command ≡ Some (singles name)
-      → (p : Core) → Compiles (file_at o name) (Ok p) → Comes 0 result
-  pub makes : (n : ℕ) → c.command ≡ Some (make n) → (p : Core) → Compiles (made_source n) (Ok p) → (result ≡ 0) ⊎ Comes 3 result
-  pub makes_badly : (n : ℕ) → c.command ≡ Some (make n) → (r : Refusal) → Compiles (made_source n) (Err r) → Comes 1 result
-  pub builds : (o : Outside) → c.shelf.contents ≡ Some o.contents → (name to : List ℕ) → c.command ≡ Some (build name to)
-      → (p : Core) → Compiles (file_at o name) (Ok p) → build.build_refusal p ≡ None → Comes 0 result
-  pub builds_none : (o : Outside) → c.shelf.contents ≡ Some o.contents → (name to : List ℕ) → c.command ≡ Some (build name to)
-      → (p : Core) → Compiles (file_at o name) (Ok p) → (r : BuildRefusal) → build.build_refusal p ≡ Some r → Comes 7 result
-  pub runs_none : (o : Outside) → c.shelf.contents ≡ Some o.contents → (t : Task) → c.command ≡ Some (run t)
-      → (p : Core) → Compiles (file_of o t) (Ok p) → (r : BuildRefusal) → build.build_refusal p ≡ Some r → Comes 7 result
-  pub no_story : (o : Outside) → c.shelf.contents ≡ Some o.contents → (t : Task) → c.command ≡ Some (play t)
-      → (r : StoryRefusal) → story_refusal (file_of o t) ≡ Some r → Comes 4 result
-  pub plays : (o : Outside) → c.shelf.contents ≡ Some o.contents → c.input.left ≡ Some o.typed → (t : Task) → c.command ≡ Some (play t)
-      → story_refusal (file_of o t) ≡ None → Comes (status_of_end (call_run c o t (file_of o t)).end) result

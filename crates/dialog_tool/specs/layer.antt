@@ -1,0 +1,2 @@
+pub mod Dice
+pub mod Statuses
