@@ -108,8 +108,11 @@ const FAULTS: &[(&[u8], u8, ZFault, u32)] = &[
 #[test]
 fn each_fault_comes_with_its_place(rt: HostRuntime) -> Result<(), Fail> {
     for (code, skipped, fault, at) in FAULTS {
-        let end = ZEnd::Broken(*fault, *at);
-        plays(&rt, rt.alloc(), (code, *skipped, 0), b"x", (end, ""))?;
+        let mut player = story(rt.alloc(), code, *skipped, 0)?;
+        let mut source = SureSource::new(b"x".as_slice().to_vec(rt.alloc())?);
+        let mut sink = SureSink::new(rt.alloc(), 100)?;
+        let found = player.run(10000, &mut source, &[0], &mut sink);
+        same(&rt, &found, &Ok(ZEnd::Broken(*fault, *at)), "a fault");
     }
     Ok(())
 }
