@@ -8,11 +8,13 @@ ghost use Rattle.dg_access.specs.Plain as spec;
 ghost use Rattle.dg_access.specs.Building.{built_view, front, behind, init, last_or, wrapped, asked, no_stmt, closing, unbuilt};
 ghost use Rattle.dg_access.specs.State.{setting_view};
 
+use crate::lists::put;
 use crate::setting::Setting;
 use crate::standing::standing_for;
 use crate::work::{Asking, Close, Wrap};
 use dg_base::{Arm, Body, Boxed, Head, Items, Mode, NowChange, Part, Pieces, Stmt, Value};
 use std::alloc::{AllocError, Global};
+use std::mem;
 
 /// The number of the next new name, and what is built so far of each kind, the last of it at the end.
 pub struct Built {
@@ -45,22 +47,15 @@ pub fn unbuilt(alloc: Global) -> Built
 }
 
 /// The parts of a head, the bodies, and what is put before them. All else that was built stands in these.
-pub fn rule_of(built: Built) -> (Vec<Part>, Vec<Body>, Vec<Stmt>)
+pub fn rule_of(alloc: Global, mut built: Built) -> (Vec<Part>, Vec<Body>, Vec<Stmt>)
     ensures parts { result.0 ≡ built.parts }
     ensures bodies { result.1 ≡ built.bodies }
     ensures puts { result.2 ≡ built.puts }
 {
-    let Built {
-        at: _at,
-        values: _values,
-        parts,
-        stmts: _stmts,
-        branches: _branches,
-        bodies,
-        arms: _arms,
-        changes: _changes,
-        puts,
-    } = built;
+    let parts = mem::replace(&mut built.parts, Vec::new(alloc));
+    let bodies = mem::replace(&mut built.bodies, Vec::new(alloc));
+    let puts = mem::replace(&mut built.puts, Vec::new(alloc));
+    let_go(built);
     (parts, bodies, puts)
 }
 
@@ -184,8 +179,7 @@ fn close_list(setting: Setting<'_>, built: &mut Built, count: usize) -> Result<(
     ensures { OnOk result (built_view built.new ≡ closing (setting_view setting.entry) (Close.List count) (built_view built.old)) }
 {
     let values = last_values(&mut built.values, count)?;
-    built.values.push(Value::List(values, None))?;
-    Ok(())
+    put(&mut built.values, Value::List(values, None))
 }
 
 fn tailed(alloc: Global, values: Items<Value>, tail: Value) -> Result<Value, AllocError>
@@ -205,16 +199,14 @@ fn close_tailed(
 {
     let tail = pop_value(&mut built.values);
     let values = last_values(&mut built.values, count)?;
-    built.values.push(tailed(alloc, values, tail)?)?;
-    Ok(())
+    put(&mut built.values, tailed(alloc, values, tail)?)
 }
 
 fn close_closure(alloc: Global, setting: Setting<'_>, built: &mut Built) -> Result<(), AllocError>
     ensures { OnOk result (built_view built.new ≡ closing (setting_view setting.entry) Close.Closure (built_view built.old)) }
 {
     let body = pop_body(alloc, &mut built.bodies);
-    built.values.push(Value::Closure(body))?;
-    Ok(())
+    put(&mut built.values, Value::Closure(body))
 }
 
 fn last_head(built: &mut Built, count: usize) -> Result<Head, AllocError>
@@ -234,8 +226,7 @@ fn close_nested(
     ensures { OnOk result (built_view built.new ≡ closing (setting_view setting.entry) (Close.Nested count) (built_view built.old)) }
 {
     let head = last_head(built, count)?;
-    built.values.push(standing_for(alloc, setting, head))?;
-    Ok(())
+    put(&mut built.values, standing_for(alloc, setting, head))
 }
 
 fn close_put(
@@ -247,7 +238,7 @@ fn close_put(
     ensures { OnOk result (built_view built.new ≡ closing (setting_view setting.entry) (Close.Put count number) (built_view built.old)) }
 {
     let head = last_head(built, count)?;
-    built.puts.push(Stmt::AskAll(head))?;
+    put(&mut built.puts, Stmt::AskAll(head))?;
     built.at = number;
     Ok(())
 }
@@ -256,16 +247,14 @@ fn close_part(setting: Setting<'_>, built: &mut Built) -> Result<(), AllocError>
     ensures { OnOk result (built_view built.new ≡ closing (setting_view setting.entry) Close.Part (built_view built.old)) }
 {
     let value = pop_value(&mut built.values);
-    built.parts.push(Part::Value(value))?;
-    Ok(())
+    put(&mut built.parts, Part::Value(value))
 }
 
 fn close_print(setting: Setting<'_>, built: &mut Built) -> Result<(), AllocError>
     ensures { OnOk result (built_view built.new ≡ closing (setting_view setting.entry) Close.Print (built_view built.old)) }
 {
     let value = pop_value(&mut built.values);
-    built.stmts.push(Stmt::Print(value))?;
-    Ok(())
+    put(&mut built.stmts, Stmt::Print(value))
 }
 
 fn asked(asking: Asking, head: Head) -> Stmt
@@ -287,8 +276,7 @@ fn close_query(
     ensures { OnOk result (built_view built.new ≡ closing (setting_view setting.entry) (Close.Query asking count) (built_view built.old)) }
 {
     let head = last_head(built, count)?;
-    built.stmts.push(asked(asking, head))?;
-    Ok(())
+    put(&mut built.stmts, asked(asking, head))
 }
 
 fn wrapped(wrap: Wrap, body: Body) -> Stmt
@@ -310,24 +298,21 @@ fn close_wrapped(
     ensures { OnOk result (built_view built.new ≡ closing (setting_view setting.entry) (Close.Wrapped wrap) (built_view built.old)) }
 {
     let body = pop_body(alloc, &mut built.bodies);
-    built.stmts.push(wrapped(wrap, body))?;
-    Ok(())
+    put(&mut built.stmts, wrapped(wrap, body))
 }
 
 fn close_now(setting: Setting<'_>, built: &mut Built, count: usize) -> Result<(), AllocError>
     ensures { OnOk result (built_view built.new ≡ closing (setting_view setting.entry) (Close.Now count) (built_view built.old)) }
 {
     let changes = last_changes(&mut built.changes, count)?;
-    built.stmts.push(Stmt::Now(changes))?;
-    Ok(())
+    put(&mut built.stmts, Stmt::Now(changes))
 }
 
 fn close_if(setting: Setting<'_>, built: &mut Built, count: usize) -> Result<(), AllocError>
     ensures { OnOk result (built_view built.new ≡ closing (setting_view setting.entry) (Close.If count) (built_view built.old)) }
 {
     let arms = last_arms(&mut built.arms, count)?;
-    built.stmts.push(Stmt::If(arms, None))?;
-    Ok(())
+    put(&mut built.stmts, Stmt::If(arms, None))
 }
 
 fn with_other(arms: Items<Arm>, other: Body) -> Stmt
@@ -346,24 +331,21 @@ fn close_if_else(
 {
     let other = pop_body(alloc, &mut built.bodies);
     let arms = last_arms(&mut built.arms, count)?;
-    built.stmts.push(with_other(arms, other))?;
-    Ok(())
+    put(&mut built.stmts, with_other(arms, other))
 }
 
 fn close_exhaust(alloc: Global, setting: Setting<'_>, built: &mut Built) -> Result<(), AllocError>
     ensures { OnOk result (built_view built.new ≡ closing (setting_view setting.entry) Close.Exhaust (built_view built.old)) }
 {
     let inner = Boxed::new(alloc, pop_stmt(alloc, &mut built.stmts))?;
-    built.stmts.push(Stmt::Exhaust(inner))?;
-    Ok(())
+    put(&mut built.stmts, Stmt::Exhaust(inner))
 }
 
 fn close_stoppable(alloc: Global, setting: Setting<'_>, built: &mut Built) -> Result<(), AllocError>
     ensures { OnOk result (built_view built.new ≡ closing (setting_view setting.entry) Close.Stoppable (built_view built.old)) }
 {
     let inner = Boxed::new(alloc, pop_stmt(alloc, &mut built.stmts))?;
-    built.stmts.push(Stmt::Stoppable(inner))?;
-    Ok(())
+    put(&mut built.stmts, Stmt::Stoppable(inner))
 }
 
 fn close_collect(alloc: Global, setting: Setting<'_>, built: &mut Built) -> Result<(), AllocError>
@@ -372,8 +354,7 @@ fn close_collect(alloc: Global, setting: Setting<'_>, built: &mut Built) -> Resu
     let into = pop_value(&mut built.values);
     let value = pop_value(&mut built.values);
     let body = pop_body(alloc, &mut built.bodies);
-    built.stmts.push(Stmt::Collect(value, body, into))?;
-    Ok(())
+    put(&mut built.stmts, Stmt::Collect(value, body, into))
 }
 
 fn close_accumulate(
@@ -386,8 +367,7 @@ fn close_accumulate(
     let into = pop_value(&mut built.values);
     let value = pop_value(&mut built.values);
     let body = pop_body(alloc, &mut built.bodies);
-    built.stmts.push(Stmt::Accumulate(value, body, into))?;
-    Ok(())
+    put(&mut built.stmts, Stmt::Accumulate(value, body, into))
 }
 
 #[tactic(auto, using(std::proofs::lemmas::Grind::common_steps, crate::proofs::Views::branches_seen))]
@@ -400,16 +380,14 @@ fn close_select(
     ensures { OnOk result (built_view built.new ≡ closing (setting_view setting.entry) (Close.Select mode count) (built_view built.old)) }
 {
     let branches = last_branches(&mut built.branches, count)?;
-    built.stmts.push(Stmt::Select(mode, branches))?;
-    Ok(())
+    put(&mut built.stmts, Stmt::Select(mode, branches))
 }
 
 fn close_branch(setting: Setting<'_>, built: &mut Built, count: usize) -> Result<(), AllocError>
     ensures { OnOk result (built_view built.new ≡ closing (setting_view setting.entry) (Close.Branch count) (built_view built.old)) }
 {
     let stmts = last_stmts(&mut built.stmts, count)?;
-    built.branches.push(stmts)?;
-    Ok(())
+    put(&mut built.branches, stmts)
 }
 
 #[tactic(auto, using(std::proofs::lemmas::Grind::common_steps, crate::proofs::Views::branches_seen))]
@@ -417,8 +395,7 @@ fn close_body(setting: Setting<'_>, built: &mut Built, count: usize) -> Result<(
     ensures { OnOk result (built_view built.new ≡ closing (setting_view setting.entry) (Close.Body count) (built_view built.old)) }
 {
     let branches = last_branches(&mut built.branches, count)?;
-    built.bodies.push(Body { branches })?;
-    Ok(())
+    put(&mut built.bodies, Body { branches })
 }
 
 fn close_arm(alloc: Global, setting: Setting<'_>, built: &mut Built) -> Result<(), AllocError>
@@ -426,8 +403,7 @@ fn close_arm(alloc: Global, setting: Setting<'_>, built: &mut Built) -> Result<(
 {
     let body = pop_body(alloc, &mut built.bodies);
     let condition = pop_body(alloc, &mut built.bodies);
-    built.arms.push(Arm { condition, body })?;
-    Ok(())
+    put(&mut built.arms, Arm { condition, body })
 }
 
 fn close_change(
@@ -439,8 +415,7 @@ fn close_change(
     ensures { OnOk result (built_view built.new ≡ closing (setting_view setting.entry) (Close.Change set count) (built_view built.old)) }
 {
     let head = last_head(built, count)?;
-    built.changes.push(NowChange { head, set })?;
-    Ok(())
+    put(&mut built.changes, NowChange { head, set })
 }
 
 /// Closes a construct, whose parts were built last.

@@ -98,15 +98,22 @@ fn weight_of(sort: Sort, mentions: &[Mention<'_>]) -> Result<usize, AllocError>
     Ok(weight)
 }
 
+// A count with how much these weigh in a sort.
+fn counted(count: usize, sort: Sort, mentions: &[Mention<'_>]) -> Result<usize, AllocError>
+    ensures { IfOk result (λ n. n ≡ count + weight_of (weight_at sort) (things_at (seen mentions.now))) }
+{
+    sum(count, weight_of(sort, mentions)?)
+}
+
 // The counts behind these mentions.
 fn behind(counts: Counts, mentions: &[Mention<'_>]) -> Result<Counts, AllocError>
     ensures { IfOk result (λ new. counts_view new ≡ counted (things_at (seen mentions.now)) (counts_view counts)) }
 {
     Ok(Counts {
-        rules: sum(counts.rules, weight_of(Sort::Rule, mentions)?)?,
-        closures: sum(counts.closures, weight_of(Sort::Closure, mentions)?)?,
-        selects: sum(counts.selects, weight_of(Sort::Select, mentions)?)?,
-        nodes: sum(counts.nodes, weight_of(Sort::Node, mentions)?)?,
+        rules: counted(counts.rules, Sort::Rule, mentions)?,
+        closures: counted(counts.closures, Sort::Closure, mentions)?,
+        selects: counted(counts.selects, Sort::Select, mentions)?,
+        nodes: counted(counts.nodes, Sort::Node, mentions)?,
     })
 }
 
@@ -147,7 +154,7 @@ fn queries_in(alloc: Global, items: &[Item]) -> Result<usize, AllocError>
     let mut queries = 0;
     for item in items {
         let mentions = counted_mentions(alloc, &item.body)?;
-        queries = sum(queries, weight_of(Sort::Query, mentions.as_slice())?)?;
+        queries = counted(queries, Sort::Query, mentions.as_slice())?;
     }
     Ok(queries)
 }

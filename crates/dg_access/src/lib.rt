@@ -6,6 +6,7 @@ mod built;
 mod counts;
 mod fresh;
 mod laws;
+mod lists;
 mod numbers;
 mod plain;
 mod puts;
@@ -17,13 +18,14 @@ mod totals;
 mod variables;
 mod work;
 
-pub use built::{Built, close, let_go, unbuilt};
+pub use built::{Built, close, let_go, pop_body, unbuilt};
 pub use counts::{Counts, add_items, uncounted};
 pub use fresh::{copied, take_number};
 pub use laws::{
     choices_differ, mentions_come_from_the_source, nothing_is_left, plain_heads_keep_names,
     small_items_have_few_variables, unnamed_variables_differ,
 };
+pub use lists::put;
 pub use numbers::free_number;
 pub use rules::plain_tree;
 pub use setting::Setting;

@@ -8,6 +8,7 @@ ghost use Rattle.dg_access.specs.Items as spec;
 ghost use Rattle.dg_access.specs.Plain.{choice_mark};
 ghost use Rattle.dg_access.specs.State.{seen};
 
+use crate::lists::put;
 use dg_base::{ItemBody, Mention, mentions_of};
 use std::alloc::{AllocError, Global};
 
@@ -52,7 +53,7 @@ fn add_name<'a>(names: &mut Vec<&'a [u8]>, mention: Mention<'a>) -> Result<(), A
     ensures { OnOk result (seen names.new.items ≡ seen names.old.items ++ names_in variable_in (thing_at (mention_view mention.entry))) }
 {
     if let Mention::Variable(name) = mention {
-        names.push(name)?;
+        put(names, name)?;
     }
     Ok(())
 }

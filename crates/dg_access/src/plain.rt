@@ -6,6 +6,7 @@ ghost use Rattle.dg_access.specs.Plain as spec;
 ghost use Rattle.dg_access.specs.State.{setting_view};
 
 use crate::built::{Built, let_go, pop_body, rule_of, unbuilt};
+use crate::lists::put;
 use crate::setting::Setting;
 use crate::steps::step;
 use crate::work::Work;
@@ -57,8 +58,8 @@ fn work_of<'a>(
     ensures { IfOk result (λ left. left.items ≡ Work.Body body.entry ∷ Work.Parts true parts.entry ∷ []) }
 {
     let mut left = Vec::new(alloc);
-    left.push(Work::Body(body))?;
-    left.push(Work::Parts(true, parts))?;
+    put(&mut left, Work::Body(body))?;
+    put(&mut left, Work::Parts(true, parts))?;
     Ok(left)
 }
 
@@ -67,7 +68,7 @@ fn head_work<'a>(alloc: Global, parts: &'a [Part]) -> Result<Vec<Work<'a>>, Allo
     ensures { IfOk result (λ left. left.items ≡ Work.Parts false parts.entry ∷ []) }
 {
     let mut left = Vec::new(alloc);
-    left.push(Work::Parts(false, parts))?;
+    put(&mut left, Work::Parts(false, parts))?;
     Ok(left)
 }
 
@@ -93,11 +94,12 @@ pub fn plain_parts_of(
     let parts = head.parts.as_slice();
     let left = work_of(alloc, parts, body)?;
     let built = built_of(alloc, setting, left)?;
-    let (parts, mut bodies, puts) = rule_of(built);
+    let (parts, mut bodies, puts) = rule_of(alloc, built);
     let head = Head {
         parts: Items::from_vec(parts),
     };
     let body = pop_body(alloc, &mut bodies);
+    drop(bodies);
     Ok(Plain { head, puts, body })
 }
 
@@ -108,7 +110,9 @@ pub fn plain_head(alloc: Global, setting: Setting<'_>, head: &Head) -> Result<He
     let parts = head.parts.as_slice();
     let left = head_work(alloc, parts)?;
     let built = built_of(alloc, setting, left)?;
-    let (parts, _bodies, _puts) = rule_of(built);
+    let (parts, bodies, puts) = rule_of(alloc, built);
+    drop(bodies);
+    drop(puts);
     Ok(Head {
         parts: Items::from_vec(parts),
     })

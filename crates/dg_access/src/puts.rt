@@ -6,6 +6,7 @@ ghost use Rattle.dg_base.specs.TreeView.{part_view, stmt_view, body_view, head_v
 ghost use Rattle.dg_access.specs.Plain as spec;
 
 use crate::fresh::copied;
+use crate::lists::put;
 use dg_base::{Body, Head, Items, Name, Part, Stmt, Value};
 use std::alloc::{AllocError, Global};
 
@@ -41,9 +42,9 @@ fn test_parts(alloc: Global, name: &[u8], word: &[u8]) -> Result<Vec<Part>, Allo
     ensures { IfOk result (λ new. parts_of (map part_view new.items) ≡ spec.test_parts name.now word.now) }
 {
     let mut parts = Vec::new(alloc);
-    parts.push(Part::Value(Value::Var(copied(alloc, name)?)))?;
-    parts.push(Part::Word(copied(alloc, b"=")?))?;
-    parts.push(Part::Value(Value::Word(copied(alloc, word)?)))?;
+    put(&mut parts, Part::Value(Value::Var(copied(alloc, name)?)))?;
+    put(&mut parts, Part::Word(copied(alloc, b"=")?))?;
+    put(&mut parts, Part::Value(Value::Word(copied(alloc, word)?)))?;
     Ok(parts)
 }
 
@@ -60,7 +61,7 @@ fn word_branches(alloc: Global, name: &[u8], words: &[Name]) -> Result<Body, All
 {
     let mut branches = Vec::new(alloc);
     for word in words {
-        branches.push(word_branch(alloc, name, word.as_slice())?)?;
+        put(&mut branches, word_branch(alloc, name, word.as_slice())?)?;
     }
     Ok(body_of(branches))
 }

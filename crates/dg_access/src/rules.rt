@@ -9,6 +9,7 @@ ghost use Rattle.dg_access.specs.Items as items;
 ghost use Rattle.dg_access.specs.State.{setting_view};
 
 use crate::fresh::copied;
+use crate::lists::put;
 use crate::numbers::free_number;
 use crate::plain::{Plain, plain_head, plain_parts_of};
 use crate::puts::{body_of, one_stmt};
@@ -61,7 +62,7 @@ fn one_branch(alloc: Global, stmts: Items<Stmt>) -> Result<Body, AllocError>
     ensures { IfOk result (λ new. body_view new ≡ tree.branch (stmts_of (map stmt_view stmts)) tree.no_branches) }
 {
     let mut branches = Vec::new(alloc);
-    branches.push(stmts)?;
+    put(&mut branches, stmts)?;
     Ok(body_of(branches))
 }
 
@@ -159,12 +160,10 @@ pub fn plain_tree(alloc: Global, tree: &Tree) -> Result<Tree, AllocError>
     let mut new = Vec::new(alloc);
     let mut topic: Option<&[u8]> = None;
     for item in tree.items.as_slice() {
+        let line = item.line;
         let body = plain_said(alloc, topic, &item.body)?;
         topic = topic_behind(topic, &item.body);
-        new.push(Item {
-            line: item.line,
-            body,
-        })?;
+        put(&mut new, Item { line, body })?;
     }
     Ok(Tree {
         items: Items::from_vec(new),

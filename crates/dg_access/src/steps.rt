@@ -11,6 +11,7 @@ ghost use Rattle.dg_access.specs.State.{setting_view};
 
 use crate::built::{Built, close};
 use crate::fresh::{choice_name, copied, take_number, unnamed_name};
+use crate::lists::put;
 use crate::puts::choice_test;
 use crate::setting::Setting;
 use crate::standing::topic_value;
@@ -22,9 +23,8 @@ use std::alloc::{AllocError, Global};
 fn put_off<'a>(left: &mut Vec<Work<'a>>, close: Close, first: Work<'a>) -> Result<(), AllocError>
     ensures { OnOk result (left.new.items ≡ left.old.items ++ Work.Close close ∷ first.entry ∷ []) }
 {
-    left.push(Work::Close(close))?;
-    left.push(first)?;
-    Ok(())
+    put(left, Work::Close(close))?;
+    put(left, first)
 }
 
 fn put_off_two<'a>(
@@ -35,10 +35,9 @@ fn put_off_two<'a>(
 ) -> Result<(), AllocError>
     ensures { OnOk result (left.new.items ≡ left.old.items ++ Work.Close close ∷ second.entry ∷ first.entry ∷ []) }
 {
-    left.push(Work::Close(close))?;
-    left.push(second)?;
-    left.push(first)?;
-    Ok(())
+    put(left, Work::Close(close))?;
+    put(left, second)?;
+    put(left, first)
 }
 
 // Puts off what is gathered, and what is closed behind it.
@@ -52,11 +51,10 @@ fn put_off_gathering<'a>(
     ensures { OnOk result (left.new.items ≡ left.old.items ++ Work.Close close ∷ Work.Value false into.entry ∷ Work.Body body.entry
         ∷ Work.Value false value.entry ∷ []) }
 {
-    left.push(Work::Close(close))?;
-    left.push(Work::Value(false, into))?;
-    left.push(Work::Body(body))?;
-    left.push(Work::Value(false, value))?;
-    Ok(())
+    put(left, Work::Close(close))?;
+    put(left, Work::Value(false, into))?;
+    put(left, Work::Body(body))?;
+    put(left, Work::Value(false, value))
 }
 
 // Puts off the first of a list behind all others, with what is closed behind it.
@@ -68,17 +66,15 @@ fn put_off_first<'a>(
 ) -> Result<(), AllocError>
     ensures { OnOk result (left.new.items ≡ left.old.items ++ others.entry ∷ Work.Close close ∷ first.entry ∷ []) }
 {
-    left.push(others)?;
-    left.push(Work::Close(close))?;
-    left.push(first)?;
-    Ok(())
+    put(left, others)?;
+    put(left, Work::Close(close))?;
+    put(left, first)
 }
 
 fn put_off_others<'a>(left: &mut Vec<Work<'a>>, others: Work<'a>) -> Result<(), AllocError>
     ensures { OnOk result (left.new.items ≡ left.old.items ++ others.entry ∷ []) }
 {
-    left.push(others)?;
-    Ok(())
+    put(left, others)
 }
 
 fn put_off_both<'a>(
@@ -88,17 +84,15 @@ fn put_off_both<'a>(
 ) -> Result<(), AllocError>
     ensures { OnOk result (left.new.items ≡ left.old.items ++ others.entry ∷ first.entry ∷ []) }
 {
-    left.push(others)?;
-    left.push(first)?;
-    Ok(())
+    put(left, others)?;
+    put(left, first)
 }
 
 fn put_value(built: &mut Built, value: Value) -> Result<(), AllocError>
     ensures { OnOk result (built_view built.new ≡
         record (built_view built.old) { values = map value_view built.old.values.items ++ value_view value ∷ [] }) }
 {
-    built.values.push(value)?;
-    Ok(())
+    put(&mut built.values, value)
 }
 
 fn put_word(alloc: Global, built: &mut Built, word: &[u8]) -> Result<(), AllocError>
@@ -107,8 +101,16 @@ fn put_word(alloc: Global, built: &mut Built, word: &[u8]) -> Result<(), AllocEr
           ++ tree.part_word word.now ∷ [];
     }) }
 {
-    built.parts.push(Part::Word(copied(alloc, word)?))?;
-    Ok(())
+    put(&mut built.parts, Part::Word(copied(alloc, word)?))
+}
+
+fn put_text(alloc: Global, built: &mut Built, word: &[u8]) -> Result<(), AllocError>
+    ensures { OnOk result (built_view built.new ≡ record (built_view built.old) {
+      stmts = map stmt_view built.old.stmts.items
+          ++ tree.text word.now ∷ [];
+    }) }
+{
+    put(&mut built.stmts, Stmt::Text(copied(alloc, word)?))
 }
 
 fn put_anonymous(alloc: Global, setting: Setting<'_>, built: &mut Built) -> Result<(), AllocError>
@@ -135,9 +137,7 @@ fn put_choice(
     let number = take_number(&mut built.at)?;
     let name = choice_name(alloc, setting.number, number)?;
     if puts {
-        built
-            .puts
-            .push(choice_test(alloc, name.as_slice(), words)?)?;
+        put(&mut built.puts, choice_test(alloc, name.as_slice(), words)?)?;
     }
     put_value(built, Value::Var(name))
 }
@@ -286,7 +286,7 @@ fn look_arms<'a>(left: &mut Vec<Work<'a>>, arms: &'a [Arm]) -> Result<(), AllocE
     match arms {
         [] => Ok(()),
         [first, others @ ..] => {
-            left.push(Work::Arms(others))?;
+            put(left, Work::Arms(others))?;
             put_off_two(
                 left,
                 Close::Arm,
@@ -355,12 +355,7 @@ fn look_stmt<'a>(
         (after_stmt (setting_view setting.entry) (stmt_view stmt.now)) left.old.items left.new.items built.old built.new) }
 {
     match stmt {
-        Stmt::Text(word) => {
-            built
-                .stmts
-                .push(Stmt::Text(copied(alloc, word.as_slice())?))?;
-            Ok(())
-        }
+        Stmt::Text(word) => put_text(alloc, built, word.as_slice()),
         Stmt::Print(value) => put_off(left, Close::Print, Work::Value(false, value)),
         Stmt::Ask(head) => look_query(left, Asking::One, head),
         Stmt::AskAll(head) => look_query(left, Asking::All, head),

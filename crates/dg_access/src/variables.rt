@@ -8,6 +8,7 @@ ghost use Rattle.dg_base.specs.Walk.{met, opens, closes, walk, mention_view, see
 ghost use Rattle.dg_access.specs.Scopes.{with_places, place_of, is_full, stays, merged, passes};
 ghost use Rattle.dg_access.specs.State.{entry_view, scope_view, stack_of, total_in, IsNoted};
 
+use crate::lists::put;
 use crate::totals::{sum, total_of, totals_among};
 use dg_base::{ItemBody, Mention};
 use indexmap::IndexMap;
@@ -57,7 +58,7 @@ pub fn add_places<'a>(
     if at < scope.len() {
         scope[at].places = sum(scope[at].places, places)?;
     } else {
-        scope.push(Entry { name, places })?;
+        put(scope, Entry { name, places })?;
     }
     Ok(())
 }
@@ -110,7 +111,7 @@ fn open(alloc: Global, scopes: &mut Scopes<'_>) -> Result<(), AllocError>
     ensures outer { OnOk result (stack_of scopes.new.outer.items ≡ scope_view scopes.old.inner.items ∷ stack_of scopes.old.outer.items) }
 {
     let outer = mem::replace(&mut scopes.inner, Vec::new(alloc));
-    scopes.outer.push(outer)?;
+    put(&mut scopes.outer, outer)?;
     Ok(())
 }
 

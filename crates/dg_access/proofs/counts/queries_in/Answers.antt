@@ -23,7 +23,7 @@ loop-item-preserved c =
     let here : drop k items ≡ x ∷ drop (k + 1) items = drop_more items k x lt ∙ ap (λ (y : Item). y ∷ drop (k + 1) items) (sym same) in
     let ts = things (counted_of (said_view x.body)) in
     let rest = counted_among (map item_view (drop (k + 1) items)) in
-    let found = c.in_ok-weight_of.ensures ∙ ap (weight_of queries_at) (ap (λ (ms : List Mention). things_at (seen ms)) c.as_slice.ensures.value ∙ c.in_ok-mentions.ensures.things) in
+    let found = ap (weight_of queries_at) (ap (λ (ms : List Mention). things_at (seen ms)) c.as_slice.ensures.value ∙ c.in_ok-mentions.ensures.things) in
     added c.in_ok-queries.queries c.loop-item.queries (weight_of queries_at ts) (weight_of queries_at rest) (weight_of queries_at (counted_among (map item_view items))) (weight_of queries_at (ts ++ rest))
     (c.in_ok-queries.ensures ∙ ap (λ (w : ℕ). c.loop-item.queries + w) found) (weight_append queries_at ts rest)
     (ap (λ (l : List Item). c.loop-item.queries + weight_of queries_at (counted_among (map item_view l))) (sym here) ∙ c.loop-item.invariant)

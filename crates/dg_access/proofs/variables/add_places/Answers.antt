@@ -17,10 +17,10 @@ returns-in_ok-scope c =
     (sym (c.place_of-at.ensures ∙ ap (λ (es : List Entry). place_of (scope_view es) c.args.name.now) c.as_slice.ensures.value))
     lt c.index_mut.ensures.value c.index.ensures
 
-pub returns-in_ok-push : goal.returns-in_ok-push
-returns-in_ok-push c =
+pub returns-in_ok-put : goal.returns-in_ok-put
+returns-in_ok-put c =
     let items = c.args.scope.now.items in
     let le : length items ≤ c.place_of-at.result = omega (arith, c.len.ensures) in
-    ap scope_view c.in_ok-push.ensures.items
+    ap scope_view c.in_ok-put.ensures
     ∙ put_behind items (record { name = c.args.name; places = c.args.places }) c.place_of-at.result
     (c.place_of-at.ensures ∙ ap (λ (es : List Entry). place_of (scope_view es) c.args.name.now) c.as_slice.ensures.value) le

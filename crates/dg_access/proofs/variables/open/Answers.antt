@@ -6,7 +6,7 @@ use Rattle.dg_access.proofs.variables.open.Goals as goal
 
 pub returns-clause-outer : goal.returns-clause-outer
 returns-clause-outer c =
-    ap stack_of c.in_ok-push.ensures.items
+    ap stack_of c.in_ok-put.ensures
     ∙ stack_push c.args.scopes.now.outer.items c.replace-outer.result
     ∙ ap (λ (s : Vec Entry Global). scope_view s.items ∷ stack_of c.args.scopes.now.outer.items) c.replace-outer.ensures.value
 
