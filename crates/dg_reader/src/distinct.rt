@@ -35,13 +35,12 @@ fn add_part(alloc: Global, names: &mut IndexSet<Vec<u8>>, part: &Part) -> Result
     }
 }
 
-// Whether these are words and variables of which none stands twice.
-fn are_new(alloc: Global, parts: &[Part]) -> Result<bool, AllocError>
-    ensures { IfOk result (λ new. new ≡ are_new [] (parts_of (map part_view parts.now))) }
+// Whether these are words and new variables of which none stands twice, which are then known.
+fn are_new(alloc: Global, names: &mut IndexSet<Vec<u8>>, parts: &[Part]) -> Result<bool, AllocError>
+    ensures { IfOk result (λ new. new ≡ are_new (listed names.old) (parts_of (map part_view parts.now))) }
 {
-    let mut names = IndexSet::new(alloc);
     for part in parts {
-        if !add_part(alloc, &mut names, part)? {
+        if !add_part(alloc, names, part)? {
             return Ok(false);
         }
     }
@@ -53,6 +52,8 @@ fn are_new(alloc: Global, parts: &[Part]) -> Result<bool, AllocError>
 pub fn are_distinct_variables(alloc: Global, parts: &[Part]) -> Result<bool, AllocError>
     ensures { IfOk result (λ distinct. distinct ≡ spec.are_distinct_variables (parts_of (map part_view parts.now))) }
 {
-    let distinct = are_new(alloc, parts)?;
-    Ok(distinct)
+    let mut names = IndexSet::new(alloc);
+    let distinct = are_new(alloc, &mut names, parts);
+    drop(names);
+    Ok(distinct?)
 }

@@ -14,7 +14,7 @@ use crate::frames::{Frame, Owner, Stop, Wrapper};
 use crate::keyword::{Bare, Keyword};
 use crate::open::new_body;
 use crate::put::{put_frame, put_stmt, refuse, refuse_body, refuse_keyword};
-use crate::release::{let_go_frame, let_go_keyword};
+use crate::release::{let_go_body, let_go_frame, let_go_keyword};
 use dg_base::{Items, Mode, Stmt, Value};
 use std::alloc::Global;
 
@@ -72,8 +72,13 @@ fn put_waiting(
         (machine.in_body (owner_view owner) (map branch_view branches) (map stmt_view stmts) (map wrapper_view wrappers) ∷
         stack_view stack.old.items)) result (stack_view stack.new.items) }
 {
-    wrappers.push(wrapper)?;
-    put_frame(stack, Frame::InBody(owner, branches, stmts, wrappers))
+    match wrappers.push(wrapper) {
+        Ok(()) => put_frame(stack, Frame::InBody(owner, branches, stmts, wrappers)),
+        Err(_) => {
+            let_go_body(owner, branches, stmts);
+            Err(Stop::OutOfMemory)
+        }
+    }
 }
 
 fn wait(stack: &mut Vec<Frame>, wrapper: Wrapper) -> Result<(), Stop>
@@ -98,11 +103,17 @@ fn end_branch(
     ensures { Moves (machine.end_of (grammar.bare grammar.or_word) (owner_view owner) (map branch_view branches) (map stmt_view stmts)
         (stack_view stack.old.items)) result (stack_view stack.new.items) }
 {
-    branches.push(stmts)?;
-    put_frame(
-        stack,
-        Frame::InBody(owner, branches, Items::new(alloc), Items::new(alloc)),
-    )
+    match branches.push(stmts) {
+        Ok(()) => put_frame(
+            stack,
+            Frame::InBody(owner, branches, Items::new(alloc), Items::new(alloc)),
+        ),
+        Err(_) => {
+            drop(owner);
+            drop(branches);
+            Err(Stop::OutOfMemory)
+        }
+    }
 }
 
 fn end_condition(
@@ -223,7 +234,10 @@ fn end_gathering(
         Owner::Accumulate(value) => {
             put_stmt(alloc, stack, accumulated(value, branches, stmts, into)?)
         }
-        other => refuse_body(other, branches, stmts),
+        other => {
+            drop(into);
+            refuse_body(other, branches, stmts)
+        }
     }
 }
 

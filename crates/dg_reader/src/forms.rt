@@ -211,7 +211,14 @@ pub fn collected(
     ensures { IfOk result (λ s. stmt_view s ≡ tree.collect (value_view value) (machine.body_of (map branch_view branches) (map stmt_view stmts))
         (value_view into)) }
 {
-    Ok(collect(value, body(branches, stmts)?, into))
+    match body(branches, stmts) {
+        Ok(body) => Ok(collect(value, body, into)),
+        Err(fault) => {
+            drop(value);
+            drop(into);
+            Err(fault)
+        }
+    }
 }
 
 /// What a body whose branches these are accumulates.
@@ -224,7 +231,14 @@ pub fn accumulated(
     ensures { IfOk result (λ s. stmt_view s ≡ tree.accumulate (value_view value) (machine.body_of (map branch_view branches) (map stmt_view stmts))
         (value_view into)) }
 {
-    Ok(accumulate(value, body(branches, stmts)?, into))
+    match body(branches, stmts) {
+        Ok(body) => Ok(accumulate(value, body, into)),
+        Err(fault) => {
+            drop(value);
+            drop(into);
+            Err(fault)
+        }
+    }
 }
 
 pub fn select(mode: Mode, branches: Items<Items<Stmt>>) -> Stmt

@@ -6,7 +6,7 @@ use dg_base::{Arm, Body, Head, Items, Name, NowChange, Part, Stmt, Value};
 use std::alloc::{AllocError, AllocFailed};
 
 /// Why an item isn't read on.
-#[derive(Clone, Copy, Debug, PartialEq, Eq)]
+#[derive(Clone, Copy)]
 pub enum Stop {
     Unexpected,
     OutOfMemory,
@@ -29,7 +29,7 @@ impl<T: Drop> From<AllocFailed<T>> for Stop {
 }
 
 /// What the sign before a head makes of its item.
-#[derive(Clone, Copy, Debug, PartialEq, Eq)]
+#[derive(Clone, Copy, PartialEq, Eq)]
 pub enum Sign {
     Plain,
     Negated,
@@ -37,7 +37,7 @@ pub enum Sign {
 }
 
 /// Which answers a query asks for.
-#[derive(Clone, Copy, Debug, PartialEq, Eq)]
+#[derive(Clone, Copy)]
 pub enum Asking {
     ForOne,
     ForAll,
@@ -45,7 +45,7 @@ pub enum Asking {
 }
 
 /// A keyword that waits for its statement.
-#[derive(Clone, Copy, Debug, PartialEq, Eq)]
+#[derive(Clone, Copy)]
 pub enum Wrapper {
     Exhausting,
     Stopping,

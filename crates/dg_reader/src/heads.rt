@@ -364,7 +364,10 @@ fn into_query(part: Part) -> Option<Head>
 {
     match part {
         Part::Value(Value::Query(head)) => Some(head),
-        _ => None,
+        other => {
+            drop(other);
+            None
+        }
     }
 }
 

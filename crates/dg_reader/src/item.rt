@@ -25,7 +25,7 @@ pub enum Shape {
 }
 
 /// Why tokens have no shape: they may go on, or the token of this number may not stand there.
-#[derive(Clone, Copy, Debug, PartialEq, Eq)]
+#[derive(Clone, Copy)]
 pub enum ShapeFault {
     Unclosed,
     Unexpected(usize),

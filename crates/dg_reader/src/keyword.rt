@@ -12,7 +12,7 @@ use crate::words::is_text;
 use dg_base::{Items, Mode, Part, Value};
 
 /// A keyword without a value.
-#[derive(Clone, Copy, Debug, PartialEq, Eq)]
+#[derive(Clone, Copy)]
 pub enum Bare {
     Now,
     If,
@@ -37,7 +37,7 @@ pub enum Keyword {
 }
 
 /// The word of a keyword with a value.
-#[derive(Clone, Copy, Debug, PartialEq, Eq)]
+#[derive(Clone, Copy)]
 pub enum Valued {
     Collect,
     Accumulate,

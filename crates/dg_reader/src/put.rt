@@ -80,11 +80,17 @@ fn put_in_body(
         (machine.in_body (owner_view owner) (map branch_view branches) (map stmt_view stmts) (map wrapper_view wrappers) ∷
         stack_view stack.old.items)) result (stack_view stack.new.items) }
 {
-    let stmts = one_more_stmt(alloc, stmts, wrappers, stmt)?;
-    put_frame(
-        stack,
-        Frame::InBody(owner, branches, stmts, Items::new(alloc)),
-    )
+    match one_more_stmt(alloc, stmts, wrappers, stmt) {
+        Ok(stmts) => put_frame(
+            stack,
+            Frame::InBody(owner, branches, stmts, Items::new(alloc)),
+        ),
+        Err(_) => {
+            drop(owner);
+            drop(branches);
+            Err(Stop::OutOfMemory)
+        }
+    }
 }
 
 // A statement may not stand there.
@@ -128,8 +134,14 @@ pub fn put_part(stack: &mut Vec<Frame>, part: Part) -> Result<(), Stop>
         Some(Frame::InChange(set, parts)) => {
             put_frame(stack, Frame::InChange(set, one_more_part(parts, part)?))
         }
-        Some(frame) => refuse(frame),
-        None => Err(Stop::Unexpected),
+        Some(frame) => {
+            drop(part);
+            refuse(frame)
+        }
+        None => {
+            drop(part);
+            Err(Stop::Unexpected)
+        }
     }
 }
 
@@ -155,8 +167,14 @@ fn put_element(stack: &mut Vec<Frame>, value: Value) -> Result<(), Stop>
         Some(Frame::InTail(choices, values)) => {
             put_frame(stack, Frame::InListEnd(choices, values, value))
         }
-        Some(frame) => refuse(frame),
-        None => Err(Stop::Unexpected),
+        Some(frame) => {
+            drop(value);
+            refuse(frame)
+        }
+        None => {
+            drop(value);
+            Err(Stop::Unexpected)
+        }
     }
 }
 
