@@ -51,13 +51,13 @@ falls E (Some a) (Some b) n h = h
 -- ## One after another
 
 pub wrote_nothing : (a : SinkView) → Wrote a a []
-wrote_nothing a = record { taken = appends_same a.taken; room = falls_same a.room; later = omega arith }
+wrote_nothing a = record { taken = appends_same a.taken; room = falls_same a.room; steady = refl }
 
 pub wrote_on : (a b c : SinkView) (xs ys : List ℕ) → Wrote a b xs → Wrote b c ys → Wrote a c (xs ++ ys)
 wrote_on a b c xs ys h k = record {
   taken = appends_on a.taken b.taken c.taken xs ys h.taken k.taken;
   room = falls_on a.room b.room c.room (length xs) (length ys) (length (xs ++ ys)) (length-append xs ys) h.room k.room;
-  later = omega (arith, h.later, k.later);
+  steady = k.steady ∙ h.steady;
 }
 
 -- a failure in a front of the bytes
@@ -65,6 +65,7 @@ pub broke_first : (a b : SinkView) (xs ys : List ℕ) → BrokeOff a b xs → Br
 broke_first a b xs ys h = record {
   later = h.later;
   rose = h.rose;
+  once = h.once;
   part = h.part;
   rest = h.rest ++ ys;
   is = ap (λ l. l ++ ys) h.is ∙ append_assoc h.part h.rest ys;
@@ -75,8 +76,9 @@ broke_first a b xs ys h = record {
 -- a failure behind a front of the bytes
 pub broke_later : (a b c : SinkView) (xs ys : List ℕ) → Wrote a b xs → BrokeOff b c ys → BrokeOff a c (xs ++ ys)
 broke_later a b c xs ys h k = record {
-  later = omega (arith, h.later, k.later);
-  rose = let le = h.later in let r = k.rose in omega arith;
+  later = omega (arith, h.steady, k.later);
+  rose = subst (λ n. Rose n c.faults) h.steady k.rose;
+  once = omega (arith, h.steady, k.once);
   part = xs ++ k.part;
   rest = k.rest;
   is = ap (λ l. xs ++ l) k.is ∙ sym (append_assoc xs k.part k.rest);
@@ -111,11 +113,11 @@ rest_is bytes at = all_taken (drop at bytes) (length bytes - at) (omega (arith, 
 pub rest_length : (bytes : List ℕ) (at : ℕ) → length (rest_at bytes at) ≡ length bytes - at
 rest_length bytes at = ap length (rest_is bytes at) ∙ length-drop at bytes
 
-pub wrote_more : (a b c : SinkView) (bytes : List ℕ) (at n : ℕ) → n ≤ length (rest_at bytes at) → Wrote a b (take at bytes) → Appends b.taken c.taken (take n (rest_at bytes at)) → FallsBy b.room c.room n → b.faults ≤ c.faults → Wrote a c (take (at + n) bytes)
+pub wrote_more : (a b c : SinkView) (bytes : List ℕ) (at n : ℕ) → n ≤ length (rest_at bytes at) → Wrote a b (take at bytes) → Appends b.taken c.taken (take n (rest_at bytes at)) → FallsBy b.room c.room n → c.faults ≡ b.faults → Wrote a c (take (at + n) bytes)
 wrote_more a b c bytes at n le h t r f =
     let rest = rest_is bytes at in
     let len : length (take n (rest_at bytes at)) ≡ n = length-take n (rest_at bytes at) ∙ omega arith in
-    let put : Wrote b c (take n (rest_at bytes at)) = record { taken = t; room = subst (FallsBy b.room c.room) (sym len) r; later = f } in
+    let put : Wrote b c (take n (rest_at bytes at)) = record { taken = t; room = subst (FallsBy b.room c.room) (sym len) r; steady = f } in
     subst (Wrote a c) (ap (λ l. take at bytes ++ take n l) rest ∙ sym (take_sum bytes at n (at + n) refl)) (wrote_on a b c (take at bytes) (take n (rest_at bytes at)) h put)
 
 pub wrote_all : (a b : SinkView) (bytes : List ℕ) (at : ℕ) → length bytes ≤ at → Wrote a b (take at bytes) → Wrote a b bytes
@@ -125,9 +127,9 @@ over_refused : {E : Type 0} (room : Option ℕ) (piece : List ℕ) (e : E) → T
 over_refused None piece e h = tt
 over_refused (Some room) piece e h = let no : length piece ≤ room → ⊥ = λ le. let x = h le in cc in omega (arith, no)
 
-pub put_failed : {E : Type 0} (a b c : SinkView) (bytes : List ℕ) (at : ℕ) (e : E) → at ≤ length bytes → Wrote a b (take at bytes) → Keeps b.taken c.taken → TakesWithinRoom {E = E} b.room (rest_at bytes at) (Err e) → b.faults ≤ c.faults → Rose b.faults c.faults → BrokeOff a c bytes
-put_failed a b c bytes at e le h t r m f =
-    let here : BrokeOff b c (rest_at bytes at) = record { later = m; rose = f; part = []; rest = rest_at bytes at; is = refl; taken = appends_none b.taken c.taken t; over = over_refused b.room (rest_at bytes at) e r } in
+pub put_failed : {E : Type 0} (a b c : SinkView) (bytes : List ℕ) (at : ℕ) (e : E) → at ≤ length bytes → Wrote a b (take at bytes) → Keeps b.taken c.taken → TakesWithinRoom {E = E} b.room (rest_at bytes at) (Err e) → b.faults ≤ c.faults → Rose b.faults c.faults → c.faults ≤ b.faults + 1 → BrokeOff a c bytes
+put_failed a b c bytes at e le h t r m f once =
+    let here : BrokeOff b c (rest_at bytes at) = record { later = m; rose = f; once = once; part = []; rest = rest_at bytes at; is = refl; taken = appends_none b.taken c.taken t; over = over_refused b.room (rest_at bytes at) e r } in
     subst (BrokeOff a c) (ap (λ l. take at bytes ++ l) (rest_is bytes at) ∙ take-append-drop at bytes) (broke_later a b c (take at bytes) (rest_at bytes at) h here)
 
 -- ## One piece of many

@@ -7,7 +7,7 @@ use Rattle.dg_base.specs.declared.run.Fault.{Fault}
 use Rattle.dg_base.specs.declared.run.Fault.TheVariants as fault
 use Rattle.dg_base.specs.declared.run.RunFault.{RunFault}
 use Rattle.dg_base.specs.declared.run.RunFault.TheVariants as running
-use Rattle.dg_base.specs.declared.refusal.Kind.TheVariants.{BadByte, Unclosed, Unexpected, NotInProfile, BadHead, AccessLoop, BadNow, BadInitial, TooMany, NoEntry, SourceTooLong}
+use Rattle.dg_base.specs.declared.refusal.Kind.TheVariants.{BadByte, Unclosed, Unexpected, NotInProfile, BadHead, AccessLoop, BadNow, BadInitial, InitialTooLong, TooMany, NoEntry, SourceTooLong}
 
 -- the text of a kind of refusal
 abbrev pub text_of_kind : Kind → List ℕ
@@ -19,6 +19,7 @@ text_of_kind BadHead = codes "bad head"
 text_of_kind AccessLoop = codes "access rule loops or is repeated"
 text_of_kind BadNow = codes "cannot be changed here"
 text_of_kind BadInitial = codes "bad initial value"
+text_of_kind InitialTooLong = codes "initial value takes too long"
 text_of_kind TooMany = codes "too many"
 text_of_kind NoEntry = codes "no rule for (program entry point)"
 text_of_kind SourceTooLong = codes "source too long"

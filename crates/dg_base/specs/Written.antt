@@ -21,16 +21,17 @@ abbrev pub IsOver : Option ℕ → ℕ → Type 0
 IsOver None n = Unit {0}
 IsOver (Some room) n = room < n
 
--- The sink took all of these bytes.
+-- The sink took all of these bytes, and didn't fail.
 pub record Wrote (old new : SinkView) (bytes : List ℕ) : Type 0 where
   pub taken : Appends old.taken new.taken bytes
   pub room : FallsBy old.room new.room (length bytes)
-  pub later : old.faults ≤ new.faults
+  pub steady : new.faults ≡ old.faults
 
--- The sink failed while it was given these bytes: its count rose, it took a front of them, and they are more than a room that it told.
+-- The sink failed once while it was given these bytes: its count rose, it took a front of them, and they are more than a room that it told.
 pub record BrokeOff (old new : SinkView) (bytes : List ℕ) : Type 0 where
   pub later : old.faults ≤ new.faults
   pub rose : Rose old.faults new.faults
+  pub once : new.faults ≤ old.faults + 1
   pub part : List ℕ
   pub rest : List ℕ
   pub is : bytes ≡ part ++ rest

@@ -11,7 +11,7 @@ pub enum Simple {
 
 /// One unit of a value that is written out from its top, each part behind what holds it: a closure has its place and the
 /// number of its captured values, an unknown word the number of its characters.
-#[derive(Clone, Copy, PartialEq, Eq, Debug)]
+#[derive(Clone, Copy)]
 pub enum Cell {
     Num(u16),
     Word(u16),

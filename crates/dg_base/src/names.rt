@@ -13,7 +13,7 @@ use crate::program::{ArithOp, CompareOp, GapKind, TestKind};
 use crate::tree::Part;
 
 /// What a built-in query is.
-#[derive(Clone, Copy, PartialEq, Eq, Debug)]
+#[derive(Clone, Copy)]
 pub enum Builtin {
     Equal,
     Arith(ArithOp),

@@ -6,7 +6,7 @@ use sqlite_items::{Boxed, Items};
 pub type Name = Items<u8>;
 
 /// Which of the gap events.
-#[derive(Clone, Copy, PartialEq, Eq, Debug)]
+#[derive(Clone, Copy)]
 pub enum GapKind {
     NoSpace,
     Space,
@@ -16,7 +16,7 @@ pub enum GapKind {
 }
 
 /// How a select chooses.
-#[derive(Clone, Copy, PartialEq, Eq, Debug)]
+#[derive(Clone, Copy)]
 pub enum Mode {
     Stopping,
     Cycling,
@@ -27,7 +27,7 @@ pub enum Mode {
 }
 
 /// A test of a value.
-#[derive(Clone, Copy, PartialEq, Eq, Debug)]
+#[derive(Clone, Copy)]
 pub enum TestKind {
     Number,
     Word,
@@ -41,7 +41,7 @@ pub enum TestKind {
 }
 
 /// An operation on numbers.
-#[derive(Clone, Copy, PartialEq, Eq, Debug)]
+#[derive(Clone, Copy)]
 pub enum ArithOp {
     Plus,
     Minus,
@@ -51,7 +51,7 @@ pub enum ArithOp {
 }
 
 /// A comparison of numbers.
-#[derive(Clone, Copy, PartialEq, Eq, Debug)]
+#[derive(Clone, Copy)]
 pub enum CompareOp {
     Less,
     Greater,
@@ -130,7 +130,7 @@ pub struct Pred {
 }
 
 /// What a place keeps.
-#[derive(Clone, Copy, PartialEq, Eq, Debug)]
+#[derive(Clone, Copy)]
 pub enum PlaceKind {
     Flag,
     ObjectFlag,

@@ -3,7 +3,7 @@ ghost use Rattle.std.specs.Prelude.{◌≡◌, ◌≤◌, slice_index};
 ghost use Rattle.dg_base.specs.Units.{is_within, is_tail, is_second, is_two, is_three, is_four, six, character, unit_at};
 
 /// A unit of typed bytes: a character, or a byte that belongs to none; and how many bytes it has.
-#[derive(Clone, Copy, Debug, PartialEq, Eq)]
+#[derive(Clone, Copy)]
 pub struct Unit {
     pub character: Option<u32>,
     pub size: usize,

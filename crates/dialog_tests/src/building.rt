@@ -23,7 +23,7 @@ const CALLS: &[(&str, (u8, &str))] = &[
 #[test]
 fn sources_are_built_and_run(rt: HostRuntime) -> Result<(), Fail> {
     let mut shelf = SureShelf::new(rt.alloc());
-    shelf.add(rt.alloc(), "p.dg", SOURCE.as_bytes())?;
+    shelf.add("p.dg", SOURCE.as_bytes())?;
     for (line, wanted) in CALLS {
         let mut input = SureSource::new(Vec::new(rt.alloc()));
         answers(&rt, rt.alloc(), line, &mut shelf, &mut input, 200, *wanted)?;

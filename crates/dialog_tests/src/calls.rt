@@ -47,7 +47,7 @@ pub fn gives(
 ) -> Result<(), Fail> {
     let mut input = SureSource::new(typed.to_vec(alloc)?);
     let mut shelf = SureShelf::new(alloc);
-    shelf.add(alloc, name, file)?;
+    shelf.add(name, file)?;
     answers(rt, alloc, line, &mut shelf, &mut input, 200, wanted)
 }
 
@@ -55,7 +55,7 @@ pub fn gives(
 pub fn story_of(rt: &impl Abort, alloc: Global, source: &str) -> Result<Vec<u8>, Fail> {
     let mut input = SureSource::new(Vec::new(alloc));
     let mut shelf = SureShelf::new(alloc);
-    shelf.add(alloc, "p.dg", source.as_bytes())?;
+    shelf.add("p.dg", source.as_bytes())?;
     let line = "build p.dg p.z8";
     answers(rt, alloc, line, &mut shelf, &mut input, 99, (0, ""))?;
     let story = shelf.contents("p.z8").unwrap_or(b"");

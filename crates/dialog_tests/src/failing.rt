@@ -22,7 +22,7 @@ fn fails_at_input(
 ) -> Result<(), Fail> {
     let mut input = failing_input(alloc)?;
     let mut shelf = SureShelf::new(alloc);
-    shelf.add(alloc, "p", file)?;
+    shelf.add("p", file)?;
     answers(rt, alloc, line, &mut shelf, &mut input, 99, (5, text))
 }
 
@@ -45,7 +45,7 @@ fn a_failing_output_ends_a_story(rt: HostRuntime) -> Result<(), Fail> {
     let story = story(alloc, ASK)?;
     let mut input = SureSource::new(Vec::new(alloc));
     let mut shelf = SureShelf::new(alloc);
-    shelf.add(alloc, "s.z8", &story)?;
+    shelf.add("s.z8", &story)?;
     let line = "play s.z8";
     answers(&rt, alloc, line, &mut shelf, &mut input, 1, (5, "h"))
 }
@@ -55,7 +55,7 @@ const SOURCE: &[u8] = b"(a) x (b)\n(a) y\n(b) (c)\n(program entry point) (a) z\n
 // A shelf with one source, whose second call fails.
 fn failing_shelf(alloc: Global) -> Result<MapShelf, Fail> {
     let mut shelf = MapShelf::new(alloc, vec![in alloc; 1]?);
-    shelf.add(alloc, "p.dg", SOURCE)?;
+    shelf.add("p.dg", SOURCE)?;
     Ok(shelf)
 }
 

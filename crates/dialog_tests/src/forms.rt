@@ -26,6 +26,17 @@ fn a_sink_takes_a_piece_and_refuses_the_listed_call(rt: HostRuntime) -> Result<(
 }
 
 #[test]
+fn a_short_sink_takes_a_piece_in_parts(rt: HostRuntime) -> Result<(), Fail> {
+    let mut sink = ByteSink::short(rt.alloc(), 5, 2, vec![in rt.alloc(); 3]?)?;
+    let whole = write_all(&mut sink, b"abcde");
+    let none = write_all(&mut sink, b"f");
+    let again = sink.put(b"f");
+    let wanted = (Ok(()), Err(WriteFault), Err(Failed), b"abcde".as_slice());
+    same(&rt, &(whole, none, again, sink.taken()), &wanted, "parts");
+    Ok(())
+}
+
+#[test]
 fn a_sure_sink_takes_what_it_has_room_for(rt: HostRuntime) -> Result<(), Fail> {
     let mut sink = SureSink::new(rt.alloc(), 3)?;
     let both = write_both(&mut sink, b"a", b"b");
@@ -39,10 +50,10 @@ fn a_sure_sink_takes_what_it_has_room_for(rt: HostRuntime) -> Result<(), Fail> {
 fn a_shelf_keeps_what_is_added_and_stored(rt: HostRuntime) -> Result<(), Fail> {
     let alloc = rt.alloc();
     let mut shelf = MapShelf::new(alloc, vec![in alloc; 2]?);
-    shelf.add(alloc, "p.dg", b"(p)")?;
-    let first = shelf.store(alloc, "s.z8", b"story");
+    shelf.add("p.dg", b"(p)")?;
+    let first = shelf.store("s.z8", b"story");
     let fetched = shelf.fetch(alloc, "p.dg", 3).expect(&rt, "it has contents");
-    let second = shelf.store(alloc, "s.z8", b"other");
+    let second = shelf.store("s.z8", b"other");
     let stores = (first, second);
     same(&rt, &stores, &(Ok(()), Err(StoreFault::Failed)), "stores");
     let found = (Some(fetched.as_slice()), shelf.contents("s.z8"));
@@ -55,8 +66,8 @@ fn a_shelf_keeps_what_is_added_and_stored(rt: HostRuntime) -> Result<(), Fail> {
 fn a_sure_shelf_has_no_bytes_for_a_name_without_contents(rt: HostRuntime) -> Result<(), Fail> {
     let alloc = rt.alloc();
     let mut shelf = SureShelf::new(alloc);
-    shelf.add(alloc, "p.dg", b"(p)")?;
-    let stored = shelf.store(alloc, "q.dg", b"(q)");
+    shelf.add("p.dg", b"(p)")?;
+    let stored = shelf.store("q.dg", b"(q)");
     let fetched = shelf.fetch(alloc, "q.dg", 9).expect(&rt, "it never fails");
     let nothing = shelf.fetch(alloc, "r.dg", 0).expect(&rt, "it never fails");
     let found = (stored, fetched.as_slice(), nothing.len());
@@ -77,29 +88,29 @@ fn parts_of(alloc: Global, words: &[&str]) -> Result<Vec<Part>, AllocError> {
     Ok(parts)
 }
 
-// The words of a name, the name, whether it is a keyword's, one that the profile refuses, or the prelude's, and what is built in.
-const NAMES: &[(&[&str], &[u8], (bool, bool, bool), Option<Builtin>)] = &[
-    (&["elseif"], b"(elseif)", (true, false, false), None),
-    (&["bold"], b"(bold)", (false, true, false), None),
+// The words of a name, the name, whether it is a keyword's, one that the profile refuses, or the prelude's, and whether it is built in.
+const NAMES: &[(&[&str], &[u8], (bool, bool, bool), bool)] = &[
+    (&["elseif"], b"(elseif)", (true, false, false), false),
+    (&["bold"], b"(bold)", (false, true, false), false),
     (
         &["save", "undo", "$"],
         b"(save undo $)",
         (false, true, false),
-        None,
+        false,
     ),
     (
         &["$", "is", "one", "of", "$"],
         b"($ is one of $)",
         (false, false, true),
-        None,
+        false,
     ),
     (
         &["repeat", "forever"],
         b"(repeat forever)",
         (false, false, false),
-        Some(Builtin::RepeatForever),
+        true,
     ),
-    (&["repeat"], b"(repeat)", (false, false, false), None),
+    (&["repeat"], b"(repeat)", (false, false, false), false),
 ];
 
 #[test]
@@ -113,8 +124,9 @@ fn names_are_found_in_the_tables(rt: HostRuntime) -> Result<(), Fail> {
             is_prelude_name(parts),
         );
         same(&rt, &found, tables, "tables");
-        let named = (is_named(parts, name), builtin_of(parts));
-        same(&rt, &named, &(true, *builtin), "a name");
+        let forever = matches!(builtin_of(parts), Some(Builtin::RepeatForever));
+        let named = (is_named(parts, name), builtin_of(parts).is_some(), forever);
+        same(&rt, &named, &(true, *builtin, *builtin), "a name");
     }
     Ok(())
 }

@@ -65,12 +65,12 @@ fn story_of<K: Sink>(
 }
 
 // Hands a story to the shelf.
-fn store<F: Shelf, K: Sink>(alloc: Global, to: &str, story: &[u8], shelf: &mut F, out: &mut K) -> u8
+fn store<F: Shelf, K: Sink>(to: &str, story: &[u8], shelf: &mut F, out: &mut K) -> u8
     ensures { (before : ShelfView) → (name file dice : List ℕ) → (input : SourceView) → (p : Core) →
         IsFetched before (F.view shelf.old) name file → Compiles file (Ok p) → HasStory p story.now →
         Answers (call (Some (build_command name to.now)) dice before (F.view shelf.new) input input (K.view out.old) (K.view out.new)) result }
 {
-    match shelf.store(alloc, to, story) {
+    match shelf.store(to, story) {
         Ok(()) => DONE,
         Err(StoreFault::Failed) => file_fault(to, out),
         Err(StoreFault::OutOfMemory) => no_memory(out),
@@ -94,7 +94,7 @@ pub fn build<F: Shelf, K: Sink>(
         Err(status) => return status,
     };
     match story_of(alloc, name, program, out) {
-        Ok(story) => store(alloc, to, &story, shelf, out),
+        Ok(story) => store(to, &story, shelf, out),
         Err(status) => status,
     }
 }

@@ -1,5 +1,6 @@
 // From the file of a source to its core program.
 ghost use Rattle.std.specs.Prelude.{◌≡◌, ℕ, List, Option, Some, Ok, IfOk, IfErr, OnOk};
+ghost use Rattle.dg_base.specs.Shelves.{CalledOnce};
 ghost use Rattle.dg_base.specs.Sound.{IsSound};
 ghost use Rattle.dg_base.specs.Streams.{SourceView};
 ghost use Rattle.dialog_tool.specs.Promise.{Answers};
@@ -34,6 +35,7 @@ pub fn program_in<F: Shelf, K: Sink>(
     ensures program { IfOk result (λ p.
         (file : List ℕ) × IsFetched (F.view shelf.old) (F.view shelf.new) name.now file × Compiles file (Ok p)) }
     ensures sound { IfOk result IsSound }
+    ensures calls { CalledOnce (F.view shelf.old).calls (F.view shelf.new).calls }
     ensures silent { OnOk result (K.view out.new ≡ K.view out.old) }
     ensures ends { IfErr result (λ status. (command : Option Command) → (dice : List ℕ) → (input : SourceView) →
         source_named command ≡ Some name.now →

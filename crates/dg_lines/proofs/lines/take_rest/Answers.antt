@@ -1,4 +1,4 @@
-use Rattle.std.proofs.Common.{◌≢◌, ◌<◌, ◌++◌, ◌∷◌, List, ℕ, [], refl, arith}
+use Rattle.std.proofs.Common.{◌≢◌, ◌<◌, ◌++◌, ◌∷◌, ◌∙◌, List, ℕ, [], refl, arith}
 use Rattle.std.specs.Io.KnownBytes.{Consumes}
 use Rattle.std.proofs.KnownBytes.{Consumes-kept}
 use Rattle.dg_lines.specs.Lines.{Ends}
@@ -8,7 +8,7 @@ use Rattle.dg_lines.proofs.lines.take_rest.Goals as goal
 pub loop-failed-init : goal.loop-failed-init
 loop-failed-init g c = record {
   within = omega arith;
-  later = omega arith;
+  steady = refl;
   reading = record { front = []; plain = first_plain c.args.first c.requires.plain; long = refl; took = λ before h. h; keeps = none_kept c.args.line.now };
 }
 
@@ -29,7 +29,7 @@ returns-in-Ok-None-clause-took g c = λ before h.
 pub loop-failed-preserved : goal.loop-failed-preserved
 loop-failed-preserved g c = record {
   within = c.keep-kept.ensures.within;
-  later = omega (arith, c.in-Ok-Some.ensures.cause.later);
+  steady = c.in-Ok-Some.ensures.cause.steady ∙ c.loop-failed.invariant.steady;
   reading =
       let r = c.loop-failed.invariant.reading in
       let now = (g.S.Source.view c.loop-failed.source).left in

@@ -1,11 +1,11 @@
-use Rattle.std.proofs.Common.{◌≤◌, length}
+use Rattle.std.proofs.Common.{◌≡◌, ◌≤◌, length}
 use Rattle.dg_lines.proofs.LineLemmas.{Reading}
 use Rattle.dg_lines.proofs.lines.take_rest.Given as goal
 
 abbrev pub invariant-loop-failed : goal.invariant-loop-failed
 invariant-loop-failed g l = record {
   within : l.kept ≤ length l.line;
-  later : (g.S.Source.view l.initial.source).faults ≤ (g.S.Source.view l.source).faults;
+  steady : (g.S.Source.view l.source).faults ≡ (g.S.Source.view l.initial.source).faults;
   reading : Reading l.first l.line l.kept l.held l.room (g.S.Source.view l.initial.source).left (g.S.Source.view l.source).left;
 }
 
