@@ -1,9 +1,15 @@
--- The goals and the terms of a body, at every depth.
-use Rattle.std.specs.Prelude.{List, [], ◌∷◌, ◌++◌, Option, Some, None}
+-- The rules of a predicate, and the goals and the terms of a body, at every depth.
+use Rattle.std.specs.Prelude.{List, [], ◌∷◌, ◌++◌, Option, Some, None, Bool, true, false}
 use Rattle.std.specs.List.{flat_map}
 use Rattle.dg_base.specs.declared.program.Goal.{Goal, Either', Once', Not', If', Exhaust', Collect', Accumulate', Stoppable', Select', Row_of-Goal, end_of-Goal, more_of-Goal, Row_of-Goal-Either-0-1, end_of-Goal-Either-0-1, more_of-Goal-Either-0-1}
 use Rattle.dg_base.specs.declared.program.Goal.TheOpen.{Goal-F, Print, GapN, Equal, Ask, Holds, Now, Query, Collect, Accumulate, Arith, Compare, Random, Test, IsObject, Input, SplitWord, JoinWords}
 use Rattle.dg_base.specs.declared.program.Term.{Term}
+use Rattle.dg_base.specs.declared.program.Rule.{Rule}
+
+-- there is a rule
+abbrev pub has_rule : List Rule → Bool
+has_rule [] = false
+has_rule (rule ∷ rules) = true
 
 -- a goal, and the goals in it at every depth
 abbrev mutual

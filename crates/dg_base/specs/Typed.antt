@@ -20,6 +20,10 @@ place_from value here (entry ∷ table) = if entry == value then Some here else 
 abbrev pub place_of : ℕ → List ℕ → Option ℕ
 place_of value table = place_from value 0 table
 
+-- How many bytes a typed line has at most.
+abbrev pub longest : ℕ
+longest = 65536
+
 -- A letter of ASCII, a letter of the first extra block, or the ligature OE, each as a capital.
 abbrev pub is_capital : ℕ → Bool
 is_capital c = (nat_lt 64 c && nat_lt c 91) || (nat_lt 191 c && nat_lt c 223)

@@ -47,7 +47,7 @@ use Rattle.dg_outside.specs.Subjects.{may_name, IsSubject}
 use Rattle.dg_interp.specs.inside.Frames.{values_in}
 use Rattle.dg_interp.specs.inside.Made.{MadeArgs}
 use Rattle.dg_outside.specs.Outside.{outline, InWorld}
-use Rattle.dg_outside.specs.Finding.{may_find}
+use Rattle.dg_meaning.specs.inside.Finding.{may_find}
 use Rattle.dg_outside.proofs.Finds.{no_copy, same_copy, KeptAs, value_formed, kept_as, kept_none}
 use Rattle.dg_interp.specs.inside.Giving.{ActsAt, UnifiesAt}
 use Rattle.dg_interp.specs.inside.Finding.{EffectAt, made_values, AsksPlaceAt, AsksObjectsAt, TriesObjectsAt, ReadsAt}

@@ -20,8 +20,7 @@ use Rattle.dg_base.specs.Units.{units_of}
 use Rattle.dg_meaning.specs.World.{Game, World, Print, Prints, GapOf, prints, worked}
 use Rattle.dg_meaning.specs.Path.{Failing, End}
 use Rattle.dg_meaning.specs.Moves.{printed, move_of, takes_line}
-use Rattle.dg_meaning.specs.Render.{render}
-use Rattle.dg_meaning.specs.Growth.{growth}
+use Rattle.dg_meaning.specs.Render.{render, growth}
 use Rattle.dg_meaning.specs.OneRun.{Grows}
 use Rattle.dg_meaning.specs.Peaks.{Area, Heap, Trail, greatest}
 use Rattle.dg_meaning.specs.Keeps.{Finished, Went}

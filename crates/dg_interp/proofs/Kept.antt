@@ -26,7 +26,8 @@ use Rattle.dg_unify.specs.inside.Engines.{Agrees}
 use Rattle.dg_interp.specs.inside.Engine.{KeepsPlaces, kept_if}
 use Rattle.dg_interp.proofs.Links.{stand_raise, no_part, plain_cut, plain_way}
 use Rattle.dg_meaning.specs.Facts.{kinds_of}
-use Rattle.dg_outside.specs.Finding.{may_find, counted}
+use Rattle.dg_outside.specs.Finding.{counted}
+use Rattle.dg_meaning.specs.inside.Finding.{may_find}
 use Rattle.dg_interp.proofs.Trials.{counted_some, trials_stay, trials_open}
 
 pub kept_places : (b : Bool) (s : ListBindings) (m : Saved) (ms : List Saved) → KeepsPlaces s (m ∷ ms) → KeepsPlaces s (kept_if b m ms)

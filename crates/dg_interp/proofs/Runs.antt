@@ -14,7 +14,7 @@ use Rattle.dg_base.specs.declared.run.RunFault.{RunFault}
 use Rattle.dg_meaning.specs.World.{Game, World, Event, Print, Piece, GapOf, prints}
 use Rattle.dg_meaning.specs.Path.{Result as SearchResult, Failing, End}
 use Rattle.dg_meaning.specs.Moves.{path_of, goals_at}
-use Rattle.dg_meaning.specs.Render.{nothing_met, met_from, render, render_from}
+use Rattle.dg_meaning.specs.Render.{nothing_met, met_from, render, render_from, growth}
 use Rattle.dg_meaning.specs.Transcript.{Run, ending_of, text_of}
 use Rattle.dg_meaning.specs.OneRun.{Begins, EndsWith, Grows}
 use Rattle.dg_meaning.specs.Peaks.{Area, Heap, Trail, Aux, Keep, greatest, limit_ending}
@@ -28,7 +28,6 @@ use Rattle.dg_spacing.specs.declared.spacer.Spacer.{Spacer}
 use Rattle.dg_interp.specs.declared.engine.Engine.{Engine}
 use Rattle.dg_base.specs.Written.{SinkView, Wrote, BrokeOff}
 use Rattle.dg_spacing.specs.Spacer.{StandsFor}
-use Rattle.dg_meaning.specs.Growth.{growth}
 use Rattle.dg_texts.proofs.Texts.{render_append, render_grows}
 use Rattle.dg_texts.specs.Printing.{Added, as_prints, growth_of, AddsAll}
 use Rattle.dg_interp.specs.inside.Frames.{mark_steps, steps_behind, values_in}

@@ -17,8 +17,7 @@ use Rattle.dg_meaning.specs.World.{Game, World, Print, Prints, SpacesOf, prints,
 use Rattle.dg_meaning.specs.Cells.{cells}
 use Rattle.dg_meaning.specs.Path.{Step, Act, Goes, Fails, Moves}
 use Rattle.dg_meaning.specs.Moves.{looked_up, outcome, move_of, path_of, printed, spaces}
-use Rattle.dg_meaning.specs.Render.{render}
-use Rattle.dg_meaning.specs.Growth.{growth}
+use Rattle.dg_meaning.specs.Render.{render, growth}
 use Rattle.dg_meaning.specs.Transcript.{Run, text_of}
 use Rattle.dg_meaning.specs.Keeps.{Stands}
 use Rattle.dg_meaning.proofs.Dropping.{prints_append}

@@ -41,7 +41,8 @@ use Rattle.dg_interp.specs.declared.engine.Engine.{Engine}
 use Rattle.dg_terms.specs.Terms.{Overflows}
 use Rattle.dg_interp.specs.inside.Querying.{mark_of}
 use Rattle.dg_interp.specs.inside.Frames.{stretch, values_in, mark_steps, steps_behind, branches_of, EndsBy, IsLeft, has_some}
-use Rattle.dg_outside.specs.Finding.{may_find, counted}
+use Rattle.dg_outside.specs.Finding.{counted}
+use Rattle.dg_meaning.specs.inside.Finding.{may_find}
 use Rattle.dg_interp.specs.inside.Trying.{trial_branches}
 use Rattle.dg_interp.specs.inside.Giving.{SolvesAt}
 use Rattle.dg_interp.specs.inside.Finding.{made_values, TriesObjectsAt, FindsAt}

@@ -167,6 +167,7 @@ module _ (program : Bor CoreProgram) (entry : Bor (List Goal)) (store : ListBind
     };
     goal = subst (λ (l : List Goal). 0 < length l) (sym is) (omega arith);
     left = sym steps_are;
+    begins = out.begins;
     limits_are = λ area. limits_at area;
     stands = stands;
   }

@@ -18,14 +18,13 @@ use Rattle.dg_base.specs.declared.run.RunFault.TheVariants.{Read, Write, OutOfMe
 use Rattle.dg_base.specs.declared.run.Limits.{Limits}
 use Rattle.dg_meaning.specs.World.{Game, World, Event, Print, prints}
 use Rattle.dg_meaning.specs.Render.{render}
-use Rattle.dg_meaning.specs.Transcript.{Run, run, start_world, text_of, line_of, no_memory_line, input_fault_line, closing, closed, transcript}
+use Rattle.dg_meaning.specs.Transcript.{Run, run, start_world, text_of, line_of, no_memory_line, input_fault_line, closed, transcript, ending_line}
 use Rattle.dg_meaning.specs.Shows.{IsLeft, HasGiven, taken_by, LeftBetween, Shows, ShowsLimit, ShowsNoMemory, ShowsInputFault, in_part, whole, without_memory, without_input}
 use Rattle.dg_meaning.proofs.Search.{run_within}
 use Rattle.dg_spacing.specs.declared.spacer.Spacer.{Spacer}
 use Rattle.dg_interp.specs.declared.engine.Engine.{Engine}
 use Rattle.dg_base.specs.Written.{SinkView, Wrote, BrokeOff}
 use Rattle.dg_spacing.specs.Spacer.{StandsFor}
-use Rattle.dg_meaning.specs.Growth.{ending_line}
 use Rattle.dg_outside.specs.declared.lack.Lack.{Lack}
 use Rattle.dg_outside.specs.declared.lack.Lack.TheVariants as lack
 use Rattle.dg_outside.specs.Outside.{LacksAtStart}
@@ -139,6 +138,7 @@ module _ (program : CoreProgram) (limits : Limits) (e : Engine) (dice : List ℕ
 
       limit_shows : (told : Option (List ℕ)) → IsLeft told a.rest → ShowsLimit g typed limits (closed part_is.part (line_of (limit_ending area))) (record { ending = limit_ending area; goals = limits.steps - left }) told
       limit_shows told is = record {
+        begins = λ some. starts.begins;
         area = area;
         ending = refl;
         goals = omega arith;
@@ -187,6 +187,7 @@ module _ (program : CoreProgram) (limits : Limits) (e : Engine) (dice : List ℕ
           let within = run_left in
           let same : r.left ≡ left = ap (λ (y : Run). y.left) x.is in
           inl (record {
+            begins = starts.begins;
             text = refl;
             ending = sym (ap (λ (y : Run). y.ending) x.is);
             goals = omega (arith, same, within);

@@ -5,7 +5,8 @@ use Rattle.std.specs.Io.KnownBytes.{Consumes, IsAtEnd, Keeps}
 use Rattle.std.proofs.KnownBytes.{Consumes-trans}
 use Rattle.std.proofs.lemmas.List.{append-nil, append_cancel_left, length-append, length_push}
 use Rattle.std.proofs.lemmas.List.Elements.{All-nil, All-push}
-use Rattle.dg_lines.specs.Lines.{longest, IsPlain, Ends, TookLine, IsText, IsKept}
+use Rattle.dg_lines.specs.Lines.{IsPlain, Ends, TookLine, IsText, IsKept}
+use Rattle.dg_base.specs.Typed.{longest}
 
 -- So much of a line was read behind its first byte: the last byte is held back, and the bytes before it are kept.
 pub record Reading (first : ℕ) (line : List ℕ) (kept held room : ℕ) (old now : Option (List ℕ)) : Type 0 where

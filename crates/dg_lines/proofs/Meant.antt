@@ -4,7 +4,8 @@ use Rattle.std.specs.Prelude.{All}
 use Rattle.std.proofs.lemmas.Bool.{ne_eqb}
 use Rattle.std.proofs.lemmas.List.{append-nil}
 use Rattle.std.proofs.lemmas.List.Elements.{All-head, All-tail}
-use Rattle.dg_lines.specs.Lines.{longest, IsPlain, Ends, IsText}
+use Rattle.dg_lines.specs.Lines.{IsPlain, Ends, IsText}
+use Rattle.dg_base.specs.Typed.{longest}
 use Rattle.dg_lines.proofs.LineLemmas.{IsLine}
 
 -- These functions are the bytes before the first newline, of at most so many, those behind it, and bytes without a carriage return at their end.

@@ -1,11 +1,8 @@
 -- What is taken of the typed bytes for a line, and what is kept of it. Hold it against docs/LANGUAGE.md, "Typed lines and words".
 use Rattle.std.specs.Prelude.{◌≡◌, ◌≢◌, ◌<◌, ◌≤◌, ◌-◌, ◌⊎◌, ℕ, List, [], ◌∷◌, ◌++◌, All, length, take, Option, Some, None, Result, Ok, Err}
 use Rattle.std.specs.Io.KnownBytes.{Consumes, IsAtEnd, Keeps}
+use Rattle.dg_base.specs.Typed.{longest}
 use Rattle.dg_base.specs.declared.traits.Failed.{Failed}
-
--- How many bytes a line has at most.
-abbrev pub longest : ℕ
-longest = 65536
 
 -- These bytes may stand in a line: none is a newline, and they are no more than a line has.
 pub record IsPlain (bytes : List ℕ) : Type 0 where

@@ -22,7 +22,8 @@ use Rattle.dg_meaning.specs.ValueCells.{cells_of}
 use Rattle.dg_meaning.specs.Values.{Nil, Object, Value, Var, Node, leaf}
 use Rattle.dg_meaning.specs.World.{Game, World, worked}
 use Rattle.dg_lists.specs.Reading.{Copied}
-use Rattle.dg_outside.specs.Finding.{may_find, counted, has_objects}
+use Rattle.dg_outside.specs.Finding.{counted}
+use Rattle.dg_meaning.specs.inside.Finding.{may_find, has_objects}
 use Rattle.dg_outside.specs.Outside.{outline}
 use Rattle.dg_outside.specs.Subjects.{may_name, IsSubject}
 use Rattle.dg_outside.specs.declared.outside.Outside.{Outside}

@@ -28,8 +28,7 @@ use Rattle.dg_base.specs.declared.run.Ending.TheVariants as ending
 use Rattle.dg_base.specs.Written.{SinkView, Wrote, BrokeOff}
 use Rattle.dg_base.proofs.WrittenLemmas.{wrote_on, broke_later}
 use Rattle.dg_meaning.specs.World.{Game, Print}
-use Rattle.dg_meaning.specs.Render.{render}
-use Rattle.dg_meaning.specs.Growth.{growth}
+use Rattle.dg_meaning.specs.Render.{render, growth}
 use Rattle.dg_mid.specs.declared.code.Op.{Op}
 use Rattle.dg_mid.specs.declared.code.Op.TheVariants as op
 use Rattle.dg_mid.specs.declared.code.Action.{Action}

@@ -12,9 +12,8 @@ use Rattle.dg_meaning.specs.Render.{render, render_from, nothing_met, met_from}
 use Rattle.dg_texts.proofs.Texts.{render_append}
 use Rattle.dg_meaning.specs.Words.{behind_first}
 use Rattle.std.specs.Prelude.{if◌then◌else◌, ◌⊎◌}
-use Rattle.dg_meaning.specs.Growth.{ending_line}
-use Rattle.dg_meaning.specs.Transcript.{Run, run, text_of, line_of, input_fault_line}
-use Rattle.dg_meaning.specs.Shows.{IsLeft, Shows, ShowsInputFault, HasGiven}
+use Rattle.dg_meaning.specs.Transcript.{Run, run, text_of, line_of, input_fault_line, ending_line, closed_text}
+use Rattle.dg_meaning.specs.Shows.{IsLeft, MayBegin, Shows, ShowsInputFault, HasGiven}
 use Rattle.dg_meaning.specs.OneRun.{EndsWith, Grows}
 use Rattle.dg_meaning.proofs.Keeps.{stands_happened}
 use Rattle.dg_meaning.proofs.Dropping.{prints_append}
@@ -29,7 +28,7 @@ use Rattle.dg_mid.specs.Units.{one_if}
 use Rattle.dg_mid.specs.Potential.{IsOver}
 use Rattle.dg_mid.specs.Reads.{At, RunsAt}
 use Rattle.dg_mid.specs.Left.{reads, left_behind}
-use Rattle.dg_mid.specs.Runs.{after, left_after, closed_text}
+use Rattle.dg_mid.specs.Runs.{after, left_after}
 use Rattle.dg_mid.proofs.Whole.{is_at}
 use Rattle.dg_mid.proofs.Shown.{shows_all, shows_faults, until_left}
 use Rattle.dg_mid.proofs.Outsides.{Leads}
@@ -182,8 +181,9 @@ module _ (code : Code) (g : Game) (l : Limits) (typed : List ℕ) where
 
 -- what a source tells of what is left
 pub shows_told : (g : Game) (typed : List ℕ) (l : Limits) (bytes : List ℕ) (outcome : Outcome) (left : List ℕ) (told : Option (List ℕ)) → IsLeft told left → Shows g typed l bytes outcome (Some left) → Shows g typed l bytes outcome told
-shows_told g typed l bytes outcome left told is (inl h) = inl (record { text = h.text; ending = h.ending; goals = h.goals; left_is = subst (IsLeft told) h.left_is is })
+shows_told g typed l bytes outcome left told is (inl h) = inl (record { begins = h.begins; text = h.text; ending = h.ending; goals = h.goals; left_is = subst (IsLeft told) h.left_is is })
 shows_told g typed l bytes outcome left told is (inr h) = inr (record {
+  begins = h.begins;
   area = h.area;
   ending = h.ending;
   goals = h.goals;
@@ -202,32 +202,32 @@ module _ (code : Code) (g : Game) (l : Limits) (codes : Codes g.program code) (t
   the_set = setting g code l
 
   -- how a run has ended, by its closing line
-  ended_shows : (e : Ending) (left steps : ℕ) → EndsSo e left (after the_set typed steps).now → (after the_set typed steps).goals ≡ l.steps - left → left ≤ l.steps →
+  ended_shows : MayBegin g l → (e : Ending) (left steps : ℕ) → EndsSo e left (after the_set typed steps).now → (after the_set typed steps).goals ≡ l.steps - left → left ≤ l.steps →
       Shows g typed l (closed_text (after the_set typed steps).prints (line_of e)) (record { ending = e; goals = l.steps - left }) (Some (left_after the_set typed steps))
-  ended_shows e left steps (inl is) goals le =
-      subst (λ n. Shows g typed l (closed_text (after the_set typed steps).prints (line_of e)) (record { ending = e; goals = n }) (Some (left_after the_set typed steps))) goals ((shows_all g code l codes typed).ends steps e is (omega (arith, goals)))
-  ended_shows e left steps (inr limited) goals le =
+  ended_shows begins e left steps (inl is) goals le =
+      subst (λ n. Shows g typed l (closed_text (after the_set typed steps).prints (line_of e)) (record { ending = e; goals = n }) (Some (left_after the_set typed steps))) goals ((shows_all g code l codes typed begins).ends steps e is (omega (arith, goals)))
+  ended_shows begins e left steps (inr limited) goals le =
       let none = limited.1 in
       let all : l.steps - left ≡ l.steps = omega (arith, none) in
       let rest = Some (left_after the_set typed steps) in
       subst (λ x. Shows g typed l (closed_text (after the_set typed steps).prints (line_of x)) (record { ending = x; goals = l.steps - left }) rest) (sym limited.0)
-      (subst (λ n. Shows g typed l (closed_text (after the_set typed steps).prints (line_of StepLimit)) (record { ending = StepLimit; goals = n }) rest) (sym all) ((shows_all g code l codes typed).limited steps (goals ∙ all) limited.2))
+      (subst (λ n. Shows g typed l (closed_text (after the_set typed steps).prints (line_of StepLimit)) (record { ending = StepLimit; goals = n }) rest) (sym all) ((shows_all g code l codes typed begins).limited steps (goals ∙ all) limited.2))
 
-  pub shown : (e : Ending) (left : ℕ) (r : Memory) (s : Spacer) (start k k' : SinkView) (rest : List ℕ) (told : Option (List ℕ)) → IsLeft told rest → HasEnded code g l typed (l.steps - left) e left r s start k rest → left ≤ l.steps → ((ps : List Print) → StandsFor s ps → Wrote k k' (ending_line ps (line_of e))) → HasShown g typed l (record { ending = e; goals = l.steps - left }) told start k'
-  shown e left r s start k k' rest told is h le close =
+  pub shown : MayBegin g l → (e : Ending) (left : ℕ) (r : Memory) (s : Spacer) (start k k' : SinkView) (rest : List ℕ) (told : Option (List ℕ)) → IsLeft told rest → HasEnded code g l typed (l.steps - left) e left r s start k rest → left ≤ l.steps → ((ps : List Print) → StandsFor s ps → Wrote k k' (ending_line ps (line_of e))) → HasShown g typed l (record { ending = e; goals = l.steps - left }) told start k'
+  shown begins e left r s start k k' rest told is h le close =
       let ps = (after the_set typed h.steps).prints in
       record {
         bytes = closed_text ps (line_of e);
-        shows = shows_told g typed l _ _ (left_after the_set typed h.steps) told (subst (IsLeft told) (sym h.left_is) is) (ended_shows e left h.steps h.ends h.goals_is le);
+        shows = shows_told g typed l _ _ (left_after the_set typed h.steps) told (subst (IsLeft told) (sym h.left_is) is) (ended_shows begins e left h.steps h.ends h.goals_is le);
         wrote = wrote_on start k k' (render ps) (ending_line ps (line_of e)) h.text.wrote (close ps h.text.stands);
       }
 
-  pub closing_lost : (e : Ending) (left : ℕ) (r : Memory) (s : Spacer) (start k k' : SinkView) (i i' : SourceView) (rest : List ℕ) → IsLeft (left_told i i') rest → HasEnded code g l typed (l.steps - left) e left r s start k rest → left ≤ l.steps → ((ps : List Print) → StandsFor s ps → BrokeOff k k' (ending_line ps (line_of e))) → HasLostText g typed l i i' start k'
-  closing_lost e left r s start k k' i i' rest is h le close =
+  pub closing_lost : MayBegin g l → (e : Ending) (left : ℕ) (r : Memory) (s : Spacer) (start k k' : SinkView) (i i' : SourceView) (rest : List ℕ) → IsLeft (left_told i i') rest → HasEnded code g l typed (l.steps - left) e left r s start k rest → left ≤ l.steps → ((ps : List Print) → StandsFor s ps → BrokeOff k k' (ending_line ps (line_of e))) → HasLostText g typed l i i' start k'
+  closing_lost begins e left r s start k k' i i' rest is h le close =
       let ps = (after the_set typed h.steps).prints in
       record {
         bytes = closed_text ps (line_of e);
-        writing = to_the_end (record { ending = e; goals = l.steps - left }) (shows_told g typed l _ _ (left_after the_set typed h.steps) (left_told i i') (subst (IsLeft (left_told i i')) (sym h.left_is) is) (ended_shows e left h.steps h.ends h.goals_is le));
+        writing = to_the_end (record { ending = e; goals = l.steps - left }) (shows_told g typed l _ _ (left_after the_set typed h.steps) (left_told i i') (subst (IsLeft (left_told i i')) (sym h.left_is) is) (ended_shows begins e left h.steps h.ends h.goals_is le));
         broke = broke_later start k k' (render ps) (ending_line ps (line_of e)) h.text.wrote (close ps h.text.stands);
       }
 

@@ -17,7 +17,8 @@ use Rattle.dg_meaning.specs.Path.{Registers, Unifies}
 use Rattle.dg_meaning.specs.Unify.{Equations, Unified, solve}
 use Rattle.dg_meaning.specs.Values.{Value, Object, leaf}
 use Rattle.dg_meaning.specs.World.{Game, World, worked}
-use Rattle.dg_outside.specs.Finding.{may_find, counted}
+use Rattle.dg_outside.specs.Finding.{counted}
+use Rattle.dg_meaning.specs.inside.Finding.{may_find}
 use Rattle.dg_outside.specs.Outside.{outline}
 use Rattle.dg_outside.specs.declared.outside.Outside.{Outside}
 use Rattle.dg_outside.proofs.Finds.{counted_first, counted_none, same_copy, behind_simple}

@@ -9,7 +9,8 @@ use Rattle.dg_meaning.specs.Facts.{kinds_of, value_at}
 use Rattle.dg_meaning.specs.Moves.{ask_objects, reads_if_set}
 use Rattle.dg_meaning.specs.Values.{Value}
 use Rattle.dg_meaning.specs.World.{Game, worked}
-use Rattle.dg_outside.specs.Finding.{may_find, counted}
+use Rattle.dg_outside.specs.Finding.{counted}
+use Rattle.dg_meaning.specs.inside.Finding.{may_find}
 use Rattle.dg_outside.specs.declared.outside.Outside.{Outside}
 use Rattle.dg_unify.specs.declared.bindings.Ref.{Ref}
 use Rattle.dg_mid.specs.declared.code.Op.{Op}

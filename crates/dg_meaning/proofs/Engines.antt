@@ -67,6 +67,7 @@ module _ (program : CoreProgram) (limits : Limits) (dice typed : List ℕ) (told
       let passed : limits.keep < (run the_game typed 0).world.meters.keep = subst (λ (w : World). limits.keep < w.meters.keep) (sym (nothing_taken the_game typed)) over in
       let since : Begins (run the_game typed 0).world.events [] = subst (λ l. Begins l []) (sym events) (record { behind = []; is = refl }) in
       record {
+        begins = λ some. absurd (omega (arith, some));
         area = Keep;
         ending = refl;
         goals = omega arith;

@@ -1,6 +1,7 @@
 pub mod Walks
 pub mod LookUps
 pub mod Solving
+pub mod Solved
 pub mod UnifyLaws
 pub mod Unifiers
 pub mod EqualValues
@@ -21,4 +22,6 @@ pub mod WorkedSearch
 pub mod WorkedWorld
 pub mod Limits
 pub mod Engines
+pub mod Starts
+pub mod Trace
 pub mod Excluding

@@ -5,7 +5,8 @@ use Rattle.std.proofs.lemmas.Bool.{cond_both}
 use Rattle.std.proofs.lemmas.List.{append-nil}
 use Rattle.dg_base.specs.declared.program.CoreProgram.{CoreProgram}
 use Rattle.dg_meaning.specs.Values.{Value}
-use Rattle.dg_meaning.specs.Words.{behind_line, longest, behind_first}
+use Rattle.dg_meaning.specs.Words.{behind_line, behind_first}
+use Rattle.dg_base.specs.Typed.{longest}
 use Rattle.dg_meaning.specs.Facts.{Alteration}
 use Rattle.dg_meaning.specs.Choosing.{Choice}
 use Rattle.dg_meaning.specs.World.{World, Gathering, Meters, Event, Print, Piece, noted, worked, reached, gathering, gathered_with, kept, dropped, drew}

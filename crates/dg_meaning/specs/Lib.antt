@@ -1,3 +1,4 @@
+pub mod Sets
 pub mod Values
 pub mod Substitutions
 pub mod Unify
@@ -21,13 +22,16 @@ pub mod Changes
 pub mod Moves
 pub mod Search
 pub mod Transcript
-pub mod Growth
 pub mod Bindings
 pub mod OneRun
 pub mod Peaks
 pub mod Shows
+pub mod Trace
+pub mod Quiet
+pub mod Initial
 pub mod Engines
 pub mod Context
 pub mod Keeps
 pub mod Excluding
 pub mod OneAnswer
+pub mod inside

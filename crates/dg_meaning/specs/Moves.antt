@@ -34,14 +34,14 @@ use Rattle.dg_meaning.specs.Cells.{cells, writing}
 use Rattle.dg_meaning.specs.Pieces.{pieces}
 use Rattle.dg_meaning.specs.TypeTests.{passes}
 use Rattle.dg_meaning.specs.Path.{Step, Do, Answers, Cut, Refuse, Back, Keep, Leave, Registers, Path, Whole, AsList, AsSum, Branch, Enter, Clash, TakeOut, Finds, Kind, Plain, Rules, Shield, Gathers, Move, GoesOn, FailsAt, EndsAt, StopsAt, Outcome, Moves, Chooses, Act, Goes, Tests, Unifies, Ends, Fails, Stops, Effect, Acts, Offers}
-use Rattle.dg_meaning.specs.Render.{nothing_met, met_from, written, characters}
+use Rattle.dg_meaning.specs.Render.{growth, characters}
 use Rattle.dg_meaning.specs.Changes.{found, change_of, changed, changing}
 
 -- ## The world
 
 -- The world in which something more is printed; the characters that appear are work.
 abbrev pub printed : Print → World → World
-printed e w = worked (characters (written (met_from nothing_met (prints w.events)) e)) (noted (Prints e) w)
+printed e w = worked (characters (growth (prints w.events) e)) (noted (Prints e) w)
 
 -- The world in which these pieces are printed, one after another.
 abbrev pub all_printed : List (List ℕ) → World → World

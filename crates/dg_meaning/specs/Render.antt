@@ -119,6 +119,10 @@ render_from m (e ∷ es) = written m e ++ render_from (met_behind m e) es
 unfoldable pub render : List Print → List ℕ
 render es = render_from nothing_met es
 
+-- The bytes by which the text of these things grows with one more.
+abbrev pub growth : List Print → Print → List ℕ
+growth es e = written (met_from nothing_met es) e
+
 -- How many characters UTF-8 bytes are: those that don't continue one.
 abbrev pub characters : List ℕ → ℕ
 characters [] = 0

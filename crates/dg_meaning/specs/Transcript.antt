@@ -1,12 +1,14 @@
 -- A run and its transcript. Hold it against the Dialog manual, chapters "Choice points" (a program asks its entry point) and "Output".
 use Rattle.std.specs.Prelude.{ℕ, List, [], ◌∷◌, ◌++◌, Option, Some, None, false, codes, replicate}
+use Rattle.dg_base.specs.declared.program.Goal.{Goal}
 use Rattle.dg_base.specs.declared.program.Goal.TheVariants.{Ask}
 use Rattle.dg_base.specs.declared.run.Ending.{Ending}
 use Rattle.dg_base.specs.declared.run.Ending.TheVariants.{Done as Done-Ending, Quit as Quit-Ending, Failed as Failed-Ending, Stopped, InputEnded, StepLimit, HeapLimit, TrailLimit, AuxLimit, KeepLimit}
 use Rattle.dg_meaning.specs.Facts.{kinds_of, kept_size, start_facts}
 use Rattle.dg_meaning.specs.Choosing.{no_picks}
-use Rattle.dg_meaning.specs.World.{Game, World, Event, prints}
-use Rattle.dg_meaning.specs.Path.{Do, Path, Result, Failing, CutFail, StopTo, End, Answer}
+use Rattle.dg_meaning.specs.World.{Game, World, Event, Print, prints}
+use Rattle.dg_meaning.specs.Moves.{goals_at, new_vars}
+use Rattle.dg_meaning.specs.Path.{Path, Result, Failing, CutFail, StopTo, End, Answer}
 use Rattle.dg_meaning.specs.Search.{search}
 use Rattle.dg_meaning.specs.Render.{render, nothing_met, met_from}
 
@@ -43,12 +45,16 @@ start_world g typed =
       sites = replicate g.program.sites no_picks;
     }
 
+-- The path on which these goals are asked, with so many new variables, which count nothing.
+abbrev pub asking_path : List Goal → ℕ → Path
+asking_path goals count = record {
+  steps = goals_at (new_vars count 0) 0 goals;
+  registers = record { next_tag = 1; stoppable = None; bound = []; next_var = count; heap = 0; trail = 0 };
+}
+
 -- The query of the entry point.
 abbrev pub start_path : Game → Path
-start_path g = record {
-  steps = Do (Ask g.program.entry [] false) [] 0 ∷ [];
-  registers = record { next_tag = 1; stoppable = None; bound = []; next_var = 0; heap = 0; trail = 0 };
-}
+start_path g = asking_path (Ask g.program.entry [] false ∷ []) 0
 
 -- The run of a game on typed bytes, with a budget of n goals.
 unfoldable pub run : Game → List ℕ → ℕ → Run
@@ -86,13 +92,17 @@ abbrev pub newline_behind : Option ℕ → List ℕ
 newline_behind None = []
 newline_behind (Some last) = 10 ∷ []
 
--- What closes a text: a newline where a piece was printed, and a line.
-abbrev pub closing : List Event → List ℕ → List ℕ
-closing events line = newline_behind (met_from nothing_met (prints events)).last ++ line
+-- What closes the text of these things: a newline where a piece was printed, and a line.
+abbrev pub ending_line : List Print → List ℕ → List ℕ
+ending_line es line = newline_behind (met_from nothing_met es).last ++ line
+
+-- The text of these things, closed with a line.
+abbrev pub closed_text : List Print → List ℕ → List ℕ
+closed_text es line = render es ++ ending_line es line
 
 -- The text of events, closed with a line.
 abbrev pub closed : List Event → List ℕ → List ℕ
-closed events line = text_of events ++ closing events line
+closed events line = closed_text (prints events) line
 
 -- All that a run with a budget of n goals writes.
 abbrev pub transcript : Game → List ℕ → ℕ → List ℕ

@@ -5,7 +5,7 @@ use Rattle.std.specs.Str.{chars}
 use Rattle.std.specs.List.{list_any, list_all}
 use Rattle.std.specs.Fmt.{decimal}
 use Rattle.dg_base.specs.Units.{units_of}
-use Rattle.dg_base.specs.Typed.{typed}
+use Rattle.dg_base.specs.Typed.{longest, typed}
 use Rattle.dg_meaning.specs.Values.{Num, Word, Unknown, Nil, Pair, Value, Node, NoMore, More, leaf}
 use Rattle.dg_meaning.specs.Unify.{same_spelling}
 use Rattle.dg_meaning.specs.Copies.{list_of}
@@ -23,10 +23,6 @@ abbrev pub behind_line : ℕ → List ℕ → List ℕ
 behind_line zero bytes = bytes
 behind_line (suc n) [] = []
 behind_line (suc n) (b ∷ bytes) = if eqb b 10 then bytes else behind_line n bytes
-
--- How many bytes a line has at most.
-abbrev pub longest : ℕ
-longest = 65536
 
 -- Bytes without a carriage return at their end.
 abbrev pub without_return : List ℕ → List ℕ

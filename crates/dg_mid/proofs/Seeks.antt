@@ -16,7 +16,7 @@ use Rattle.dg_meaning.specs.Unify.{Unified, solve}
 use Rattle.dg_meaning.specs.Values.{Object, Value, Var, Node, value_of}
 use Rattle.dg_meaning.specs.World.{Game, World, Gathering, gathered_size}
 use Rattle.dg_base.specs.declared.program.Term.{Term}
-use Rattle.dg_outside.specs.Finding.{has_objects, may_find}
+use Rattle.dg_meaning.specs.inside.Finding.{has_objects, may_find}
 use Rattle.dg_mid.specs.declared.code.Op.{Op}
 use Rattle.dg_mid.specs.declared.code.Op.TheVariants as op
 use Rattle.dg_mid.specs.declared.code.RuleCode.{RuleCode}

@@ -7,11 +7,11 @@ use Rattle.dg_base.specs.declared.run.Limits.{Limits}
 use Rattle.dg_base.specs.declared.run.Ending.{Ending}
 use Rattle.dg_base.specs.declared.run.Ending.TheVariants as ending
 use Rattle.dg_meaning.specs.World.{Game, World, Event, Print, prints}
-use Rattle.dg_meaning.specs.Transcript.{Run, run_of, run, start_world, start_path, closed, line_of, input_fault_line}
+use Rattle.dg_meaning.specs.Transcript.{Run, run_of, run, start_world, start_path, closed, line_of, input_fault_line, closed_text}
 use Rattle.dg_meaning.specs.OneRun.{Begins, EndsWith, Grows}
 use Rattle.dg_meaning.specs.Search.{answer}
 use Rattle.dg_meaning.specs.Peaks.{Area, Heap, Trail, Aux, Keep, greatest, peak, limit_of, limit_ending}
-use Rattle.dg_meaning.specs.Shows.{Shows, taken_by}
+use Rattle.dg_meaning.specs.Shows.{MayBegin, Shows, taken_by}
 use Rattle.dg_meaning.specs.Words.{behind_first}
 use Rattle.dg_meaning.proofs.Keeps.{starts as stands_at_start, limited}
 use Rattle.dg_meaning.proofs.Dropping.{prints_append}
@@ -22,7 +22,7 @@ use Rattle.dg_mid.specs.State.{Outside, Status, Runs, Enters, Resumes, Fails, En
 use Rattle.dg_mid.specs.Step.{Setting, setting}
 use Rattle.dg_mid.specs.Codes.{Codes}
 use Rattle.dg_mid.specs.Reads.{At, Comes, HasEnded, MeetsLimit}
-use Rattle.dg_mid.specs.Runs.{Point, after, left_after, IsAt, closed_text, ShowsAll, ShowsFaults}
+use Rattle.dg_mid.specs.Runs.{Point, after, left_after, IsAt, ShowsAll, ShowsFaults}
 use Rattle.dg_mid.proofs.Taking.{at_grows}
 use Rattle.dg_mid.proofs.Whole.{AtLimit, is_at}
 use Rattle.dg_mid.proofs.Outsides.{Leads}
@@ -78,12 +78,13 @@ module _ (g : Game) (code : Code) (limits : Limits) (codes : Codes g.program cod
       ap (λ (x : Run). x.world.events) f.is ∙ ap (λ (w : World). w.events) f.drops.is
 
   -- a run that has ended
-  ended_shows : (goals : ℕ) (e : Ending) (ps : List Print) (w : World) (left : List ℕ) → goals ≤ limits.steps → ((n : ℕ) → (run g typed (goals + n)).world.typed ≡ left) → HasEnded e ps (limits.steps - goals) w (run g typed (goals + (limits.steps - goals))) →
+  ended_shows : MayBegin g limits → (goals : ℕ) (e : Ending) (ps : List Print) (w : World) (left : List ℕ) → goals ≤ limits.steps → ((n : ℕ) → (run g typed (goals + n)).world.typed ≡ left) → HasEnded e ps (limits.steps - goals) w (run g typed (goals + (limits.steps - goals))) →
       Shows g typed limits (closed_text ps (line_of e)) (record { ending = e; goals = goals }) (Some left)
-  ended_shows goals e ps w left le rest h =
+  ended_shows begins goals e ps w left le rest h =
       let all : goals + (limits.steps - goals) ≡ limits.steps = omega arith in
       let is : run g typed limits.steps ≡ run_of (answer (limits.steps - goals) w h.result) = ap (run g typed) (sym all) ∙ h.is in
       inl (record {
+        begins = begins;
         text = ap (λ l. closed_text l (line_of e)) (sym h.printed) ∙ ap (λ x. closed w.events (line_of x)) (sym h.ending_is) ∙ sym (ap (λ (x : Run). closed x.world.events (line_of x.ending)) is);
         ending = sym h.ending_is ∙ sym (ap (λ (x : Run). x.ending) is);
         goals = ap (λ (x : Run). goals + x.left) is ∙ all;
@@ -91,12 +92,13 @@ module _ (g : Game) (code : Code) (limits : Limits) (codes : Codes g.program cod
       })
 
   -- a limit
-  limit_shows : (area : Area) (goals : ℕ) (ps : List Print) (w : World) (left : List ℕ) → goals ≤ limits.steps → EndsWith (run g typed (goals - 1)).world.typed left → EndsWith left (run g typed goals).world.typed →
+  limit_shows : MayBegin g limits → (area : Area) (goals : ℕ) (ps : List Print) (w : World) (left : List ℕ) → goals ≤ limits.steps → EndsWith (run g typed (goals - 1)).world.typed left → EndsWith left (run g typed goals).world.typed →
       limit_of area limits < peak area g typed goals → prints w.events ≡ ps → Grows w (run g typed goals).world → Begins (prints (run g typed (goals - 1)).world.events) ps →
       Shows g typed limits (closed_text ps (line_of (limit_ending area))) (record { ending = limit_ending area; goals = goals }) (Some left)
-  limit_shows area goals ps w left le from to passed printed grows since =
+  limit_shows begins area goals ps w left le from to passed printed grows since =
       let part = the_part w.events (run g typed (goals - 1)).world.events (run g typed goals).world.events grows.events (later_run g typed (goals - 1) goals (omega arith)).events (subst (Begins (prints (run g typed (goals - 1)).world.events)) (sym printed) since) in
       inr (record {
+        begins = λ some. begins;
         area = area;
         ending = refl;
         goals = le;
@@ -111,43 +113,44 @@ module _ (g : Game) (code : Code) (limits : Limits) (codes : Codes g.program cod
       })
 
   -- a limit that is met where the run is
-  meets_so : (area : Area) (p : Point) (w : World) (left : List ℕ) → p.goals ≤ limits.steps → EndsWith (run g typed (p.goals - 1)).world.typed left → EndsWith left (run g typed p.goals).world.typed → IsAt set g typed p →
+  meets_so : MayBegin g limits → (area : Area) (p : Point) (w : World) (left : List ℕ) → p.goals ≤ limits.steps → EndsWith (run g typed (p.goals - 1)).world.typed left → EndsWith left (run g typed p.goals).world.typed → IsAt set g typed p →
       MeetsLimit (limit_of area limits) (greatest area (run g typed (p.goals + 0)).world.meters) p.prints w (run g typed (p.goals + 0)) →
       Shows g typed limits (closed_text p.prints (line_of (limit_ending area))) (record { ending = limit_ending area; goals = p.goals }) (Some left)
-  meets_so area p w left le from to h at =
+  meets_so begins area p w left le from to h at =
       let all : p.goals + 0 ≡ p.goals = omega arith in
-      limit_shows area p.goals p.prints w left le from to (subst (λ k. limit_of area limits < greatest area (run g typed k).world.meters) all at.passes) at.printed (subst (λ k. Grows w (run g typed k).world) all at.happened) h.since
+      limit_shows begins area p.goals p.prints w left le from to (subst (λ k. limit_of area limits < greatest area (run g typed k).world.meters) all at.passes) at.printed (subst (λ k. Grows w (run g typed k).world) all at.happened) h.since
 
-  ends_so : (p : Point) (e : Ending) (left : List ℕ) → IsAt set g typed p → EndsWith (run g typed (p.goals - 1)).world.typed left → EndLeft g code limits codes typed p.goals left e → p.now ≡ Ended e → p.goals ≤ limits.steps →
+  ends_so : MayBegin g limits → (p : Point) (e : Ending) (left : List ℕ) → IsAt set g typed p → EndsWith (run g typed (p.goals - 1)).world.typed left → EndLeft g code limits codes typed p.goals left e → p.now ≡ Ended e → p.goals ≤ limits.steps →
       Shows g typed limits (closed_text p.prints (line_of e)) (record { ending = e; goals = p.goals }) (Some left)
-  ends_so p ending.HeapLimit left h from to is le = let c = h.comes 0 in meets_so Heap p c.world left le from to h (subst (λ now. At set now p.prints g 0 c.world (run g typed (p.goals + 0))) is c.at)
-  ends_so p ending.TrailLimit left h from to is le = let c = h.comes 0 in meets_so Trail p c.world left le from to h (subst (λ now. At set now p.prints g 0 c.world (run g typed (p.goals + 0))) is c.at)
-  ends_so p ending.AuxLimit left h from to is le = let c = h.comes 0 in meets_so Aux p c.world left le from to h (subst (λ now. At set now p.prints g 0 c.world (run g typed (p.goals + 0))) is c.at)
-  ends_so p ending.KeepLimit left h from to is le = let c = h.comes 0 in meets_so Keep p c.world left le from to h (subst (λ now. At set now p.prints g 0 c.world (run g typed (p.goals + 0))) is c.at)
-  ends_so p e left h from to is le =
+  ends_so begins p ending.HeapLimit left h from to is le = let c = h.comes 0 in meets_so begins Heap p c.world left le from to h (subst (λ now. At set now p.prints g 0 c.world (run g typed (p.goals + 0))) is c.at)
+  ends_so begins p ending.TrailLimit left h from to is le = let c = h.comes 0 in meets_so begins Trail p c.world left le from to h (subst (λ now. At set now p.prints g 0 c.world (run g typed (p.goals + 0))) is c.at)
+  ends_so begins p ending.AuxLimit left h from to is le = let c = h.comes 0 in meets_so begins Aux p c.world left le from to h (subst (λ now. At set now p.prints g 0 c.world (run g typed (p.goals + 0))) is c.at)
+  ends_so begins p ending.KeepLimit left h from to is le = let c = h.comes 0 in meets_so begins Keep p c.world left le from to h (subst (λ now. At set now p.prints g 0 c.world (run g typed (p.goals + 0))) is c.at)
+  ends_so begins p e left h from to is le =
       let c = h.comes (limits.steps - p.goals) in
-      ended_shows p.goals e p.prints c.world left le to (subst (λ now. At set now p.prints g (limits.steps - p.goals) c.world (run g typed (p.goals + (limits.steps - p.goals)))) is c.at)
+      ended_shows begins p.goals e p.prints c.world left le to (subst (λ now. At set now p.prints g (limits.steps - p.goals) c.world (run g typed (p.goals + (limits.steps - p.goals)))) is c.at)
 
-  limited_so : (p : Point) (left : List ℕ) → IsAt set g typed p → p.goals ≡ limits.steps → AtLimit g code limits codes typed p.prints left (run g typed p.goals) → Shows g typed limits (closed_text p.prints (line_of ending.StepLimit)) (record { ending = ending.StepLimit; goals = limits.steps }) (Some left)
-  limited_so p left h full l =
+  limited_so : MayBegin g limits → (p : Point) (left : List ℕ) → IsAt set g typed p → p.goals ≡ limits.steps → AtLimit g code limits codes typed p.prints left (run g typed p.goals) → Shows g typed limits (closed_text p.prints (line_of ending.StepLimit)) (record { ending = ending.StepLimit; goals = limits.steps }) (Some left)
+  limited_so begins p left h full l =
       let is : run g typed limits.steps ≡ record { left = 0; world = l.world; ending = ending.StepLimit } = ap (run g typed) (sym full) ∙ l.is in
       inl (record {
+        begins = begins;
         text = ap (λ ps. closed_text ps (line_of ending.StepLimit)) (sym l.printed_is) ∙ sym (ap (λ (x : Run). closed x.world.events (line_of x.ending)) is);
         ending = sym (ap (λ (x : Run). x.ending) is);
         goals = let left = ap (λ (x : Run). x.left) is in omega (arith, left);
         left_is = sym (ap (λ (x : Run). x.world.typed) is ∙ l.typed_is);
       })
 
-  pub shows_all : ShowsAll set g typed
-  shows_all = record {
+  pub shows_all : MayBegin g limits → ShowsAll set g typed
+  shows_all begins = record {
     ends = λ k e is le.
         let p = after set typed k in
         let l = left_at g code limits codes typed k in
-        ends_so p e (left_after set typed k) (is_at g code limits codes typed k) l.since (subst (Leads (λ o. o.typed ≡ left_after set typed k) (EndLeft g code limits codes typed p.goals (left_after set typed k))) is l.left) is le;
+        ends_so begins p e (left_after set typed k) (is_at g code limits codes typed k) l.since (subst (Leads (λ o. o.typed ≡ left_after set typed k) (EndLeft g code limits codes typed p.goals (left_after set typed k))) is l.left) is le;
     limited = λ k full e.
         let p = after set typed k in
         let h = is_at g code limits codes typed k in
-        limited_so p (left_after set typed k) h full (stops_there g code limits codes typed p (left_after set typed k) e h (left_at g code limits codes typed k).left);
+        limited_so begins p (left_after set typed k) h full (stops_there g code limits codes typed p (left_after set typed k) e h (left_at g code limits codes typed k).left);
   }
 
   -- ## The input fails

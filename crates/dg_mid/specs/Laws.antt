@@ -5,6 +5,7 @@ use Rattle.dg_base.specs.declared.run.Limits.{Limits}
 use Rattle.dg_base.specs.Sound.{IsSound}
 use Rattle.dg_meaning.specs.World.{Game}
 use Rattle.dg_meaning.specs.Transcript.{run}
+use Rattle.dg_meaning.specs.Shows.{MayBegin}
 use Rattle.dg_mid.specs.declared.code.Code.{Code}
 use Rattle.dg_mid.specs.State.{Status, Ended}
 use Rattle.dg_mid.specs.Step.{Setting, setting, step, takes_goal}
@@ -23,9 +24,9 @@ abbrev pub RunsAsSearched : Type 0
 RunsAsSearched = (g : Game) (code : Code) (limits : Limits) → Codes g.program code → (typed : List ℕ) (k : ℕ) →
     IsAt (setting g code limits) g typed (after (setting g code limits) typed k)
 
--- Where code stands for the program of a game, what it prints shows the game.
+-- Where code stands for the program of a game that may begin, what it prints shows the game.
 abbrev pub CodeShows : Type 0
-CodeShows = (g : Game) (code : Code) (limits : Limits) → Codes g.program code → (typed : List ℕ) → ShowsAll (setting g code limits) g typed
+CodeShows = (g : Game) (code : Code) (limits : Limits) → Codes g.program code → MayBegin g limits → (typed : List ℕ) → ShowsAll (setting g code limits) g typed
 
 -- The same where its input fails.
 abbrev pub CodeShowsFaults : Type 0

@@ -3,8 +3,7 @@ use Rattle.std.specs.Prelude.{ℕ, zero, suc, ◌+◌, ◌-◌, ◌≡◌, ◌<�
 use Rattle.dg_base.specs.declared.run.Ending.{Ending}
 use Rattle.dg_base.specs.declared.run.Ending.TheVariants.{StepLimit}
 use Rattle.dg_meaning.specs.World.{Game, Print, prints}
-use Rattle.dg_meaning.specs.Render.{render, nothing_met, met_from}
-use Rattle.dg_meaning.specs.Transcript.{run, start_world, newline_behind, line_of, input_fault_line}
+use Rattle.dg_meaning.specs.Transcript.{run, start_world, closed_text, line_of, input_fault_line}
 use Rattle.dg_meaning.specs.Shows.{Shows, ShowsInputFault}
 use Rattle.dg_meaning.specs.OneRun.{Begins, EndsWith}
 use Rattle.dg_mid.specs.Code.{block_at}
@@ -66,10 +65,6 @@ pub record IsAt (s : Setting) (g : Game) (typed : List ℕ) (p : Point) : Type 0
   pub since : Begins (prints (run g typed (p.goals - 1)).world.events) p.prints
 
 -- ## What is shown
-
--- The text of what was printed, closed with a line.
-abbrev pub closed_text : List Print → List ℕ → List ℕ
-closed_text ps line = render ps ++ (newline_behind (met_from nothing_met ps).last ++ line)
 
 -- Where a run of code has ended, and where its goals are used up, what was printed, with the closing of the ending, shows the game, and what is left
 -- of the typed bytes.

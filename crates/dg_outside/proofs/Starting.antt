@@ -1,5 +1,5 @@
 -- What is outside at the start.
-use Rattle.std.proofs.Common.{◌≡◌, ℕ, ◌+◌, List, [], ◌∷◌, ◌++◌, refl, sym, ap, ◌∙◌, subst, arith, length, map, replicate}
+use Rattle.std.proofs.Common.{◌≡◌, ℕ, ◌+◌, ◌≤◌, List, [], ◌∷◌, ◌++◌, refl, sym, ap, ◌∙◌, subst, arith, length, map, replicate}
 use Rattle.std.specs.List.{All}
 use Rattle.std.proofs.lemmas.List.{map-append}
 use Rattle.std.proofs.lemmas.List.Elements.{All-cons}
@@ -20,7 +20,7 @@ use Rattle.dg_choose.specs.declared.site.Site.{Site}
 use Rattle.dg_lists.specs.Gathered.{Gathered}
 use Rattle.dg_world.specs.Worlds.{StandsFor}
 use Rattle.dg_world.specs.declared.world.World.{World}
-use Rattle.dg_meaning.specs.Facts.{Fact, no_program, start_value, starts_from, start_facts}
+use Rattle.dg_meaning.specs.Facts.{Fact, kinds_of, kept_size, no_program, start_value, starts_from, start_facts}
 use Rattle.dg_meaning.specs.Values.{value_of_leaf, value_of, value_of_row}
 use Rattle.dg_lists.specs.Formed.{IsFormed}
 use Rattle.dg_outside.specs.Outside.{outline, MayPick, StartsWorld, StartsOutside}
@@ -62,9 +62,9 @@ places_formed n (p ∷ places) = place_formed n p.start (starts_from (n + 1) pla
 
 -- ## All of it
 
-pub starts_outside : (program : CoreProgram) (limits : Limits) (dice : List ℕ) (world : World) (gathered : Gathered) (thrown : Dice) (sites : Vec Site Global) (row : Vec Cell Global) → StartsWorld program limits.keep world → gathered ≡ record { rows = []; aux = limits.aux } → HasDrawn thrown dice 0 → map picks_of sites.items ≡ replicate program.sites no_picks → length row.items ≡ limits.keep →
+pub starts_outside : (program : CoreProgram) (limits : Limits) (dice : List ℕ) (world : World) (gathered : Gathered) (thrown : Dice) (sites : Vec Site Global) (row : Vec Cell Global) → StartsWorld program limits.keep world → kept_size (kinds_of program) (start_facts program.places) ≤ limits.keep → gathered ≡ record { rows = []; aux = limits.aux } → HasDrawn thrown dice 0 → map picks_of sites.items ≡ replicate program.sites no_picks → length row.items ≡ limits.keep →
     StartsOutside program limits dice (record { world = world; gathered = gathered; dice = thrown; sites = sites; row = row })
-starts_outside program limits dice world gathered thrown sites row stands none_open drawn new long = record {
+starts_outside program limits dice world gathered thrown sites row stands begins none_open drawn new long = record {
   stands = λ g typed same dice_same. (
     record {
       stands = subst (λ k. StandsFor world (outline g.program k) (start_facts g.program.places)) (sym stands.limit)
@@ -78,6 +78,7 @@ starts_outside program limits dice world gathered thrown sites row stands none_o
   );
   none = new;
   may = λ n fits. subst (MayPick n) (sym new) (may_new n program.sites fits);
+  begins = begins;
   aux = ap (λ (x : Gathered). x.aux) is_open;
   keep = stands.limit;
 } where

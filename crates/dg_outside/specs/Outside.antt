@@ -83,6 +83,7 @@ pub record StartsOutside (program : CoreProgram) (limits : Limits) (dice : List 
   pub stands : (g : Game) → (typed : List ℕ) → g.program ≡ program → g.dice ≡ dice → InWorld out g (start_world g typed)
   pub none : picks_in out ≡ replicate program.sites no_picks
   pub may : (times : ℕ) → times < 2 ^ 64 → MayPick times (picks_in out)
+  pub begins : kept_size (kinds_of program) (start_facts program.places) ≤ limits.keep
   pub aux : out.gathered.aux ≡ limits.aux
   pub keep : out.world.area.keep ≡ limits.keep
 

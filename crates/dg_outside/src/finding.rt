@@ -5,7 +5,7 @@ ghost use Rattle.dg_meaning.specs.Facts.{Fact, kinds_of};
 ghost use Rattle.dg_meaning.specs.Changes.{found as the_found};
 ghost use Rattle.dg_world.specs.Tables.{Outline, simple_value};
 ghost use Rattle.dg_world.specs.Worlds.{StandsFor};
-ghost use Rattle.dg_outside.specs.Finding.{has_objects, may_find as the_may_find};
+ghost use Rattle.dg_meaning.specs.inside.Finding.{has_objects, may_find as the_may_find};
 
 use crate::changing::kind_of;
 use dg_base::{CoreProgram, PlaceKind, Simple};

@@ -1,6 +1,5 @@
 // What a run has outside its store.
 ghost use Rattle.std.specs.Prelude.{◌≡◌, ◌<◌, ◌≤◌, IfOk, IfErr, OnOk, OnErr, List, All, length, map, replicate};
-ghost use Rattle.dg_meaning.specs.Facts.{Fact};
 ghost use Rattle.dg_meaning.specs.Changes.{change_of};
 ghost use Rattle.dg_unify.specs.Store.{Saved, Holds};
 ghost use Rattle.dg_world.specs.Tables.{Outline, IsKind};
@@ -10,6 +9,7 @@ ghost use Rattle.dg_base.specs.Sound.{IsSound};
 ghost use Rattle.dg_lists.specs.Writing.{value_at};
 ghost use Rattle.dg_choose.specs.Site.{picks_of};
 ghost use Rattle.dg_meaning.specs.Choosing.{no_picks, picks_at};
+ghost use Rattle.dg_meaning.specs.Facts.{Fact, kinds_of, kept_size, start_facts};
 ghost use Rattle.dg_outside.specs.Outside.{OpensOne, OpensTooMuch, Gathers, GathersTooMuch, Closes, picks_in, MayPick, PicksOne, StartsWorld, StartsOutside, LacksAtStart};
 
 use crate::changing::change_place;
@@ -71,6 +71,7 @@ pub fn objects_of(program: &CoreProgram) -> u16
 fn start_world(alloc: Global, program: &CoreProgram, keep: u32) -> Result<World, Lack>
     requires sound { IsSound program.now }
     ensures starts { IfOk result (StartsWorld program.now keep) }
+    ensures begins { OnOk result (kept_size (kinds_of program.now) (start_facts program.now.places) ≤ keep) }
     ensures lacks { IfErr result (LacksAtStart program.now keep) }
 {
     let objects = objects_of(program);

@@ -9,7 +9,8 @@ use Rattle.dg_meaning.specs.Path.{Step, Do, Answers, Cut, Refuse, Back, Keep, Le
 use Rattle.dg_meaning.specs.Search.{search}
 use Rattle.dg_meaning.specs.Context.{Around, InBranch, Holds, Older, Shielded, StopIn, StepsIn, PathIn}
 use Rattle.dg_meaning.specs.OneAnswer.{IsOlder, AreOlder, HasOneAnswer}
-use Rattle.dg_single.specs.Plain.{is_in_set, is_plain}
+use Rattle.dg_single.specs.Plain.{is_plain}
+use Rattle.dg_meaning.specs.Sets.{is_in_set}
 use Rattle.dg_single.specs.Singles.{IsClosed}
 use Rattle.dg_single.proofs.Once.{search_hot}
 use denote.Hole.Carrier.{out}

@@ -6,7 +6,7 @@ use Rattle.std.proofs.lemmas.List.{take_more, take_all}
 use Rattle.dg_base.specs.declared.program.Goal.{Goal, out-Goal, Row_of-Goal, end_of-Goal, more_of-Goal, items-the_row-Goal, items_shown-the_row-Goal-0, Row_of-Goal-Either-0-1, end_of-Goal-Either-0-1, more_of-Goal-Either-0-1, items-the_row-Goal-Either-0-1, items_shown-the_row-Goal-Either-0-1-1}
 use Rattle.dg_base.specs.declared.program.Goal.{Either', Once', Not', If', Exhaust', Collect', Accumulate', Stoppable', Select'}
 use Rattle.dg_base.specs.declared.program.Goal.TheOpen as part
-use Rattle.dg_single.specs.Plain.{is_just, is_plain_form, row_has_just, is_plain, is_plain_row, are_plain_rows, has_just, are_plain}
+use Rattle.dg_single.specs.Plain.{is_just, is_plain_form, is_plain, is_plain_row, are_plain_rows, has_just, are_plain}
 use Rattle.dg_single.specs.inside.Left.{all_plain, inside_plain, left_plain, weight, row_weight, rows_weight, body_weight, lists_weight, inside_weight, left_weight}
 use denote.Hole.Carrier.{out}
 
@@ -21,14 +21,10 @@ added e f = omega (arith, e, f)
 summed : {a b c d : ℕ} → a ≡ b → c ≡ d → a + c ≡ b + d
 summed e f = omega (arith, e, f)
 
-just_row : {n : _} (k : Row_of-Goal n) → row_has_just k ≡ has_just (items-the_row-Goal n k)
-just_row end_of-Goal = refl
-just_row (more_of-Goal g others) = ap (λ b. is_just (out-Goal g) || b) (just_row others)
-
 plain_row : {n : _} (set : List Bool) (k : Row_of-Goal n) → is_plain_row set k ≡ are_plain set (items-the_row-Goal n k)
 plain_row set end_of-Goal = refl
 plain_row set (more_of-Goal g others) =
-    ap (λ b. b && (row_has_just others || is_plain set g)) (plain_row set others) ∙ ap (λ b. are_plain set (items-the_row-Goal _ others) && (b || is_plain set g)) (just_row others)
+    ap (λ b. b && (has_just (items-the_row-Goal _ others) || is_plain set g)) (plain_row set others)
 
 plain_rows : {n : _} (set : List Bool) (k : Row_of-Goal-Either-0-1 n) → are_plain_rows set k ≡ all_plain set (items-the_row-Goal-Either-0-1 n k)
 plain_rows set end_of-Goal-Either-0-1 = refl

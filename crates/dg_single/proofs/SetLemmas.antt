@@ -2,12 +2,14 @@
 use Rattle.std.proofs.Common.{◌≡◌, ℕ, zero, suc, ◌+◌, ◌<◌, ◌≤◌, ◌⊎◌, inl, inr, List, [], ◌∷◌, Bool, true, false, Some, refl, sym, ap, ◌∙◌, subst, arith, length, get_or, replicate}
 use Rattle.std.specs.Prelude.{not, ◌&&◌, ◌||◌, slice_get, slice_set}
 use Rattle.std.proofs.lemmas.Bool.{cases_eq}
-use Rattle.dg_base.specs.declared.program.Goal.{Goal, out-Goal, Row_of-Goal, end_of-Goal, more_of-Goal, Row_of-Goal-Either-0-1, end_of-Goal-Either-0-1, more_of-Goal-Either-0-1, If', Select'}
+use Rattle.dg_base.specs.declared.program.Goal.{Goal, out-Goal, Row_of-Goal, end_of-Goal, more_of-Goal, items-the_row-Goal, Row_of-Goal-Either-0-1, end_of-Goal-Either-0-1, more_of-Goal-Either-0-1, If', Select'}
 use Rattle.dg_base.specs.declared.program.Goal.TheOpen as part
 use Rattle.dg_base.specs.declared.program.Pred.{Pred}
+use Rattle.dg_base.specs.Goals.{has_rule}
 use Rattle.dg_base.specs.declared.program.Rule.{Rule}
-use Rattle.dg_single.specs.Plain.{is_in_set, is_plain_form, row_has_just, is_plain, is_plain_row, are_plain_rows, has_just, has_cut, are_plain, no_rules, rules_fit}
-use Rattle.dg_single.specs.Singles.{IsSubset, HasAll}
+use Rattle.dg_single.specs.Plain.{is_plain_form, is_plain, is_plain_row, are_plain_rows, has_just, has_cut, are_plain, rules_fit}
+use Rattle.dg_meaning.specs.Sets.{is_in_set, IsSubset}
+use Rattle.dg_single.specs.Singles.{HasAll}
 use Rattle.dg_single.specs.inside.Left.{one_if, count_in, Sifted}
 
 -- ## Tests that hold
@@ -58,10 +60,10 @@ mutual
   row_more : {n : _} → (s t : List Bool) → Sub s t → (k : Row_of-Goal n) → is_plain_row s k ≡ true → is_plain_row t k ≡ true
   row_more s t sub end_of-Goal h = refl
   row_more s t sub (more_of-Goal g others) h =
-      and_both (is_plain_row t others) (row_has_just others || is_plain t g) (row_more s t sub others (and_left (is_plain_row s others) (row_has_just others || is_plain s g) h))
-      (elim (or_cases (row_has_just others) (is_plain s g) (and_right (is_plain_row s others) (row_has_just others || is_plain s g) h)) [
-        | inl e ↦ or_left (row_has_just others) (is_plain t g) e
-        | inr e ↦ or_right (row_has_just others) (is_plain t g) (goal_more s t sub g e)
+      and_both (is_plain_row t others) (has_just (items-the_row-Goal _ others) || is_plain t g) (row_more s t sub others (and_left (is_plain_row s others) (has_just (items-the_row-Goal _ others) || is_plain s g) h))
+      (elim (or_cases (has_just (items-the_row-Goal _ others)) (is_plain s g) (and_right (is_plain_row s others) (has_just (items-the_row-Goal _ others) || is_plain s g) h)) [
+        | inl e ↦ or_left (has_just (items-the_row-Goal _ others)) (is_plain t g) e
+        | inr e ↦ or_right (has_just (items-the_row-Goal _ others)) (is_plain t g) (goal_more s t sub g e)
       ])
 
   rows_more : {n : _} → (s t : List Bool) → Sub s t → (k : Row_of-Goal-Either-0-1 n) → are_plain_rows s k ≡ true → are_plain_rows t k ≡ true
@@ -81,10 +83,10 @@ body_more s t sub (g ∷ gs) h =
 rules_more : (s t : List Bool) → Sub s t → (rules : List Rule) → rules_fit s rules ≡ true → rules_fit t rules ≡ true
 rules_more s t sub [] h = refl
 rules_more s t sub (rule ∷ rules) h =
-    let first = and_left (are_plain s rule.body && (no_rules rules || has_cut rule.body)) (rules_fit s rules) h in
-    and_both (are_plain t rule.body && (no_rules rules || has_cut rule.body)) (rules_fit t rules)
-    (and_both (are_plain t rule.body) (no_rules rules || has_cut rule.body) (body_more s t sub rule.body (and_left (are_plain s rule.body) (no_rules rules || has_cut rule.body) first)) (and_right (are_plain s rule.body) (no_rules rules || has_cut rule.body) first))
-    (rules_more s t sub rules (and_right (are_plain s rule.body && (no_rules rules || has_cut rule.body)) (rules_fit s rules) h))
+    let first = and_left (are_plain s rule.body && (not (has_rule rules) || has_cut rule.body)) (rules_fit s rules) h in
+    and_both (are_plain t rule.body && (not (has_rule rules) || has_cut rule.body)) (rules_fit t rules)
+    (and_both (are_plain t rule.body) (not (has_rule rules) || has_cut rule.body) (body_more s t sub rule.body (and_left (are_plain s rule.body) (not (has_rule rules) || has_cut rule.body) first)) (and_right (are_plain s rule.body) (not (has_rule rules) || has_cut rule.body) first))
+    (rules_more s t sub rules (and_right (are_plain s rule.body && (not (has_rule rules) || has_cut rule.body)) (rules_fit s rules) h))
 
 -- ## Taking out
 

@@ -1,13 +1,11 @@
 -- Which goals leave no choice open behind their answer, where the predicates of a set don't. Hold it against docs/LANGUAGE.md, "Search", on queries and (just).
-use Rattle.std.specs.Prelude.{ℕ, List, [], ◌∷◌, Bool, true, false, not, ◌&&◌, ◌||◌, slice_index_or}
+use Rattle.std.specs.Prelude.{ℕ, List, [], ◌∷◌, Bool, true, false, not, ◌&&◌, ◌||◌}
 use Rattle.std.specs.List.{list_any}
-use Rattle.dg_base.specs.declared.program.Goal.{Goal, out-Goal, If', Select', Row_of-Goal, end_of-Goal, more_of-Goal, Row_of-Goal-Either-0-1, end_of-Goal-Either-0-1, more_of-Goal-Either-0-1}
+use Rattle.dg_base.specs.declared.program.Goal.{Goal, out-Goal, If', Select', Row_of-Goal, end_of-Goal, more_of-Goal, items-the_row-Goal, Row_of-Goal-Either-0-1, end_of-Goal-Either-0-1, more_of-Goal-Either-0-1}
 use Rattle.dg_base.specs.declared.program.Goal.TheOpen.{Goal-F, Ask, Holds, IsObject, Query, Either, Forever, Just, Fail}
 use Rattle.dg_base.specs.declared.program.Rule.{Rule}
-
--- A predicate is in a set.
-abbrev pub is_in_set : List Bool → ℕ → Bool
-is_in_set set p = slice_index_or set p false
+use Rattle.dg_base.specs.Goals.{has_rule}
+use Rattle.dg_meaning.specs.Sets.{is_in_set}
 
 -- It is a (just).
 abbrev pub is_just : Goal-F Goal → Bool
@@ -31,10 +29,9 @@ is_plain_form set (Query a b many) = not many
 is_plain_form set (Ask pred args many) = not many || is_in_set set pred
 is_plain_form set x = true
 
--- A (just) stands in a list, at its top.
-abbrev pub row_has_just : {m : _} → Row_of-Goal m → Bool
-row_has_just end_of-Goal = false
-row_has_just (more_of-Goal goal others) = is_just (out-Goal goal) || row_has_just others
+-- A (just) stands in a body, at its top.
+abbrev pub has_just : List Goal → Bool
+has_just goals = list_any (λ goal. is_just (out-Goal goal)) goals
 
 -- A goal is plain; of a condition and a select the lists that it goes on with are plain, too.
 -- A list is plain where every goal behind its last (just) is, or every goal where it has none.
@@ -46,17 +43,13 @@ abbrev mutual
 
   pub is_plain_row : {m : _} → List Bool → Row_of-Goal m → Bool
   is_plain_row set end_of-Goal = true
-  is_plain_row set (more_of-Goal goal others) = is_plain_row set others && (row_has_just others || is_plain set goal)
+  is_plain_row set (more_of-Goal goal others) = is_plain_row set others && (has_just (items-the_row-Goal _ others) || is_plain set goal)
 
   pub are_plain_rows : {m : _} → List Bool → Row_of-Goal-Either-0-1 m → Bool
   are_plain_rows set end_of-Goal-Either-0-1 = true
   are_plain_rows set (more_of-Goal-Either-0-1 s goals others) = is_plain_row set goals && are_plain_rows set others
 
--- A (just) stands in a body, at its top.
-abbrev pub has_just : List Goal → Bool
-has_just goals = list_any (λ goal. is_just (out-Goal goal)) goals
-
--- A (just) or (fail) stands there.
+-- A (just) or (fail) stands in a body, at its top.
 abbrev pub has_cut : List Goal → Bool
 has_cut goals = list_any (λ goal. is_cut_goal (out-Goal goal)) goals
 
@@ -65,12 +58,7 @@ abbrev pub are_plain : List Bool → List Goal → Bool
 are_plain set [] = true
 are_plain set (goal ∷ goals) = are_plain set goals && (has_just goals || is_plain set goal)
 
--- There is no rule.
-abbrev pub no_rules : List Rule → Bool
-no_rules [] = true
-no_rules (rule ∷ rules) = false
-
 -- The body of each rule is plain, and each but the last has a (just) or (fail) at its top.
 abbrev pub rules_fit : List Bool → List Rule → Bool
 rules_fit set [] = true
-rules_fit set (rule ∷ rules) = are_plain set rule.body && (no_rules rules || has_cut rule.body) && rules_fit set rules
+rules_fit set (rule ∷ rules) = are_plain set rule.body && (not (has_rule rules) || has_cut rule.body) && rules_fit set rules

@@ -1,15 +1,12 @@
 -- The predicates that are single: the greatest set whose rules fit it. Hold it against docs/LANGUAGE.md, "Search", on queries and (just).
 use Rattle.std.specs.Prelude.{◌≡◌, ℕ, List, Bool, true, slice_get, length, Some}
 use Rattle.dg_base.specs.declared.program.Pred.{Pred}
-use Rattle.dg_single.specs.Plain.{is_in_set, rules_fit}
+use Rattle.dg_meaning.specs.Sets.{is_in_set, IsSubset}
+use Rattle.dg_single.specs.Plain.{rules_fit}
 
 -- The rules of each predicate of a set fit the set.
 abbrev pub IsClosed : List Pred → List Bool → Type 0
 IsClosed preds set = (p : ℕ) → (pred : Pred) → slice_get preds p ≡ Some pred → is_in_set set p ≡ true → rules_fit set pred.rules ≡ true
-
--- Each predicate of a set is in another.
-abbrev pub IsSubset : List Pred → List Bool → List Bool → Type 0
-IsSubset preds inner outer = (p : ℕ) → (pred : Pred) → slice_get preds p ≡ Some pred → is_in_set inner p ≡ true → is_in_set outer p ≡ true
 
 -- It has each such set of predicates within it.
 abbrev pub HasAll : List Pred → List Bool → Type 0

@@ -2,7 +2,7 @@
 ghost use Rattle.std.specs.Prelude.{◌≡◌, ℕ, List, Bool, true};
 ghost use Rattle.dg_meaning.specs.World.{Game};
 ghost use Rattle.dg_meaning.specs.OneAnswer.{HasOneAnswer};
-ghost use Rattle.dg_single.specs.Plain.{is_in_set};
+ghost use Rattle.dg_meaning.specs.Sets.{is_in_set};
 ghost use Rattle.dg_single.specs.Singles.{IsClosed};
 
 /// Each predicate of a set that its rules fit has at most one answer.

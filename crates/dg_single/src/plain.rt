@@ -1,5 +1,6 @@
 // Goals that leave no choice open behind their answer.
 ghost use Rattle.std.specs.Prelude.{IfOk, OnOk, ◌≡◌, ◌+◌, ◌&&◌, ◌<◌, List, Bool};
+ghost use Rattle.dg_meaning.specs.Sets.{is_in_set};
 ghost use Rattle.dg_single.specs.Plain as spec;
 ghost use Rattle.dg_single.specs.inside.Left.{all_plain, inside_plain, left_plain, body_weight, lists_weight, inside_weight, left_weight};
 ghost use Rattle.dg_base.specs.declared.program.Goal.{out-Goal};
@@ -33,7 +34,7 @@ pub fn has_cut(body: &[Goal]) -> bool
 
 // Whether a predicate is in a set.
 fn is_in(set: &[bool], pred: u16) -> bool
-    ensures { result ≡ spec.is_in_set set.now pred }
+    ensures { result ≡ is_in_set set.now pred }
 {
     match set.get(usize::from(pred)) {
         Some(single) => *single,

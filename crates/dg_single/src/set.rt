@@ -1,5 +1,6 @@
 // The greatest set of predicates whose rules fit it.
-ghost use Rattle.std.specs.Prelude.{IfOk, OnOk, ◌≡◌, ◌<◌, ◌&&◌, ◌||◌, true, false, length, replicate};
+ghost use Rattle.std.specs.Prelude.{IfOk, OnOk, ◌≡◌, ◌<◌, ◌&&◌, ◌||◌, not, true, false, length, replicate};
+ghost use Rattle.dg_base.specs.Goals.{has_rule};
 ghost use Rattle.dg_single.specs.Plain as spec;
 ghost use Rattle.dg_single.specs.Singles.{IsClosed, HasAll, AreSingles};
 ghost use Rattle.dg_single.specs.inside.Left.{count_in, Sifted};
@@ -10,7 +11,7 @@ use std::alloc::{AllocError, Global};
 
 // Whether a rule with others behind it fits a set.
 fn rule_fits(set: &[bool], rule: &Rule, others: &[Rule], alloc: Global) -> Result<bool, AllocError>
-    ensures { IfOk result (λ fits. fits ≡ (spec.are_plain set.now rule.now.body && (spec.no_rules others.now || spec.has_cut rule.now.body))) }
+    ensures { IfOk result (λ fits. fits ≡ (spec.are_plain set.now rule.now.body && (not (has_rule others.now) || spec.has_cut rule.now.body))) }
 {
     let body = rule.body.as_slice();
     let cuts = others.is_empty() || has_cut(body);

@@ -7,9 +7,8 @@ use Rattle.dg_base.specs.declared.program.GapKind.TheVariants as gap
 use Rattle.dg_base.specs.Written.{SinkView, Wrote, BrokeOff}
 use Rattle.dg_base.proofs.WrittenLemmas.{wrote_nothing, wrote_on, broke_first, broke_later}
 use Rattle.dg_meaning.specs.World.{Print, Piece, GapOf, SpacesOf}
-use Rattle.dg_meaning.specs.Render.{is_line, is_par, is_upper, spaces_from, last_asked, space_for, separator, capital, upper, first_of, last_of, Met, nothing_met, met_from, met_behind, written}
-use Rattle.dg_meaning.specs.Transcript.{newline_behind}
-use Rattle.dg_meaning.specs.Growth.{growth, ending_line}
+use Rattle.dg_meaning.specs.Render.{is_line, is_par, is_upper, spaces_from, last_asked, space_for, separator, capital, upper, first_of, last_of, Met, nothing_met, met_from, met_behind, written, growth}
+use Rattle.dg_meaning.specs.Transcript.{newline_behind, ending_line}
 use Rattle.std.specs.Borrow.{Bor}
 use Rattle.dg_spacing.specs.declared.gap.Event.{Event}
 use Rattle.dg_spacing.specs.declared.gap.Event.TheVariants as event

@@ -1,9 +1,8 @@
 // The spacer: what is known of the text so far.
 ghost use Rattle.std.specs.Prelude.{◌≡◌, ◌++◌, List, [], ◌∷◌, OnOk, OnErr, codes, replicate, if◌then◌else◌};
 ghost use Rattle.dg_meaning.specs.World.{Print, Piece as PieceOf};
-ghost use Rattle.dg_meaning.specs.Render.{opens as is_opening, closes as is_closing, space_for, first_of, last_of, upper as capital_of};
-ghost use Rattle.dg_meaning.specs.Transcript.{newline_behind};
-ghost use Rattle.dg_meaning.specs.Growth.{growth, ending_line};
+ghost use Rattle.dg_meaning.specs.Render.{opens as is_opening, closes as is_closing, space_for, first_of, last_of, upper as capital_of, growth};
+ghost use Rattle.dg_meaning.specs.Transcript.{newline_behind, ending_line};
 ghost use Rattle.dg_base.specs.Written.{Wrote, BrokeOff};
 ghost use Rattle.dg_spacing.specs.Gaps.{print_of, IsGapEvent, IsGap, gap_text, piece_text};
 

@@ -4,11 +4,10 @@ use Rattle.std.proofs.lemmas.List.{append-nil}
 use Rattle.dg_base.specs.declared.run.Ending.TheVariants as endings
 use Rattle.dg_meaning.specs.World.{Print}
 use Rattle.dg_meaning.specs.Render.{render, nothing_met, met_from}
-use Rattle.dg_meaning.specs.Transcript.{newline_behind, line_of}
+use Rattle.dg_meaning.specs.Transcript.{newline_behind, line_of, closed_text}
 use Rattle.dg_mid.specs.declared.code.Op.{Op}
 use Rattle.dg_mid.specs.declared.code.Op.TheVariants as op
 use Rattle.dg_mid.specs.declared.code.RuleCode.{RuleCode}
-use Rattle.dg_mid.specs.Runs.{closed_text}
 use Rattle.dg_mid.specs.State.{Call, Calls, Mid, Runs, Enters, Resumes, Fails}
 use Rattle.z_model.specs.declared.end.Halt.TheVariants.{AtQuit}
 use Rattle.z_model.specs.Run.{ZState}

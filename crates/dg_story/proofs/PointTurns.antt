@@ -4,14 +4,14 @@ use Rattle.std.specs.Prelude.{slice_get}
 use Rattle.dg_base.specs.Sound.{FitsHeads}
 use Rattle.dg_meaning.specs.World.{Game, Print}
 use Rattle.dg_meaning.specs.Render.{nothing_met, met_from, render}
-use Rattle.dg_meaning.specs.Transcript.{line_of}
+use Rattle.dg_meaning.specs.Transcript.{line_of, closed_text}
 use Rattle.dg_mid.specs.declared.code.Op.{Op}
 use Rattle.dg_mid.specs.declared.code.Op.TheVariants as op
 use Rattle.dg_mid.specs.Code.{block_at, rules_at}
 use Rattle.dg_mid.specs.State.{Goes, Takes, Calls, Tries, Status, Runs, Enters, Resumes, Fails, Ended}
 use Rattle.dg_mid.specs.Step.{Setting, setting, step, said, followed}
 use Rattle.dg_mid.specs.Units.{units, units_of}
-use Rattle.dg_mid.specs.Runs.{Point, after, closed_text}
+use Rattle.dg_mid.specs.Runs.{Point, after}
 use Rattle.dg_mid.specs.Potential.{IsOver}
 use Rattle.z_model.specs.declared.end.ZEnd.{ZEnd}
 use Rattle.z_model.specs.declared.end.ZEnd.TheVariants as ends

@@ -6,7 +6,7 @@ use Rattle.dg_base.specs.declared.run.Ending.TheVariants as endings
 use Rattle.dg_meaning.specs.World.{Game, World, Print, prints}
 use Rattle.dg_meaning.specs.Render.{render}
 use Rattle.dg_meaning.specs.Search.{answer}
-use Rattle.dg_meaning.specs.Transcript.{Run, run_of, run, closed, line_of, transcript}
+use Rattle.dg_meaning.specs.Transcript.{Run, run_of, run, closed, line_of, transcript, closed_text}
 use Rattle.dg_meaning.specs.OneRun.{Begins}
 use Rattle.dg_meaning.specs.Peaks.{Heap, peak, limit_of}
 use Rattle.dg_meaning.proofs.OneRun.{begins_same, begins_on}
@@ -18,7 +18,7 @@ use Rattle.dg_mid.specs.Step.{Setting, setting, takes_goal}
 use Rattle.dg_mid.specs.Units.{units, one_if}
 use Rattle.dg_mid.specs.Potential.{Tidy, IsOver}
 use Rattle.dg_mid.specs.Reads.{At, EndedAt, HasEnded, MeetsLimit}
-use Rattle.dg_mid.specs.Runs.{Point, closed_text, IsAt}
+use Rattle.dg_mid.specs.Runs.{Point, IsAt}
 use Rattle.dg_mid.proofs.Whole.{at_limit}
 use Rattle.z_model.specs.declared.end.ZEnd.{ZEnd}
 use Rattle.z_model.specs.declared.end.ZEnd.TheVariants as ends

@@ -5,7 +5,7 @@ use Rattle.std.proofs.lemmas.Bool.{lt-ltb, le-ltb, ltb-false}
 use Rattle.dg_base.specs.declared.run.Ending.TheVariants as endings
 use Rattle.dg_meaning.specs.World.{Game, Prints, Print, Piece, prints as prints_of}
 use Rattle.dg_meaning.specs.Render.{Met, separator, written, nothing_met, met_from, characters}
-use Rattle.dg_meaning.specs.Transcript.{line_of}
+use Rattle.dg_meaning.specs.Transcript.{line_of, closed_text}
 use Rattle.dg_mid.specs.declared.code.Action.TheVariants as action
 use Rattle.dg_mid.specs.declared.code.Op.{Op}
 use Rattle.dg_mid.specs.declared.code.Op.TheVariants as op
@@ -14,7 +14,6 @@ use Rattle.dg_mid.specs.Code.{rules_at}
 use Rattle.dg_mid.specs.State.{Place, Frame, Call, Calls, Choice, Mid, Status, Runs, Enters, Resumes, Fails, Ended, cut_choices}
 use Rattle.dg_mid.specs.Step.{Setting, setting, back_at, followed}
 use Rattle.dg_mid.specs.Units.{units, units_of}
-use Rattle.dg_mid.specs.Runs.{closed_text}
 use Rattle.z_model.specs.Run.{ZState}
 use Rattle.z_lang.specs.Standing.{Context}
 use Rattle.dg_story.specs.Agrees.{story_limits}

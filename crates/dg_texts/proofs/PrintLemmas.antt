@@ -9,7 +9,7 @@ use Rattle.dg_base.specs.Written.{SinkView, Wrote, BrokeOff}
 use Rattle.dg_base.proofs.WrittenLemmas.{wrote_nothing, wrote_on, broke_first, broke_later}
 use Rattle.dg_meaning.specs.Values.{Label, Num, Word, Unknown, Object, Closure, Nil, Pair, Value, Var, Node, Values, NoMore, More, pair}
 use Rattle.dg_meaning.specs.World.{Print, Piece}
-use Rattle.dg_meaning.specs.Render.{Met, nothing_met, met_from, met_behind, written, render_from}
+use Rattle.dg_meaning.specs.Render.{Met, nothing_met, met_from, met_behind, written, render_from, growth}
 use Rattle.dg_meaning.specs.Pieces.{shown_letter, word_text, pieces, first_piece, list_pieces, tail_pieces}
 use Rattle.dg_meaning.specs.Substitutions.{resolved, all_resolved, IsSubstitution}
 use Rattle.dg_meaning.specs.Unify.{size}
@@ -30,7 +30,6 @@ use Rattle.dg_texts.specs.declared.printing.Next.TheVariants as next
 use Rattle.dg_spacing.specs.declared.spacer.Spacer.{Spacer}
 use Rattle.dg_base.specs.declared.writing.WriteFault.{WriteFault}
 use Rattle.dg_spacing.specs.Spacer.{StandsFor}
-use Rattle.dg_meaning.specs.Growth.{growth}
 use Rattle.dg_texts.specs.Printing.{Added, HasText, shows_nil, single_pieces, end_pieces, as_prints, growth_of, AllAdded, AddsAll, Printed, value_at, ref_of, next_pieces, opening, IsPairOf}
 
 -- ## Pieces behind pieces

@@ -4,8 +4,7 @@ use Rattle.dg_base.specs.Written.{SinkView, Wrote, BrokeOff}
 use Rattle.dg_base.proofs.WrittenLemmas.{wrote_on, broke_later}
 use Rattle.dg_meaning.specs.World.{World, Print, Piece, Prints, prints}
 use Rattle.dg_meaning.specs.Moves.{printed, all_printed}
-use Rattle.dg_meaning.specs.Render.{nothing_met, met_from, render, render_from}
-use Rattle.dg_meaning.specs.Growth.{growth}
+use Rattle.dg_meaning.specs.Render.{nothing_met, met_from, render, render_from, growth}
 use Rattle.dg_meaning.proofs.Dropping.{prints_append}
 use Rattle.dg_spacing.specs.declared.spacer.Spacer.{Spacer}
 use Rattle.dg_spacing.specs.Spacer.{StandsFor}

@@ -5,7 +5,7 @@ use Rattle.dg_meaning.specs.Values.{Nil, Value, Node, pair}
 use Rattle.dg_meaning.specs.Substitutions.{resolved}
 use Rattle.dg_meaning.specs.Pieces.{word_text, first_piece, pieces, tail_pieces}
 use Rattle.dg_meaning.specs.World.{Print, Piece}
-use Rattle.dg_meaning.specs.Render.{nothing_met, met_from, render_from}
+use Rattle.dg_meaning.specs.Render.{nothing_met, met_from, render_from, growth}
 use Rattle.dg_base.specs.Written.{SinkView, Wrote, BrokeOff}
 use Rattle.dg_base.specs.declared.writing.WriteFault.{WriteFault}
 use Rattle.dg_unify.specs.Store.{Store, told, Holds}
@@ -14,7 +14,6 @@ use Rattle.dg_unify.specs.declared.bindings.View.{View}
 use Rattle.dg_unify.specs.declared.bindings.View.TheVariants as view
 use Rattle.dg_base.specs.declared.cells.Simple.TheVariants as simple
 use Rattle.dg_spacing.specs.Spacer.{StandsFor}
-use Rattle.dg_meaning.specs.Growth.{growth}
 use Rattle.dg_spacing.specs.declared.spacer.Spacer.{Spacer}
 use Rattle.dg_texts.specs.declared.printing.Next.{Next}
 use Rattle.dg_texts.specs.declared.printing.Next.TheVariants as next

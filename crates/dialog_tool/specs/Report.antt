@@ -2,17 +2,12 @@
 use Rattle.std.specs.Prelude.{ℕ, List, [], ◌∷◌, ◌++◌, Bool, true, false, ◌&&◌, codes, zip, flat_map, if◌then◌else◌}
 use Rattle.dg_base.specs.declared.program.CoreProgram.{CoreProgram as Core}
 use Rattle.dg_base.specs.declared.program.Pred.{Pred}
-use Rattle.dg_base.specs.declared.program.Rule.{Rule}
+use Rattle.dg_base.specs.Goals.{has_rule}
 
 -- the word for a predicate that is single, and for another
 abbrev pub answers_word : Bool → List ℕ
 answers_word true = codes "single "
 answers_word false = codes "many "
-
--- there is a rule
-abbrev pub has_rule : List Rule → Bool
-has_rule [] = false
-has_rule (rule ∷ rules) = true
 
 -- a predicate is listed where it stands in the source and has a rule in the core program
 abbrev pub is_listed : Pred → Bool

@@ -11,6 +11,7 @@ use Rattle.dg_base.specs.declared.run.Ending.{Ending}
 use Rattle.dg_base.specs.declared.run.Limits.{Limits}
 use Rattle.dg_base.specs.declared.run.Ending.TheVariants.{Done as Done-Ending, Failed as Failed-Ending, Stopped}
 use Rattle.dg_meaning.specs.World.{Game, World, Print, Piece, prints}
+use Rattle.dg_meaning.specs.Facts.{kinds_of, kept_size, start_facts}
 use Rattle.dg_meaning.specs.Substitutions.{resolved}
 use Rattle.dg_meaning.specs.Pieces.{pieces}
 use Rattle.dg_meaning.specs.Path.{Step, Do, Registers, Result, Failing, End}
@@ -159,6 +160,7 @@ pub record Starts (program : CoreProgram) (limits : Limits) (dice : List ℕ) (e
   pub ready : IsReady e
   pub goal : 0 < length e.here.goals.now
   pub left : e.left ≡ limits.steps
+  pub begins : kept_size (kinds_of program) (start_facts program.places) ≤ limits.keep
   pub limits_are : (area : Area) → limit_in area e ≡ limit_of area limits
   pub stands : (g : Game) (n : ℕ) (typed : List ℕ) → g.program ≡ program → g.dice ≡ dice → StandsAt e g n (start_world g typed) (run g typed n)
 

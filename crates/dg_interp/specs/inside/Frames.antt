@@ -23,7 +23,8 @@ use Rattle.dg_interp.specs.declared.frames.Frame.{Frame}
 use Rattle.dg_interp.specs.declared.frames.Left.{Left}
 use Rattle.dg_interp.specs.declared.frames.Left.TheVariants.{Rules, Lists, Ways, Way, Behind, TakeOut, Things}
 use Rattle.dg_interp.specs.declared.frames.Choice.{Choice}
-use Rattle.dg_outside.specs.Finding.{may_find, counted}
+use Rattle.dg_outside.specs.Finding.{counted}
+use Rattle.dg_meaning.specs.inside.Finding.{may_find}
 use Rattle.dg_interp.specs.inside.Trying.{trial_branches}
 
 -- ## Values

@@ -6,7 +6,7 @@ ghost use Rattle.dg_meaning.specs.Facts.{kinds_of, value_at};
 ghost use Rattle.dg_meaning.specs.Changes.{found as the_found};
 ghost use Rattle.dg_unify.specs.Store.{Holds};
 ghost use Rattle.dg_interp.specs.inside.Engine.{IsReady, TakesAt, Branches, FullAt, store_in};
-ghost use Rattle.dg_outside.specs.Finding.{may_find};
+ghost use Rattle.dg_meaning.specs.inside.Finding.{may_find};
 ghost use Rattle.dg_interp.specs.inside.Finding.{made_values, ReadsAt, AsksPlaceAt, AsksObjectsAt};
 
 use super::Engine;

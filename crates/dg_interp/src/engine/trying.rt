@@ -5,7 +5,7 @@ ghost use Rattle.dg_unify.specs.Store.{Holds};
 ghost use Rattle.dg_interp.specs.declared.frames.Left.TheVariants.{Things};
 ghost use Rattle.dg_interp.specs.inside.Frames.{IsLeft, EndsBy, stays_with};
 ghost use Rattle.dg_interp.specs.inside.Engine.{IsReady, IsSound, BeginsAt, HasPlace, Branches, Tries, FullAt, branches_left, store_in};
-ghost use Rattle.dg_outside.specs.Finding.{may_find as the_may_find};
+ghost use Rattle.dg_meaning.specs.inside.Finding.{may_find as the_may_find};
 ghost use Rattle.dg_interp.specs.inside.Finding.{FindsAt, TriesObjectsAt};
 
 use super::querying::body_mark;

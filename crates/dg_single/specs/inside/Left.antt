@@ -4,7 +4,8 @@ use Rattle.std.specs.Borrow.{Bor}
 use Rattle.dg_base.specs.declared.program.Goal.{Goal, If', Select', Row_of-Goal, end_of-Goal, more_of-Goal, Row_of-Goal-Either-0-1, end_of-Goal-Either-0-1, more_of-Goal-Either-0-1}
 use Rattle.dg_base.specs.declared.program.Goal.TheOpen.{Goal-F, If, Select}
 use Rattle.dg_base.specs.declared.program.Rule.{Rule}
-use Rattle.dg_single.specs.Plain.{is_in_set, are_plain, rules_fit}
+use Rattle.dg_single.specs.Plain.{are_plain, rules_fit}
+use Rattle.dg_meaning.specs.Sets.{is_in_set}
 
 -- Each of some lists is plain.
 abbrev pub all_plain : List Bool → List (List Goal) → Bool

@@ -3,8 +3,7 @@ use Rattle.std.proofs.lemmas.List.{append-nil}
 use Rattle.dg_base.proofs.WrittenLemmas.{wrote_on, broke_later}
 use Rattle.dg_base.specs.declared.program.GapKind.TheVariants.{Line}
 use Rattle.dg_base.specs.Written.{Wrote, BrokeOff}
-use Rattle.dg_meaning.specs.Growth.{growth}
-use Rattle.dg_meaning.specs.Render.{render}
+use Rattle.dg_meaning.specs.Render.{render, growth}
 use Rattle.dg_meaning.specs.World.{GapOf}
 use Rattle.dg_mid.specs.Step.{followed}
 use Rattle.dg_texts.proofs.Texts.{render_grows}

@@ -1,6 +1,6 @@
 use Rattle.std.proofs.Common.{refl, sym, subst, ap, ◌∙◌, ◌∷◌, ◌++◌, []}
 use Rattle.dg_meaning.specs.World.{Piece, GapOf}
-use Rattle.dg_meaning.specs.Growth.{growth}
+use Rattle.dg_meaning.specs.Render.{growth}
 use Rattle.dg_base.specs.Written.{Wrote, BrokeOff}
 use Rattle.dg_spacing.specs.Spacer.{StandsFor}
 use Rattle.dg_mid.specs.declared.code.Op.TheVariants as op

@@ -40,7 +40,7 @@ returns-in-Ok-close-2-clause-shows g c p dice codes is_of starts =
     let told = left_told i (g.S.Source.view c.go.new.source) in
     let k' = g.K.Sink.view c.close-in-Ok.new.sink in
     for_given i.left h.typed (λ typed. HasShown x typed m.limits (record { ending = c.in-Ok.ending; goals = m.limits.steps - c.in-Ok.left }) told k k') h.is_typed
-    (shown m.code x m.limits codes h.typed c.in-Ok.ending c.in-Ok.left c.go.new.memory c.go.new.spacer k (g.K.Sink.view c.go.new.sink) k' h.rest told h.is_rest (h.ends x is_of m.limits h.typed k at) h.within (rw c.line.ensures at c.in-Ok-close-2.ensures.ok))
+    (shown m.code x m.limits codes h.typed starts.begins c.in-Ok.ending c.in-Ok.left c.go.new.memory c.go.new.spacer k (g.K.Sink.view c.go.new.sink) k' h.rest told h.is_rest (h.ends x is_of m.limits h.typed k at) h.within (rw c.line.ensures at c.in-Ok-close-2.ensures.ok))
 
 pub returns-in-Err-close-clause-output : goal.returns-in-Err-close-clause-output
 returns-in-Err-close-clause-output g c e p dice codes is_of starts =
@@ -53,7 +53,7 @@ returns-in-Err-close-clause-output g c e p dice codes is_of starts =
     let i' = g.S.Source.view c.go.new.source in
     let k' = g.K.Sink.view c.close-in-Ok.new.sink in
     for_given i.left h.typed (λ typed. HasLostText x typed m.limits i i' k k') h.is_typed
-    (closing_lost m.code x m.limits codes h.typed c.in-Ok.ending c.in-Ok.left c.go.new.memory c.go.new.spacer k (g.K.Sink.view c.go.new.sink) k' i i' h.rest h.is_rest (h.ends x is_of m.limits h.typed k at) h.within (rw c.line.ensures at c.in-Err-close.ensures.err))
+    (closing_lost m.code x m.limits codes h.typed starts.begins c.in-Ok.ending c.in-Ok.left c.go.new.memory c.go.new.spacer k (g.K.Sink.view c.go.new.sink) k' i i' h.rest h.is_rest (h.ends x is_of m.limits h.typed k at) h.within (rw c.line.ensures at c.in-Err-close.ensures.err))
 
 pub returns-in-Err-Write-clause-output : goal.returns-in-Err-Write-clause-output
 returns-in-Err-Write-clause-output g c e p dice codes is_of starts =

@@ -1,0 +1,4 @@
+pub mod Solved
+pub mod Starts
+pub mod Erasing
+pub mod Finding
