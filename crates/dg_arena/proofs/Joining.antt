@@ -3,8 +3,10 @@ use Rattle.std.proofs.lemmas.Bool.{ne_eqb}
 use Rattle.std.proofs.Common.{◌-◌, ◌+◌, ◌≤◌, ◌≡◌, ℕ, ◌<◌, refl, sym, ap, ◌∙◌, subst, arith, Some, false, length, get_or, reverse}
 use Rattle.std.specs.Prelude.{Bool, IfSome, Result, Ok, Err, Option, None, max}
 use Rattle.dg_meaning.specs.Values.{Value, Values, Var, Node, Pair, More, NoMore, pair}
-use Rattle.dg_meaning.specs.Substitutions.{walk, resolved, contains, is_bound, IsSubstitution}
-use Rattle.dg_meaning.specs.Unify.{unify, Binds, binds, top}
+use Rattle.dg_meaning.specs.Substitutions.{walk, resolved, contains}
+use Rattle.dg_meaning.specs.inside.Substitutions.{is_bound, IsSubstitution}
+use Rattle.dg_meaning.specs.Unify.{Binds, binds, top}
+use Rattle.dg_meaning.specs.inside.Unify.{unify}
 use Rattle.dg_meaning.proofs.LookUps.{walk_node}
 use Rattle.dg_meaning.proofs.Walks.{walked, resolved_node}
 use Rattle.dg_unify.specs.Store.{Store, told, or_nil, ShowsVar, ShowsPair, Follows}

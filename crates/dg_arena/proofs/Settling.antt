@@ -4,7 +4,8 @@ use Rattle.std.specs.Prelude.{◌&&◌, if◌then◌else◌, min, nat_lt}
 use Rattle.std.proofs.lemmas.Bool.{cond_both, ltb-true, ltb-false}
 use Rattle.dg_meaning.specs.Values.{Label, Num, Word, Unknown, Object, Nil, Pair, Closure, Node, Values, NoMore, More, leaf}
 use Rattle.dg_meaning.specs.Substitutions.{walk, resolved}
-use Rattle.dg_meaning.specs.Unify.{same_label, as_many, unify}
+use Rattle.dg_meaning.specs.Unify.{same_label, as_many}
+use Rattle.dg_meaning.specs.inside.Unify.{unify}
 use Rattle.dg_meaning.proofs.Walks.{walked}
 use Rattle.dg_meaning.proofs.UnifyLaws.{label_same}
 use Rattle.dg_unify.specs.Store.{Does}

@@ -2,7 +2,7 @@
 use Rattle.std.specs.Prelude.{◌≡◌, ℕ, ◌<◌, Option, Some, None, Bool, false, Result}
 use Rattle.dg_meaning.specs.Values.{Var}
 use Rattle.dg_meaning.specs.Substitutions.{resolved, contains}
-use Rattle.dg_meaning.specs.Unify.{unify}
+use Rattle.dg_meaning.specs.inside.Unify.{unify}
 use Rattle.dg_unify.specs.Store.{Store, told, Follows}
 use Rattle.dg_unify.specs.Slots.{value_in, Fields}
 use Rattle.dg_unify.specs.inside.Ends.{subst_in, told_in, IsEnd}

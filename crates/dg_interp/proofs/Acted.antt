@@ -11,7 +11,7 @@ use Rattle.dg_meaning.specs.Cells.{cells, writing}
 use Rattle.dg_meaning.specs.Path.{Registers, GoesOn, FailsAt as FailsAtMove}
 use Rattle.dg_meaning.specs.Moves.{path_of}
 use Rattle.dg_meaning.specs.Transcript.{Run}
-use Rattle.dg_meaning.specs.Keeps.{Stands, Went}
+use Rattle.dg_meaning.specs.inside.Keeps.{Stands, Went}
 use Rattle.dg_unify.specs.Store.{Saved, Kept}
 use Rattle.dg_unify.specs.declared.bindings.Ref.{Ref}
 use Rattle.dg_unify.specs.declared.list.ListBindings.{ListBindings}

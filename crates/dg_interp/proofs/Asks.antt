@@ -13,12 +13,12 @@ use Rattle.dg_base.specs.declared.program.CoreProgram.{CoreProgram}
 use Rattle.dg_base.specs.Goals.{terms_held}
 use Rattle.dg_meaning.specs.Values.{Value, value_of}
 use Rattle.dg_meaning.specs.World.{Game, World, Asked, HasFailed, noted, worked}
-use Rattle.dg_meaning.specs.Context.{Way, Live}
+use Rattle.dg_meaning.specs.inside.Context.{Way, Live}
 use Rattle.dg_meaning.specs.Path.{Registers, Branch, Rules as RulesOf, Outcome}
 use Rattle.dg_meaning.specs.Moves.{first_looks, rule_branches, rules_of, choice, outcome}
 use Rattle.dg_meaning.specs.Cells.{cells, writing}
 use Rattle.dg_meaning.specs.Transcript.{Run}
-use Rattle.dg_meaning.specs.Keeps.{After, Tried}
+use Rattle.dg_meaning.specs.inside.Keeps.{After, Tried}
 use Rattle.dg_built.specs.Built.{IsBuiltRule}
 use Rattle.dg_unify.specs.Store.{Store, State, Saved, Holds, Kept, marked, told}
 use Rattle.dg_unify.specs.declared.bindings.Ref.{Ref}

@@ -9,8 +9,8 @@ use Rattle.dg_meaning.specs.World.{Game, World, prints}
 use Rattle.dg_meaning.specs.Path.{Registers, Branch, Moves, GoesOn}
 use Rattle.dg_meaning.specs.Moves.{begun, inside, enter, path_of, goals_at, list_branches}
 use Rattle.dg_meaning.specs.Transcript.{Run}
-use Rattle.dg_meaning.specs.Context.{Live, Way, pushed}
-use Rattle.dg_meaning.specs.Keeps.{Stands, Tried}
+use Rattle.dg_meaning.specs.inside.Context.{Live, Way, pushed}
+use Rattle.dg_meaning.specs.inside.Keeps.{Stands, Tried}
 use Rattle.dg_meaning.proofs.Keeps.{has_happened}
 use Rattle.std.specs.List.{All}
 use Rattle.dg_unify.specs.Store.{State, Store, Saved, Holds, Kept, Charged}

@@ -9,14 +9,14 @@ use Rattle.dg_base.specs.declared.program.Goal.{Goal}
 use Rattle.dg_base.specs.declared.program.Rule.{Rule}
 use Rattle.dg_base.specs.declared.program.CoreProgram.{CoreProgram}
 use Rattle.dg_meaning.specs.Values.{Value, value_of}
-use Rattle.dg_meaning.specs.Substitutions.{IsSubstitution, Extends}
+use Rattle.dg_meaning.specs.inside.Substitutions.{IsSubstitution, Extends}
 use Rattle.dg_meaning.specs.Unify.{Unified, solve}
 use Rattle.dg_meaning.specs.World.{Game, World, prints}
 use Rattle.dg_meaning.specs.Path.{Step, Registers, Path, Branch, Enter, Clash, Plain, Rules as RulesOf, Moves}
 use Rattle.dg_meaning.specs.Moves.{begun, inside, enter, path_of, choice_cells, begins as the_begins, enter_if, is_excluded, call_cells, unless_excluded, entering, older_bound, rule_steps, vars_of, new_vars, entered, match, matched, rule_branch, rule_branches}
 use Rattle.dg_meaning.specs.Transcript.{Run}
-use Rattle.dg_meaning.specs.Context.{Way, Live}
-use Rattle.dg_meaning.specs.Keeps.{Stands, Began, Tried}
+use Rattle.dg_meaning.specs.inside.Context.{Way, Live}
+use Rattle.dg_meaning.specs.inside.Keeps.{Stands, Began, Tried}
 use Rattle.dg_built.specs.Built.{AreBuilt, IsBuiltRule}
 use Rattle.dg_meaning.proofs.Keeps.{has_happened}
 use Rattle.dg_meaning.proofs.Solving.{solve_extends}

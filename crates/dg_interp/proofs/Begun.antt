@@ -9,8 +9,8 @@ use Rattle.dg_meaning.specs.World.{Game, World}
 use Rattle.dg_meaning.specs.Path.{Registers, Branch}
 use Rattle.dg_meaning.specs.Moves.{path_of}
 use Rattle.dg_meaning.specs.Transcript.{Run}
-use Rattle.dg_meaning.specs.Context.{Live, stays, pushed}
-use Rattle.dg_meaning.specs.Keeps.{Stands, Failed}
+use Rattle.dg_meaning.specs.inside.Context.{Live, stays, pushed}
+use Rattle.dg_meaning.specs.inside.Keeps.{Stands, Failed}
 use Rattle.dg_unify.specs.Store.{Store, Saved, Holds, Kept}
 use Rattle.dg_unify.specs.declared.bindings.Ref.{Ref}
 use Rattle.dg_unify.specs.declared.bindings.Mark.{Mark as Place}

@@ -7,8 +7,8 @@ use Rattle.std.specs.declared.alloc.Global.{Global}
 use Rattle.dg_meaning.specs.World.{Game, World}
 use Rattle.dg_meaning.specs.Path.{Result, Failing, Branch, Kind, Plain, Rules as RulesOf, Shield, Gathers}
 use Rattle.dg_meaning.specs.Transcript.{Run}
-use Rattle.dg_meaning.specs.Context.{Live, Drops}
-use Rattle.dg_meaning.specs.Keeps.{Failed, Finished, FailsTo, GoesBack as ComesBack, Resumed, Tried, open_at, tried_in}
+use Rattle.dg_meaning.specs.inside.Context.{Live, Drops}
+use Rattle.dg_meaning.specs.inside.Keeps.{Failed, Finished, FailsTo, GoesBack as ComesBack, Resumed, Tried, open_at, tried_in}
 use Rattle.dg_meaning.proofs.Keeps.{failed, tries, takes_newest}
 use Rattle.dg_unify.specs.Store.{Store, State, Saved, Holds, Back}
 use Rattle.dg_unify.specs.inside.Engines.{Agrees}

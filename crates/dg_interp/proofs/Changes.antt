@@ -19,7 +19,7 @@ use Rattle.dg_meaning.specs.Cells.{cells}
 use Rattle.dg_meaning.specs.Path.{Registers, Moves, GoesOn}
 use Rattle.dg_meaning.specs.Moves.{outcome, path_of, move_of, changes, change_looks, change_place}
 use Rattle.dg_meaning.specs.Transcript.{Run}
-use Rattle.dg_meaning.specs.Keeps.{After, Went}
+use Rattle.dg_meaning.specs.inside.Keeps.{After, Went}
 use Rattle.dg_meaning.proofs.Keeps.{has_happened}
 use Rattle.dg_meaning.specs.Peaks.{Keep}
 use Rattle.dg_unify.specs.Store.{Store, Saved, Holds, Kept, told}

@@ -16,7 +16,7 @@ use Rattle.dg_meaning.specs.Cells.{cells}
 use Rattle.dg_meaning.specs.Path.{Moves}
 use Rattle.dg_meaning.specs.Moves.{goes_on_if, looked_up, outcome}
 use Rattle.dg_meaning.specs.Transcript.{Run}
-use Rattle.dg_meaning.specs.Keeps.{After}
+use Rattle.dg_meaning.specs.inside.Keeps.{After}
 use Rattle.dg_unify.specs.Store.{Store, State, Saved, Kept, told}
 use Rattle.dg_unify.specs.inside.Engines.{Agrees}
 use Rattle.dg_unify.specs.declared.bindings.Ref.{Ref}

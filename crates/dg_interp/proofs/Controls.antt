@@ -17,7 +17,7 @@ use Rattle.dg_meaning.specs.Path.{Step, Do, Cut, Refuse, Registers, Plain, Faili
 use Rattle.dg_meaning.specs.Moves.{begun, inside, enter, choice, goals_at, list_branches, outcome, path_of}
 use Rattle.dg_meaning.specs.Transcript.{Run}
 use Rattle.dg_built.specs.Built.{AreBuilt}
-use Rattle.dg_meaning.specs.Keeps.{After, Stands}
+use Rattle.dg_meaning.specs.inside.Keeps.{After, Stands}
 use Rattle.dg_meaning.proofs.Keeps.{stands_happened}
 use Rattle.dg_built.proofs.BuiltLemmas.{built_inside, lists_built, three_built}
 use Rattle.dg_unify.specs.Store.{Store, State, Saved, Kept, Charged, HeapFull}

@@ -9,14 +9,15 @@ use Rattle.dg_base.specs.declared.program.CoreProgram.{CoreProgram}
 use Rattle.dg_base.specs.Goals.{terms_held}
 use Rattle.dg_meaning.specs.Values.{Value, value_of}
 use Rattle.dg_meaning.specs.World.{Game, World}
-use Rattle.dg_meaning.specs.Substitutions.{IsSubstitution, Extends}
-use Rattle.dg_meaning.specs.Unify.{Unified, unify}
+use Rattle.dg_meaning.specs.inside.Substitutions.{IsSubstitution, Extends}
+use Rattle.dg_meaning.specs.Unify.{Unified}
+use Rattle.dg_meaning.specs.inside.Unify.{unify}
 use Rattle.dg_meaning.specs.Cells.{cells, writing}
 use Rattle.dg_meaning.specs.Path.{Registers}
 use Rattle.dg_meaning.specs.Moves.{begun, made_since, bound_by, goes_on_if, outcome, unifying}
 use Rattle.dg_meaning.specs.Transcript.{Run}
-use Rattle.dg_meaning.specs.OneRun.{Grows}
-use Rattle.dg_meaning.specs.Keeps.{After, Went, world_at}
+use Rattle.dg_meaning.specs.inside.OneRun.{Grows}
+use Rattle.dg_meaning.specs.inside.Keeps.{After, Went, world_at}
 use Rattle.dg_meaning.proofs.Keeps.{has_happened}
 use Rattle.dg_meaning.specs.Path.{Moves}
 use Rattle.dg_meaning.proofs.Solving.{solve_extends}

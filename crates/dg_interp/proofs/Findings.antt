@@ -27,9 +27,9 @@ use Rattle.dg_meaning.specs.Values.{Num, Word, Unknown, Object, Nil, Pair, Closu
 use Rattle.dg_meaning.specs.World.{Game, World, worked}
 use Rattle.dg_meaning.specs.Path.{Step, Registers, Act, Unifies, Tests, Fails, Effect, Acts, Offers, Plain, Moves}
 use Rattle.dg_meaning.specs.Moves.{effect, outcome_of, move_of, behind_copy, copy_of, reads, reads_if_set, looked_up, unified, ask_object, ask_objects, ask_place, object_branches, numbers}
-use Rattle.dg_meaning.specs.OneRun.{Grows}
+use Rattle.dg_meaning.specs.inside.OneRun.{Grows}
 use Rattle.dg_meaning.specs.Transcript.{Run}
-use Rattle.dg_meaning.specs.Keeps.{After, Went, world_at}
+use Rattle.dg_meaning.specs.inside.Keeps.{After, Went, world_at}
 use Rattle.dg_meaning.proofs.Keeps.{has_happened}
 use Rattle.dg_unify.specs.Store.{Store, State, Saved, Kept, Holds, told, or_nil}
 use Rattle.dg_unify.specs.inside.Engines.{Agrees}

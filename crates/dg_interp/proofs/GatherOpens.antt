@@ -18,9 +18,9 @@ use Rattle.dg_meaning.specs.Cells.{writing}
 use Rattle.dg_meaning.specs.Path.{Step, Keep, Registers, TakeOut as TakeOutBranch}
 use Rattle.dg_meaning.specs.Moves.{path_of, begun, goals_at, inside, outcome}
 use Rattle.dg_meaning.specs.Transcript.{Run}
-use Rattle.dg_meaning.specs.OneRun.{Grows}
-use Rattle.dg_meaning.specs.Context.{Live, Way as WayOn}
-use Rattle.dg_meaning.specs.Keeps.{Stands, After}
+use Rattle.dg_meaning.specs.inside.OneRun.{Grows}
+use Rattle.dg_meaning.specs.inside.Context.{Live, Way as WayOn}
+use Rattle.dg_meaning.specs.inside.Keeps.{Stands, After}
 use Rattle.dg_meaning.specs.Peaks.{Aux}
 use Rattle.dg_meaning.proofs.Keeps.{stands_happened, keeps_value}
 use Rattle.dg_unify.specs.Store.{Store, State, Saved, Holds, Kept, Charged, HeapFull, told, marked}

@@ -9,9 +9,9 @@ use Rattle.dg_meaning.specs.World.{Game, World, worked, gathered_with, gathered_
 use Rattle.dg_meaning.specs.Path.{Moves, FailsAt as FailsMove}
 use Rattle.dg_meaning.specs.Moves.{keeping}
 use Rattle.dg_meaning.specs.Transcript.{Run}
-use Rattle.dg_meaning.specs.OneRun.{Grows}
-use Rattle.dg_meaning.specs.Context.{tags_of, IsNewest}
-use Rattle.dg_meaning.specs.Keeps.{Failed}
+use Rattle.dg_meaning.specs.inside.OneRun.{Grows}
+use Rattle.dg_meaning.specs.inside.Context.{tags_of, IsNewest}
+use Rattle.dg_meaning.specs.inside.Keeps.{Failed}
 use Rattle.dg_meaning.proofs.Keeps.{has_happened, passes_keep, keeps_in_newest}
 use Rattle.dg_unify.specs.Store.{Store, State, Saved, Kept, Made, told, or_nil}
 use Rattle.dg_unify.specs.declared.bindings.Ref.{Ref}

@@ -12,7 +12,7 @@ use Rattle.dg_meaning.specs.World.{Game, World, Print, Piece, GapOf, Prints}
 use Rattle.dg_meaning.specs.Path.{Step, Registers, End, Moves, GoesOn}
 use Rattle.dg_meaning.specs.Moves.{printed, outcome, path_of}
 use Rattle.dg_meaning.specs.Transcript.{Run}
-use Rattle.dg_meaning.specs.Keeps.{After}
+use Rattle.dg_meaning.specs.inside.Keeps.{After}
 use Rattle.dg_meaning.proofs.Dropping.{prints_append}
 use Rattle.dg_meaning.proofs.Keeps.{passes_cut}
 use Rattle.dg_meaning.specs.Cells.{cells}

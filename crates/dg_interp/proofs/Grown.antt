@@ -6,7 +6,7 @@ use Rattle.std.proofs.lemmas.List.Elements.{All-append}
 use Rattle.std.specs.declared.vec.Vec.{Vec}
 use Rattle.std.specs.declared.alloc.Global.{Global}
 use Rattle.dg_meaning.specs.World.{Game}
-use Rattle.dg_meaning.specs.Context.{Live}
+use Rattle.dg_meaning.specs.inside.Context.{Live}
 use Rattle.dg_unify.specs.Store.{Store, Saved, Kept, Holds}
 use Rattle.dg_unify.specs.declared.bindings.Ref.{Ref}
 use Rattle.dg_unify.specs.declared.list.ListBindings.{ListBindings}

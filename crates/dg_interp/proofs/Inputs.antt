@@ -21,9 +21,9 @@ use Rattle.dg_meaning.specs.World.{Game, World, Print, Prints, GapOf, prints, wo
 use Rattle.dg_meaning.specs.Path.{Failing, End}
 use Rattle.dg_meaning.specs.Moves.{printed, move_of, takes_line}
 use Rattle.dg_meaning.specs.Render.{render, growth}
-use Rattle.dg_meaning.specs.OneRun.{Grows}
+use Rattle.dg_meaning.specs.inside.OneRun.{Grows}
 use Rattle.dg_meaning.specs.Peaks.{Area, Heap, Trail, greatest}
-use Rattle.dg_meaning.specs.Keeps.{Finished, Went}
+use Rattle.dg_meaning.specs.inside.Keeps.{Finished, Went}
 use Rattle.dg_meaning.specs.Shows.{IsLeft}
 use Rattle.dg_meaning.specs.Transcript.{Run, text_of, start_world}
 use Rattle.dg_meaning.proofs.Dropping.{prints_append}

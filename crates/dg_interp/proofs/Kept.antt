@@ -8,9 +8,9 @@ use Rattle.dg_base.specs.declared.program.Rule.{Rule}
 use Rattle.dg_base.specs.declared.program.Goal.{Goal}
 use Rattle.dg_meaning.specs.Path.{Step, Registers, Path, Branch, Kind, Plain, Rules as RulesOf}
 use Rattle.dg_meaning.specs.Moves.{enter_if, match, is_excluded, unless_excluded, rule_branches, list_branches, choice_cells}
-use Rattle.dg_meaning.specs.Keeps.{Tried, open_at}
+use Rattle.dg_meaning.specs.inside.Keeps.{Tried, open_at}
 use Rattle.dg_meaning.specs.Values.{Value}
-use Rattle.dg_meaning.specs.Context.{Way, Live, stays, pushed}
+use Rattle.dg_meaning.specs.inside.Context.{Way, Live, stays, pushed}
 use Rattle.dg_unify.specs.Store.{Saved, Holds}
 use Rattle.dg_unify.specs.Laws.{saves_drops}
 use Rattle.dg_unify.specs.Listed.{fields_of}

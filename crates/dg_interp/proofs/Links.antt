@@ -8,7 +8,7 @@ use Rattle.dg_meaning.specs.Values.{Value, value_of_var}
 use Rattle.dg_meaning.specs.World.{Game}
 use Rattle.dg_meaning.specs.Path.{Step, Registers, TakeOut as TakeOutBranch}
 use Rattle.dg_meaning.specs.Moves.{path_of, inside, enter, list_branches, rule_branches}
-use Rattle.dg_meaning.specs.Context.{Live, Way as WayOn, cut_to}
+use Rattle.dg_meaning.specs.inside.Context.{Live, Way as WayOn, cut_to}
 use Rattle.dg_unify.specs.Store.{Store, Saved, Holds, told}
 use Rattle.dg_unify.specs.declared.bindings.Ref.{Ref}
 use Rattle.dg_interp.specs.declared.frames.Env.{Env}

@@ -12,8 +12,8 @@ use Rattle.dg_meaning.specs.Cells.{cells, writing}
 use Rattle.dg_meaning.specs.Path.{Step, Do, Registers, Branch, Plain}
 use Rattle.dg_meaning.specs.Moves.{choice, outcome, path_of}
 use Rattle.dg_meaning.specs.Transcript.{Run}
-use Rattle.dg_meaning.specs.Context.{Way, Live}
-use Rattle.dg_meaning.specs.Keeps.{After, Stands, Tried}
+use Rattle.dg_meaning.specs.inside.Context.{Way, Live}
+use Rattle.dg_meaning.specs.inside.Keeps.{After, Stands, Tried}
 use Rattle.dg_unify.specs.Store.{Store, State, Saved, Holds, Kept, marked}
 use Rattle.dg_unify.specs.Laws.{saves_drops}
 use Rattle.dg_unify.specs.Listed.{fields_of}

@@ -10,8 +10,8 @@ use Rattle.dg_meaning.specs.World.{Game, World}
 use Rattle.dg_meaning.specs.Path.{Leave, Registers, Branch, Plain}
 use Rattle.dg_meaning.specs.Moves.{begun, inside, enter, path_of, goals_at, outcome}
 use Rattle.dg_meaning.specs.Transcript.{Run}
-use Rattle.dg_meaning.specs.Context.{Live, Way as WayOn}
-use Rattle.dg_meaning.specs.Keeps.{Stands, After}
+use Rattle.dg_meaning.specs.inside.Context.{Live, Way as WayOn}
+use Rattle.dg_meaning.specs.inside.Keeps.{Stands, After}
 use Rattle.dg_meaning.proofs.Keeps.{stands_happened}
 use Rattle.dg_meaning.specs.Cells.{writing}
 use Rattle.dg_base.specs.Goals.{terms_held}

@@ -10,8 +10,8 @@ use Rattle.dg_meaning.specs.World.{Game, World}
 use Rattle.dg_meaning.specs.Path.{End, Moves}
 use Rattle.dg_meaning.specs.Moves.{begun, inside, enter, path_of, outcome, stop}
 use Rattle.dg_meaning.specs.Transcript.{Run}
-use Rattle.dg_meaning.specs.Context.{Live, Way as WayOn, cut_to, way_to}
-use Rattle.dg_meaning.specs.Keeps.{Stands, After, WentOn as LeftPart, open_at}
+use Rattle.dg_meaning.specs.inside.Context.{Live, Way as WayOn, cut_to, way_to}
+use Rattle.dg_meaning.specs.inside.Keeps.{Stands, After, WentOn as LeftPart, open_at}
 use Rattle.dg_meaning.proofs.Keeps.{stops_on}
 use Rattle.dg_unify.specs.Store.{Store, Saved, Back}
 use Rattle.dg_unify.specs.inside.Engines.{Agrees}

@@ -10,8 +10,8 @@ use Rattle.dg_meaning.specs.Path.{Step, Registers, Clash, Rules as RulesOf}
 use Rattle.dg_meaning.specs.Selection.{first_excludes, from_candidate}
 use Rattle.dg_meaning.specs.Moves.{begun, inside, is_excluded, call_cells, unless_excluded, enter_if, path_of, rule_steps, vars_of, entered, match, matched, entering, rule_branch, rule_branches}
 use Rattle.dg_meaning.specs.Transcript.{Run}
-use Rattle.dg_meaning.specs.Context.{Live, Way}
-use Rattle.dg_meaning.specs.Keeps.{Failed, Began, Tried, tried_in}
+use Rattle.dg_meaning.specs.inside.Context.{Live, Way}
+use Rattle.dg_meaning.specs.inside.Keeps.{Failed, Began, Tried, tried_in}
 use Rattle.dg_built.specs.Built.{IsBuiltRule}
 use Rattle.dg_meaning.proofs.Keeps.{failed, tries}
 use Rattle.dg_unify.specs.Store.{Store}

@@ -12,8 +12,8 @@ use Rattle.dg_meaning.specs.Path.{Step, Answers, Cut, Registers, End, Branch, Ki
 use Rattle.dg_meaning.specs.Moves.{path_of, first_alone}
 use Rattle.dg_meaning.specs.Peaks.{Area, Heap, Trail, Aux, Keep}
 use Rattle.dg_meaning.specs.Transcript.{Run}
-use Rattle.dg_meaning.specs.Context.{Live, cut_to, Drops}
-use Rattle.dg_meaning.specs.Keeps.{Stands, Finished, tried_in}
+use Rattle.dg_meaning.specs.inside.Context.{Live, cut_to, Drops}
+use Rattle.dg_meaning.specs.inside.Keeps.{Stands, Finished, tried_in}
 use Rattle.dg_meaning.proofs.Dropping.{prints_append}
 use Rattle.dg_meaning.proofs.Keeps.{passes_answer, passes_cut, passes_leave, passes_refuse, passes_back, done}
 use Rattle.dg_meaning.specs.Values.{Value}

@@ -14,15 +14,16 @@ use Rattle.dg_base.specs.declared.program.Term.{Term, out-Term}
 use Rattle.dg_base.specs.declared.program.Term.TheVariants.{Var as Var-Term, outs-Var}
 use Rattle.dg_meaning.specs.Values.{Num, Word, Unknown, Object, Nil, Pair, Closure, Value, Values, Var, Node, value_of, value_of_var}
 use Rattle.dg_meaning.specs.Copies.{values_of}
-use Rattle.dg_meaning.specs.Substitutions.{IsSubstitution, Extends, walk}
+use Rattle.dg_meaning.specs.Substitutions.{walk}
+use Rattle.dg_meaning.specs.inside.Substitutions.{IsSubstitution, Extends}
 use Rattle.dg_meaning.specs.Unify.{Unified, solve}
 use Rattle.dg_meaning.specs.World.{Game, World, prints, worked}
 use Rattle.dg_meaning.specs.Cells.{node_cells, cells, writing}
 use Rattle.dg_meaning.specs.Path.{Step, Registers, Outcome, Acts, Fails, Offers, Plain}
 use Rattle.dg_meaning.specs.Moves.{begun, path_of, enter_if, looked_up, outcome, outcome_of, ask_body, ask_closure, closure_vars, closure_head, closure_steps, closure_branch, head_equations, entered_with, matched, entering_with, older_bound, new_vars, goals_at, first_alone}
 use Rattle.dg_meaning.specs.Transcript.{Run}
-use Rattle.dg_meaning.specs.Context.{Live}
-use Rattle.dg_meaning.specs.Keeps.{After, Stands, Began}
+use Rattle.dg_meaning.specs.inside.Context.{Live}
+use Rattle.dg_meaning.specs.inside.Keeps.{After, Stands, Began}
 use Rattle.dg_built.specs.Built.{AreBuilt, IsBuiltBody}
 use Rattle.dg_meaning.proofs.Solving.{solve_extends}
 use Rattle.dg_unify.specs.Store.{Store, State, Saved, Holds, Kept, Made, told, trail_of}

@@ -8,7 +8,8 @@ use Rattle.dg_base.specs.declared.run.RunFault.TheVariants.{Read, Write, OutOfMe
 use Rattle.dg_meaning.specs.World.{Game, World, prints}
 use Rattle.dg_meaning.specs.Path.{Result as SearchResult, Failing, End}
 use Rattle.dg_meaning.specs.Transcript.{Run, ending_of}
-use Rattle.dg_meaning.specs.OneRun.{EndsWith, Grows}
+use Rattle.dg_meaning.specs.inside.OneRun.{Grows}
+use Rattle.dg_base.specs.Begins.{EndsWith}
 use Rattle.dg_meaning.proofs.OneRun.{ends_on}
 use Rattle.dg_meaning.specs.Peaks.{Area, Heap, Trail, Aux, Keep, greatest}
 use Rattle.dg_meaning.proofs.Keeps.{stands_happened}

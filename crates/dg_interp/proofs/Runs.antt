@@ -16,9 +16,10 @@ use Rattle.dg_meaning.specs.Path.{Result as SearchResult, Failing, End}
 use Rattle.dg_meaning.specs.Moves.{path_of, goals_at}
 use Rattle.dg_meaning.specs.Render.{nothing_met, met_from, render, render_from, growth}
 use Rattle.dg_meaning.specs.Transcript.{Run, ending_of, text_of}
-use Rattle.dg_meaning.specs.OneRun.{Begins, EndsWith, Grows}
+use Rattle.dg_meaning.specs.inside.OneRun.{Grows}
+use Rattle.dg_base.specs.Begins.{Begins, EndsWith}
 use Rattle.dg_meaning.specs.Peaks.{Area, Heap, Trail, Aux, Keep, greatest, limit_ending}
-use Rattle.dg_meaning.specs.Keeps.{Stands, Finished}
+use Rattle.dg_meaning.specs.inside.Keeps.{Stands, Finished}
 use Rattle.dg_meaning.proofs.Dropping.{prints_append}
 use Rattle.dg_meaning.proofs.Keeps.{stands_happened, limited}
 use Rattle.dg_unify.specs.declared.bindings.Ref.{Ref}

@@ -13,7 +13,7 @@ use Rattle.dg_meaning.specs.Choosing.{Choice}
 use Rattle.dg_meaning.specs.Path.{Registers}
 use Rattle.dg_meaning.specs.Moves.{goals_at, outcome, path_of, selects, selected}
 use Rattle.dg_meaning.specs.Transcript.{Run}
-use Rattle.dg_meaning.specs.Keeps.{After, Stands}
+use Rattle.dg_meaning.specs.inside.Keeps.{After, Stands}
 use Rattle.dg_built.specs.Built.{AreBuilt}
 use Rattle.dg_built.proofs.BuiltLemmas.{built_inside, lists_built, all_none}
 use Rattle.dg_lists.specs.Gathered.{Gathered}

@@ -19,7 +19,7 @@ use Rattle.dg_meaning.specs.Path.{Step, Act, Goes, Fails, Moves}
 use Rattle.dg_meaning.specs.Moves.{looked_up, outcome, move_of, path_of, printed, spaces}
 use Rattle.dg_meaning.specs.Render.{render, growth}
 use Rattle.dg_meaning.specs.Transcript.{Run, text_of}
-use Rattle.dg_meaning.specs.Keeps.{Stands}
+use Rattle.dg_meaning.specs.inside.Keeps.{Stands}
 use Rattle.dg_meaning.proofs.Dropping.{prints_append}
 use Rattle.dg_meaning.proofs.Keeps.{stands_happened}
 use Rattle.dg_unify.specs.Store.{Saved, Kept, Made, told, or_nil}

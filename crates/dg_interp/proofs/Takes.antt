@@ -12,8 +12,8 @@ use Rattle.dg_meaning.specs.Cells.{cells, writing}
 use Rattle.dg_meaning.specs.Path.{Registers}
 use Rattle.dg_meaning.specs.Moves.{begun, behind_terms, outcome}
 use Rattle.dg_meaning.specs.Transcript.{Run}
-use Rattle.dg_meaning.specs.OneRun.{Grows}
-use Rattle.dg_meaning.specs.Keeps.{After}
+use Rattle.dg_meaning.specs.inside.OneRun.{Grows}
+use Rattle.dg_meaning.specs.inside.Keeps.{After}
 use Rattle.dg_meaning.proofs.Keeps.{has_happened, takes}
 use Rattle.dg_meaning.proofs.Search.{outcome_grows}
 use Rattle.dg_meaning.proofs.OneRun.{grows_on}

@@ -17,9 +17,9 @@ use Rattle.dg_meaning.specs.World.{Game, World, Gathering, gathered_at, gathered
 use Rattle.dg_meaning.specs.Path.{Step, Registers, Moves, Move}
 use Rattle.dg_meaning.specs.Moves.{begun, bound_by, made_since, goes_on_if, unified, unifying, inside, behind_copy, copy_of, gives_number, takes_out, move_of}
 use Rattle.dg_meaning.specs.Transcript.{Run}
-use Rattle.dg_meaning.specs.OneRun.{Grows}
-use Rattle.dg_meaning.specs.Context.{Drops, tags_of, IsNewest}
-use Rattle.dg_meaning.specs.Keeps.{Went, world_at}
+use Rattle.dg_meaning.specs.inside.OneRun.{Grows}
+use Rattle.dg_meaning.specs.inside.Context.{Drops, tags_of, IsNewest}
+use Rattle.dg_meaning.specs.inside.Keeps.{Went, world_at}
 use Rattle.dg_meaning.proofs.Keeps.{has_happened}
 use Rattle.dg_unify.specs.Store.{Store, State, Saved, Kept, Made, Holds, Does, Follows, told, or_nil}
 use Rattle.dg_unify.specs.Laws.{saves_drops}

@@ -16,7 +16,7 @@ use Rattle.dg_meaning.specs.Cells.{writing}
 use Rattle.dg_meaning.specs.Path.{Registers, Moves}
 use Rattle.dg_meaning.specs.Moves.{looked_up, outcome, move_of, gives_number, throws}
 use Rattle.dg_meaning.specs.Transcript.{Run}
-use Rattle.dg_meaning.specs.Keeps.{After, Went}
+use Rattle.dg_meaning.specs.inside.Keeps.{After, Went}
 use Rattle.dg_unify.specs.Store.{Store, Saved, Kept, told}
 use Rattle.dg_unify.specs.declared.bindings.Ref.{Ref}
 use Rattle.dg_unify.specs.declared.list.ListBindings.{ListBindings}

@@ -5,8 +5,8 @@ use Rattle.std.proofs.lemmas.Bool.{cases_lt, lt-ltb, le-ltb}
 use Rattle.dg_meaning.specs.Values.{Value}
 use Rattle.dg_meaning.specs.Path.{Step, Registers, Plain}
 use Rattle.dg_meaning.specs.Moves.{numbers, object_branches}
-use Rattle.dg_meaning.specs.Context.{stays}
-use Rattle.dg_meaning.specs.Keeps.{open_at}
+use Rattle.dg_meaning.specs.inside.Context.{stays}
+use Rattle.dg_meaning.specs.inside.Keeps.{open_at}
 use Rattle.dg_interp.specs.inside.Frames.{has_some}
 use Rattle.dg_outside.specs.Finding.{counted}
 use Rattle.dg_outside.proofs.Finds.{counted_first, counted_none}

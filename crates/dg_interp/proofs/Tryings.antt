@@ -17,10 +17,10 @@ use Rattle.dg_meaning.specs.Values.{Object, Value, leaf}
 use Rattle.dg_meaning.specs.World.{Game, World, prints, worked}
 use Rattle.dg_meaning.specs.Path.{Step, Registers, Unifies, Branch, Clash, Finds, Plain, Moves, Move, Offers}
 use Rattle.dg_meaning.specs.Moves.{begun, path_of, move_of, inside, choice_cells, first_alone, goals_at, numbers, object_branches, behind_copy, copy_of, finds, finds_if_set, outcome_of, begins as the_begins}
-use Rattle.dg_meaning.specs.OneRun.{Grows}
+use Rattle.dg_meaning.specs.inside.OneRun.{Grows}
 use Rattle.dg_meaning.specs.Transcript.{Run}
-use Rattle.dg_meaning.specs.Context.{Way, Live, pushed}
-use Rattle.dg_meaning.specs.Keeps.{After, Went, Began, Tried, world_at}
+use Rattle.dg_meaning.specs.inside.Context.{Way, Live, pushed}
+use Rattle.dg_meaning.specs.inside.Keeps.{After, Went, Began, Tried, world_at}
 use Rattle.dg_meaning.proofs.Keeps.{has_happened}
 use Rattle.dg_built.specs.Built.{AreBuilt}
 use Rattle.dg_built.proofs.BuiltLemmas.{all_none}

@@ -16,7 +16,7 @@ use Rattle.dg_meaning.specs.World.{Game}
 use Rattle.dg_meaning.specs.Path.{Do}
 use Rattle.dg_meaning.specs.Moves.{path_of, goals_at}
 use Rattle.dg_meaning.specs.Transcript.{run, start_world, start_path}
-use Rattle.dg_meaning.specs.Keeps.{Stands}
+use Rattle.dg_meaning.specs.inside.Keeps.{Stands}
 use Rattle.dg_base.specs.Sound.{IsSound as IsSoundProgram}
 use Rattle.dg_built.specs.Built.{IsBuilt, IsBuiltGoal, AreBuilt}
 use Rattle.dg_built.proofs.BuiltLemmas.{all_none, built_goal, built_alone, built_rest, built_from}

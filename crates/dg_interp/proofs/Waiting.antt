@@ -8,7 +8,7 @@ use Rattle.dg_meaning.specs.Pieces.{pieces}
 use Rattle.dg_meaning.specs.Substitutions.{resolved}
 use Rattle.dg_meaning.specs.Moves.{path_of}
 use Rattle.dg_meaning.specs.Transcript.{Run}
-use Rattle.dg_meaning.specs.Keeps.{Stands}
+use Rattle.dg_meaning.specs.inside.Keeps.{Stands}
 use Rattle.dg_unify.specs.Store.{Saved, Holds, told}
 use Rattle.dg_unify.specs.inside.Engines.{Agrees}
 use Rattle.dg_unify.specs.declared.bindings.Ref.{Ref}

@@ -4,7 +4,8 @@ use Rattle.std.proofs.lemmas.Bool.{cases_lt}
 use Rattle.std.proofs.lemmas.List.{append-nil, append_cancel_left}
 use Rattle.std.specs.Prelude.{Result, Ok, Err, IfOk, IfErr, ◌+◌, ◌⊎◌}
 use Rattle.dg_base.specs.declared.run.Ending.TheVariants.{InputEnded, HeapLimit, TrailLimit, AuxLimit, KeepLimit}
-use Rattle.dg_meaning.specs.OneRun.{Begins, EndsWith, Grows}
+use Rattle.dg_meaning.specs.inside.OneRun.{Grows}
+use Rattle.dg_base.specs.Begins.{Begins, EndsWith}
 use Rattle.dg_meaning.specs.Peaks.{Area, Heap, Trail, Aux, Keep, limit_of, limit_ending, peak}
 use Rattle.dg_meaning.proofs.OneRun.{begins_same}
 use Rattle.dg_meaning.proofs.Engines.{as_told, some_left, for_given, nothing_taken, start_shows, start_forgets}
@@ -31,7 +32,8 @@ use Rattle.dg_outside.specs.Outside.{LacksAtStart}
 use Rattle.dg_interp.specs.inside.Engine.{limit_in, Starts}
 use Rattle.dg_base.specs.Streams.{SourceView}
 use Rattle.dg_interp.specs.inside.Running.{limit_of as ending_of_lack, Gave, LeftBehind, Awaits, Stretch, HasText, Reaches, HasEnded, MeetsLimit, IsNoFurther, Ended, HasPart, IsLimited, TakesMore, LosesInput, LosesOutput, Broken}
-use Rattle.dg_meaning.specs.Engines.{game, left_told, ForTyped, HasShown, HasLostInput, HasLostOutput, HasLostMemory}
+use Rattle.dg_meaning.specs.Engines.{game, left_told, HasShown, HasLostInput, HasLostOutput}
+use Rattle.dg_meaning.specs.inside.Engines.{ForTyped, HasLostMemory}
 use Rattle.dg_base.proofs.WrittenLemmas.{wrote_nothing, wrote_on, broke_first, broke_later}
 
 -- ## Of two parts of a list the longer

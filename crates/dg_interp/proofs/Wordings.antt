@@ -19,9 +19,9 @@ use Rattle.dg_meaning.specs.Words.{letters_in_word, joined_letters, each_alone, 
 use Rattle.dg_meaning.specs.World.{Game, World, worked}
 use Rattle.dg_meaning.specs.Path.{Registers, Unifies, Fails, Moves}
 use Rattle.dg_meaning.specs.Moves.{looked_up, whole_looks, outcome, move_of, more_heap, gives, splits, joins, takes_line, begun, unifying, bound_by, made_since, goes_on_if}
-use Rattle.dg_meaning.specs.OneRun.{Grows}
+use Rattle.dg_meaning.specs.inside.OneRun.{Grows}
 use Rattle.dg_meaning.specs.Transcript.{Run}
-use Rattle.dg_meaning.specs.Keeps.{Went, world_at}
+use Rattle.dg_meaning.specs.inside.Keeps.{Went, world_at}
 use Rattle.dg_meaning.proofs.Keeps.{has_happened}
 use Rattle.dg_unify.specs.Store.{Store, State, Saved, Kept, Holds, Made, told, or_nil}
 use Rattle.dg_unify.specs.inside.Engines.{Agrees}

@@ -7,7 +7,8 @@ ghost use Rattle.dg_base.specs.Sound.{IsSound};
 ghost use Rattle.dg_base.specs.Streams.{SourceView};
 ghost use Rattle.dg_interp.specs.inside.Engine.{Starts};
 ghost use Rattle.dg_outside.specs.Outside.{LacksAtStart};
-ghost use Rattle.dg_meaning.specs.Engines.{game, left_told, ForTyped, HasShown, HasBrokenOff};
+ghost use Rattle.dg_meaning.specs.Engines.{game, left_told, HasShown};
+ghost use Rattle.dg_meaning.specs.inside.Engines.{ForTyped, HasBrokenOff};
 
 use crate::engine::Engine;
 use crate::run::{limit, run};

@@ -9,7 +9,8 @@ use Rattle.dg_base.specs.declared.cells.Cell.TheVariants as cell
 use Rattle.dg_base.specs.declared.cells.Simple.{Simple}
 use Rattle.dg_base.specs.declared.cells.Simple.TheVariants as simple
 use Rattle.dg_meaning.specs.Values.{Label, Unknown, Pair, Closure, Value, Var, Node, Values, NoMore, More}
-use Rattle.dg_meaning.specs.Substitutions.{Substitution, resolved, all_resolved, IsSubstitution}
+use Rattle.dg_meaning.specs.Substitutions.{Substitution, resolved}
+use Rattle.dg_meaning.specs.inside.Substitutions.{all_resolved, IsSubstitution}
 use Rattle.dg_meaning.specs.Unify.{size, sizes}
 use Rattle.dg_meaning.specs.ValueCells.{count_of, label_cells, cells_of, cells_of_all}
 use Rattle.dg_meaning.specs.TypeTests.{is_full, are_full}

@@ -3,7 +3,8 @@ use Rattle.std.specs.Prelude.{◌≡◌, ℕ, ◌+◌, ◌<◌, ◌≤◌, List,
 use Rattle.dg_base.specs.declared.cells.Cell.{Cell}
 use Rattle.dg_base.specs.declared.cells.Cell.TheVariants as cell
 use Rattle.dg_meaning.specs.Values.{Value, Var, Node, Values}
-use Rattle.dg_meaning.specs.Substitutions.{resolved, all_resolved}
+use Rattle.dg_meaning.specs.Substitutions.{resolved}
+use Rattle.dg_meaning.specs.inside.Substitutions.{all_resolved}
 use Rattle.dg_meaning.specs.Unify.{size, sizes}
 use Rattle.dg_meaning.specs.ValueCells.{count_of, label_cells, cells_of, cells_of_all}
 use Rattle.dg_unify.specs.Store.{Store, told}

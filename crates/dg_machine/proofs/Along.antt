@@ -3,8 +3,10 @@ use Rattle.std.proofs.Common.{◌≡◌, ℕ, ◌+◌, [], ◌∷◌, ◌++◌, 
 use Rattle.std.specs.Prelude.{Bool, Result, Ok, Err}
 use Rattle.std.proofs.lemmas.Bool.{cond-true, cond-false}
 use Rattle.dg_meaning.specs.Values.{Value, pair}
-use Rattle.dg_meaning.specs.Substitutions.{Substitution, walk, IsSubstitution}
-use Rattle.dg_meaning.specs.Unify.{Unified, cost, counted, unify, and_then}
+use Rattle.dg_meaning.specs.Substitutions.{Substitution, walk}
+use Rattle.dg_meaning.specs.inside.Substitutions.{IsSubstitution}
+use Rattle.dg_meaning.specs.Unify.{Unified, cost, counted}
+use Rattle.dg_meaning.specs.inside.Unify.{unify, and_then}
 use Rattle.dg_meaning.proofs.Solving.{solve_extends}
 use Rattle.dg_meaning.proofs.UnifyLaws.{unify_pair}
 use Rattle.dg_unify.specs.Store.{Store, told, ShowsPair, Kept, OnlyBinds, Does, BrokeOff, Follows}

@@ -17,7 +17,7 @@ use Rattle.dg_meaning.specs.Moves.{behind_copy, copy_of, numbers, reads, reads_i
 use Rattle.dg_meaning.specs.Path.{Registers, Unifies, Acts, Fails as FailsNow}
 use Rattle.dg_meaning.specs.Changes.{found}
 use Rattle.dg_meaning.specs.Substitutions.{Substitution, walk}
-use Rattle.dg_meaning.specs.Unify.{unify}
+use Rattle.dg_meaning.specs.inside.Unify.{unify}
 use Rattle.dg_meaning.specs.ValueCells.{cells_of}
 use Rattle.dg_meaning.specs.Values.{Nil, Object, Value, Var, Node, leaf}
 use Rattle.dg_meaning.specs.World.{Game, World, worked}

@@ -6,7 +6,7 @@ use Rattle.std.proofs.Math.Nat.{min-eq_left, min_comm}
 use Rattle.dg_meaning.specs.World.{Gathering}
 use Rattle.std.proofs.Math.Seq.{take-append_seam, drop-append_seam}
 use Rattle.dg_base.specs.declared.run.Limits.{Limits}
-use Rattle.dg_meaning.specs.OneRun.{Begins}
+use Rattle.dg_base.specs.Begins.{Begins}
 use Rattle.dg_meaning.proofs.OneRun.{begins_same}
 use Rattle.dg_unify.specs.Store.{State, Store, Saved, Back}
 use Rattle.dg_unify.specs.declared.bindings.Ref.{Ref}

@@ -12,7 +12,8 @@ use Rattle.dg_meaning.specs.Copies.{values_of}
 use Rattle.dg_meaning.specs.Cells.{cells}
 use Rattle.dg_meaning.specs.Moves.{new_vars}
 use Rattle.dg_meaning.specs.World.{Game}
-use Rattle.dg_meaning.specs.Unify.{Unified, solve, unify, agreed}
+use Rattle.dg_meaning.specs.Unify.{Unified, solve, agreed}
+use Rattle.dg_meaning.specs.inside.Unify.{unify}
 use Rattle.dg_meaning.proofs.UnifyLaws.{solve_none}
 use Rattle.dg_unify.specs.Store.{Store, told, Follows}
 use Rattle.dg_unify.specs.declared.bindings.Ref.{Ref}

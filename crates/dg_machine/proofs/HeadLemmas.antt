@@ -3,7 +3,8 @@ use Rattle.std.proofs.Common.{◌≡◌, ℕ, ◌+◌, ◌<◌, List, true, fals
 use Rattle.std.specs.Prelude.{Bool, Result, Ok, Err, []}
 use Rattle.std.specs.List.{zip}
 use Rattle.dg_meaning.specs.Values.{Value, Nil, leaf}
-use Rattle.dg_meaning.specs.Unify.{solve, unify}
+use Rattle.dg_meaning.specs.Unify.{solve}
+use Rattle.dg_meaning.specs.inside.Unify.{unify}
 use Rattle.dg_unify.specs.Store.{State, Store, told, Holds, Does, BrokeOff, OnlyBinds, Follows}
 use Rattle.dg_unify.specs.declared.bindings.Ref.{Ref}
 use Rattle.dg_unify.specs.declared.bindings.Full.{Full}

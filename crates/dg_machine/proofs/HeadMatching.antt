@@ -11,7 +11,8 @@ use Rattle.dg_meaning.specs.Cells.{cells}
 use Rattle.dg_meaning.specs.Moves.{new_vars}
 use Rattle.dg_meaning.specs.Values.{Value, Var, Nil, leaf, pair, value_of, value_of_var}
 use Rattle.dg_meaning.specs.Substitutions.{walk}
-use Rattle.dg_meaning.specs.Unify.{Equations, Unified, solve, unify}
+use Rattle.dg_meaning.specs.Unify.{Equations, Unified, solve}
+use Rattle.dg_meaning.specs.inside.Unify.{unify}
 use Rattle.dg_unify.specs.Store.{State, Store, told, Kept, Holds, Charged, Made, HeapFull, ShowsVar, ShowsPair, OnlyBinds, Does, BrokeOff, UnifyFull, Follows}
 use Rattle.dg_unify.specs.declared.bindings.Ref.{Ref}
 use Rattle.dg_unify.specs.declared.bindings.Full.{Full}

@@ -5,7 +5,8 @@ use Rattle.dg_base.specs.Written.{SinkView, Wrote, BrokeOff}
 use Rattle.dg_base.specs.declared.program.CoreProgram.{CoreProgram}
 use Rattle.dg_base.specs.declared.run.Ending.TheVariants.{KeepLimit}
 use Rattle.dg_base.specs.declared.run.Limits.{Limits}
-use Rattle.dg_meaning.specs.Engines.{game, left_told, ForTyped, HasShown}
+use Rattle.dg_meaning.specs.Engines.{game, left_told, HasShown}
+use Rattle.dg_meaning.specs.inside.Engines.{ForTyped}
 use Rattle.dg_machine.specs.Program.{HasLostText, to_the_end}
 use Rattle.dg_meaning.specs.Facts.{kinds_of, kept_size, start_facts}
 use Rattle.dg_meaning.specs.Render.{render}

@@ -8,7 +8,8 @@ use Rattle.dg_meaning.specs.Copies.{list_of, copy_cells, copy_from}
 use Rattle.dg_meaning.specs.Letters.{copied}
 use Rattle.dg_meaning.specs.Moves.{begun, behind_copy, copy_of}
 use Rattle.dg_meaning.specs.Path.{Unifies}
-use Rattle.dg_meaning.specs.Unify.{Unified, unify, size}
+use Rattle.dg_meaning.specs.Unify.{Unified, size}
+use Rattle.dg_meaning.specs.inside.Unify.{unify}
 use Rattle.dg_meaning.specs.Values.{Value}
 use Rattle.dg_meaning.specs.World.{Game, World}
 use Rattle.dg_outside.specs.Outside.{Closes}

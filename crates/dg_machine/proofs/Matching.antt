@@ -6,8 +6,10 @@ use Rattle.std.proofs.lemmas.List.{drop_more, drop_all}
 use Rattle.std.proofs.lemmas.Bool.{cond-true, cond-false}
 use Rattle.dg_base.specs.declared.run.Limits.{Limits}
 use Rattle.dg_meaning.specs.Values.{Value, Pair, More, NoMore, pair}
-use Rattle.dg_meaning.specs.Substitutions.{Substitution, IsSubstitution, walk}
-use Rattle.dg_meaning.specs.Unify.{Equations, Unified, agreed, counted, cost, solve, unify, and_then}
+use Rattle.dg_meaning.specs.Substitutions.{Substitution, walk}
+use Rattle.dg_meaning.specs.inside.Substitutions.{IsSubstitution}
+use Rattle.dg_meaning.specs.Unify.{Equations, Unified, agreed, counted, cost, solve}
+use Rattle.dg_meaning.specs.inside.Unify.{unify, and_then}
 use Rattle.dg_meaning.proofs.Solving.{solve_extends}
 use Rattle.dg_meaning.proofs.LookUps.{walk_node}
 use Rattle.dg_meaning.proofs.UnifyLaws.{solve_none, solve_first, unify_pair}

@@ -5,7 +5,7 @@ use Rattle.std.proofs.lemmas.List.{length-reverse, reverse-append, length-take-l
 use Rattle.std.proofs.lemmas.Option.{slice_get_within}
 use Rattle.dg_base.specs.declared.run.Limits.{Limits}
 use Rattle.dg_meaning.specs.Values.{Value}
-use Rattle.dg_meaning.specs.OneRun.{Begins}
+use Rattle.dg_base.specs.Begins.{Begins}
 use Rattle.dg_meaning.proofs.OneRun.{begins_same}
 use Rattle.dg_unify.specs.Store.{State, Store, Saved, Kept, Charged, HeapFull, marked}
 use Rattle.dg_unify.specs.declared.bindings.Mark.{Mark}

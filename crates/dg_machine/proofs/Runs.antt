@@ -14,7 +14,8 @@ use Rattle.dg_meaning.specs.Words.{behind_first}
 use Rattle.std.specs.Prelude.{if◌then◌else◌, ◌⊎◌}
 use Rattle.dg_meaning.specs.Transcript.{Run, run, text_of, line_of, input_fault_line, ending_line, closed_text}
 use Rattle.dg_meaning.specs.Shows.{IsLeft, MayBegin, Shows, ShowsInputFault, HasGiven}
-use Rattle.dg_meaning.specs.OneRun.{EndsWith, Grows}
+use Rattle.dg_meaning.specs.inside.OneRun.{Grows}
+use Rattle.dg_base.specs.Begins.{EndsWith}
 use Rattle.dg_meaning.proofs.Keeps.{stands_happened}
 use Rattle.dg_meaning.proofs.Dropping.{prints_append}
 use Rattle.std.specs.Borrow.{Bor}

@@ -1,7 +1,7 @@
 -- Which stoppable part is open, and which choices are among others.
 use Rattle.std.proofs.Common.{◌≡◌, ℕ, zero, suc, ◌*◌, ◌<◌, ◌≤◌, List, [], ◌∷◌, ◌++◌, Option, None, refl, ap, ◌∙◌, arith, length, inl, inr, length-append}
 use Rattle.std.specs.List.{slice_get}
-use Rattle.dg_meaning.specs.OneRun.{Begins}
+use Rattle.dg_base.specs.Begins.{Begins}
 use Rattle.dg_mid.specs.State.{Stop, Choice as ChoiceOf}
 use Rattle.dg_mid.specs.Stops.{choices_of}
 use Rattle.dg_machine.specs.declared.now.Choice.{Choice}

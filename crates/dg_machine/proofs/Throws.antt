@@ -6,7 +6,7 @@ use Rattle.dg_choose.specs.Dice.{HasDrawn}
 use Rattle.dg_choose.specs.declared.dice.Dice.{Dice}
 use Rattle.dg_meaning.specs.Cells.{cells}
 use Rattle.dg_meaning.specs.Moves.{throws}
-use Rattle.dg_meaning.specs.Unify.{unify}
+use Rattle.dg_meaning.specs.inside.Unify.{unify}
 use Rattle.dg_meaning.specs.Values.{Value, Num, leaf}
 use Rattle.dg_meaning.specs.World.{Game, World, drew}
 use Rattle.dg_outside.specs.declared.outside.Outside.{Outside}

@@ -5,7 +5,8 @@ use Rattle.dg_base.specs.declared.program.Term.{Term}
 use Rattle.dg_base.specs.declared.run.Limits.{Limits}
 use Rattle.dg_base.specs.declared.run.Ending.TheVariants.{TrailLimit}
 use Rattle.dg_meaning.specs.Values.{value_of}
-use Rattle.dg_meaning.specs.Unify.{Equations, Unified, solve, unify}
+use Rattle.dg_meaning.specs.Unify.{Equations, Unified, solve}
+use Rattle.dg_meaning.specs.inside.Unify.{unify}
 use Rattle.dg_meaning.specs.World.{Game, World}
 use Rattle.dg_meaning.specs.Path.{Unifies}
 use Rattle.dg_mid.specs.declared.code.Op.{Op}

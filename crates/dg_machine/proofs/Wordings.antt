@@ -6,7 +6,8 @@ use Rattle.dg_base.specs.declared.run.Limits.{Limits}
 use Rattle.dg_meaning.specs.Copies.{copy_cells}
 use Rattle.dg_meaning.specs.Moves.{gives}
 use Rattle.dg_meaning.specs.Substitutions.{walk, resolved}
-use Rattle.dg_meaning.specs.Unify.{Unified, unify}
+use Rattle.dg_meaning.specs.Unify.{Unified}
+use Rattle.dg_meaning.specs.inside.Unify.{unify}
 use Rattle.dg_meaning.specs.Values.{Value}
 use Rattle.dg_meaning.specs.Words.{letters_in_word, joined_letters}
 use Rattle.dg_meaning.specs.World.{Game, World}

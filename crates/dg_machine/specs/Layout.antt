@@ -2,7 +2,7 @@
 use Rattle.std.specs.Prelude.{ℕ, ◌+◌, ◌*◌, ◌-◌, ◌≡◌, ◌<◌, ◌≤◌, ◌++◌, List, [], ◌∷◌, Option, Some, None, length, reverse, drop, vec_capacity, Bool}
 use Rattle.dg_base.specs.declared.run.Limits.{Limits}
 use Rattle.dg_meaning.specs.Values.{Value, value_of_var}
-use Rattle.dg_meaning.specs.OneRun.{Begins}
+use Rattle.dg_base.specs.Begins.{Begins}
 use Rattle.dg_meaning.specs.Moves.{new_vars}
 use Rattle.dg_meaning.specs.Unify.{Equations, Unified}
 use Rattle.dg_unify.specs.Store.{State, Store, Saved, Kept}

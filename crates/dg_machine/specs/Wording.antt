@@ -5,7 +5,7 @@ use Rattle.dg_base.specs.declared.run.Limits.{Limits}
 use Rattle.dg_meaning.specs.Values.{Value}
 use Rattle.dg_meaning.specs.Moves.{gives, splits, joins, looked_up, whole_looks}
 use Rattle.dg_meaning.specs.Substitutions.{walk, resolved}
-use Rattle.dg_meaning.specs.Unify.{unify}
+use Rattle.dg_meaning.specs.inside.Unify.{unify}
 use Rattle.dg_meaning.specs.Words.{letters_in_word, joined_letters}
 use Rattle.dg_meaning.specs.World.{Game, World, worked}
 use Rattle.dg_arena.specs.Held.{meaning_of}

@@ -10,7 +10,8 @@ ghost use Rattle.dg_machine.specs.Built.{IsBuilt};
 ghost use Rattle.dg_machine.specs.Tables.{IsOf};
 ghost use Rattle.dg_machine.specs.Layout.{Roomy};
 ghost use Rattle.dg_machine.specs.Program.{HasLostText};
-ghost use Rattle.dg_meaning.specs.Engines.{game, left_told, ForTyped, HasShown, HasLostInput};
+ghost use Rattle.dg_meaning.specs.Engines.{game, left_told, HasShown, HasLostInput};
+ghost use Rattle.dg_meaning.specs.inside.Engines.{ForTyped};
 
 use crate::built::is_built;
 use crate::doing::code_at;

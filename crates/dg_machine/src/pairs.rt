@@ -1,7 +1,7 @@
 // Values that are unified along the lists that they are.
 ghost use Rattle.std.specs.Prelude.{◌≡◌, IfSome};
 ghost use Rattle.dg_meaning.specs.Substitutions.{walk};
-ghost use Rattle.dg_meaning.specs.Unify.{unify as unified};
+ghost use Rattle.dg_meaning.specs.inside.Unify.{unify as unified};
 ghost use Rattle.dg_unify.specs.Store.{Follows, Holds, ShowsPair, told};
 ghost use Rattle.dg_arena.specs.Held.{meaning_of};
 ghost use Rattle.dg_machine.specs.Refs.{Keeps};

@@ -3,7 +3,7 @@ ghost use Rattle.std.specs.Prelude.{◌≡◌, IfOk, MatchResult, List, [], ◌�
 ghost use Rattle.std.specs.List.{All, flat_map};
 ghost use Rattle.dg_base.specs.declared.run.Limits.{Limits};
 ghost use Rattle.dg_meaning.specs.Copies.{copy_cells, list_of};
-ghost use Rattle.dg_meaning.specs.Unify.{unify as unified};
+ghost use Rattle.dg_meaning.specs.inside.Unify.{unify as unified};
 ghost use Rattle.dg_meaning.specs.Values.{Value};
 ghost use Rattle.dg_meaning.specs.ValueCells.{cells_of};
 ghost use Rattle.dg_lists.specs.Formed.{IsFormed};

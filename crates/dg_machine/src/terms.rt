@@ -6,7 +6,8 @@ ghost use Rattle.dg_base.specs.declared.program.Term.TheVariants.{Var as VarTerm
 ghost use Rattle.dg_base.specs.declared.program.CoreProgram.{CoreProgram};
 ghost use Rattle.dg_meaning.specs.Values.{Value, Var, leaf, pair, value_of, value_of_var};
 ghost use Rattle.dg_meaning.specs.Substitutions.{walk};
-ghost use Rattle.dg_meaning.specs.Unify.{solve, unify as unified};
+ghost use Rattle.dg_meaning.specs.Unify.{solve};
+ghost use Rattle.dg_meaning.specs.inside.Unify.{unify as unified};
 ghost use Rattle.dg_unify.specs.Store.{Follows, Holds, ShowsVar, told, label_of};
 ghost use Rattle.dg_arena.specs.Held.{meaning_of};
 ghost use Rattle.dg_mid.specs.Heads.{IsPlain};

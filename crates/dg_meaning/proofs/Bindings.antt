@@ -16,7 +16,8 @@ use Rattle.dg_base.specs.declared.program.PlaceKind.TheVariants.{Flag, Global}
 use Rattle.dg_base.specs.declared.program.Goal.TheVariants.{Forever as Forever-Goal}
 use Rattle.dg_base.specs.Goals.{terms_held, option_terms}
 use Rattle.dg_meaning.specs.Values.{Num, Word, Object, Closure, Value, Var, Node, Values, NoMore, More, leaf, parts_of, value_of_var, captured_by, value_of_leaf, value_of, value_of_row}
-use Rattle.dg_meaning.specs.Substitutions.{Substitution, walk, resolved, IsSubstitution, Extends}
+use Rattle.dg_meaning.specs.Substitutions.{Substitution, walk, resolved}
+use Rattle.dg_meaning.specs.inside.Substitutions.{IsSubstitution, Extends}
 use Rattle.dg_meaning.specs.Unify.{same_spelling, Equations, Turn, Goes, Binds, Clashes, turn, cost, Unified, charged, after_turn, turns, top, tops, top_of_pairs, top_of_equations, enough, solve}
 use Rattle.dg_meaning.specs.Copies.{list_of, values_of, vars_in, vars_in_all, copy_from, copies_from}
 use Rattle.dg_meaning.specs.Numbers.{total}
@@ -28,7 +29,7 @@ use Rattle.dg_meaning.specs.Cells.{cells, writing}
 use Rattle.dg_meaning.specs.Path.{Step, Do, Answers, Cut, Refuse, Back, Keep, Leave, Registers, Path, Whole, AsList, AsSum, Branch, Enter, Clash, TakeOut, Finds, Kind, Move, GoesOn, Outcome, Moves, Chooses, Act, Goes, Tests, Unifies, Ends, Fails, Stops, Effect, Acts, Offers}
 use Rattle.dg_meaning.specs.Moves.{path_of, begun, goals_at, more_heap, inside, enter, enter_if, choice_cells, is_excluded, call_cells, unless_excluded, list_branches, first_alone, rule_steps, new_vars, vars_of, entered, match, matched, rule_branch, rule_branches, rules_of, choice, goes_on_if, stop, move_of, effect, outcome_of, behind_terms, move, made_since, entered_with, head_equations, closure_vars, closure_head, closure_steps, closure_branch, numbers, object_branches, gives, gives_number, behind_copy, copy_of, reads, reads_if_set, finds, finds_if_set, takes_out, path_at, beginning, begins, spaces, ask_object, ask_objects, ask_place, changes, change_place, ask_body, ask_closure, looked_up, selects, throws, splits, joins, takes_line, gathers}
 use Rattle.dg_meaning.specs.Transcript.{start_path}
-use Rattle.dg_meaning.specs.Bindings.{top_of_values, top_of_steps, IsBound, BindsOn, IsBoundBehind, BranchBinds, BranchesBind, MoveBinds, OutcomeBinds, BindsAlong}
+use Rattle.dg_meaning.specs.inside.Bindings.{top_of_values, top_of_steps, IsBound, BindsOn, IsBoundBehind, BranchBinds, BranchesBind, MoveBinds, OutcomeBinds, BindsAlong}
 use Rattle.dg_meaning.proofs.Solving.{walk_top, Fair, turn_fair, top_append, solve_ends, solve_extends}
 
 -- ## Unification binds no variable that isn't there

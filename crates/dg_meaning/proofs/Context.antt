@@ -8,7 +8,7 @@ use Rattle.dg_meaning.specs.Path.{Result, Failing, CutFail, StopTo, End, Answer,
 use Rattle.dg_meaning.specs.Moves.{exhausted}
 use Rattle.dg_meaning.specs.Search.{Search, answer, later, retried, leave, after_branch, begin, branches_cut, choose}
 use Rattle.dg_meaning.specs.Transcript.{run_of}
-use Rattle.dg_meaning.specs.Context.{Around, InBranch, InCut, unwind, gathers, tags_of, Opens, Live, cut_to, stays, live, Holds, Older, TakesOut, Sound, Shielded, pushed, Way, ways, way_to, Drops}
+use Rattle.dg_meaning.specs.inside.Context.{Around, InBranch, InCut, unwind, gathers, tags_of, Opens, Live, cut_to, stays, live, Holds, Older, TakesOut, Sound, Shielded, pushed, Way, ways, way_to, Drops}
 use Rattle.dg_meaning.proofs.Dropping.{drops_nothing, drops_on}
 
 -- ## Cuts of choices

@@ -1,8 +1,8 @@
 -- What stays between two worlds where gatherings were dropped.
 use Rattle.std.proofs.Common.{◌≡◌, ℕ, zero, suc, ◌+◌, List, [], ◌∷◌, ◌++◌, refl, sym, ap, ◌∙◌, subst, arith, drop}
 use Rattle.dg_meaning.specs.World.{World, Event, Prints, Asked, Answered, Retried, HasFailed, Gathering, prints}
-use Rattle.dg_meaning.specs.Context.{Drops}
-use Rattle.dg_meaning.specs.OneRun.{Grows}
+use Rattle.dg_meaning.specs.inside.Context.{Drops}
+use Rattle.dg_meaning.specs.inside.OneRun.{Grows}
 use Rattle.dg_meaning.proofs.OneRun.{begins_same, meters_same}
 
 pub prints_append : (xs ys : List Event) → prints (xs ++ ys) ≡ prints xs ++ prints ys

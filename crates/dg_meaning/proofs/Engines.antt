@@ -4,9 +4,10 @@ use Rattle.dg_base.specs.declared.program.CoreProgram.{CoreProgram}
 use Rattle.dg_base.specs.declared.run.Ending.TheVariants.{KeepLimit}
 use Rattle.dg_base.specs.declared.run.Limits.{Limits}
 use Rattle.dg_base.specs.Streams.{SourceView}
-use Rattle.dg_meaning.specs.Engines.{game, told_behind, left_told, ForTyped}
+use Rattle.dg_meaning.specs.Engines.{game, told_behind, left_told}
+use Rattle.dg_meaning.specs.inside.Engines.{ForTyped}
 use Rattle.dg_meaning.specs.Facts.{kinds_of, kept_size, start_facts}
-use Rattle.dg_meaning.specs.OneRun.{Begins, EndsWith}
+use Rattle.dg_base.specs.Begins.{Begins, EndsWith}
 use Rattle.dg_meaning.specs.Peaks.{Keep}
 use Rattle.dg_meaning.specs.Search.{search}
 use Rattle.dg_meaning.specs.Shows.{IsLeft, LeftBetween, ShowsLimit, ShowsNoMemory}

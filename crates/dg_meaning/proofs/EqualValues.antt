@@ -2,9 +2,10 @@
 use Rattle.std.proofs.Common.{◌≡◌, ℕ, zero, suc, [], ◌∷◌, ◌++◌, true, refl, sym, ◌∙◌, subst, Option, Some, None}
 use Rattle.std.proofs.lemmas.Bool.{eq-eqb}
 use Rattle.dg_meaning.specs.Values.{Value, Var, Node, Values, NoMore, More}
-use Rattle.dg_meaning.specs.Substitutions.{Substitution, walk, resolved, all_resolved, IsSubstitution}
+use Rattle.dg_meaning.specs.Substitutions.{Substitution, walk, resolved}
+use Rattle.dg_meaning.specs.inside.Substitutions.{all_resolved, IsSubstitution}
 use Rattle.dg_meaning.specs.Unify.{same_label, Equations, as_many, side_by_side, Turn, Goes, Binds, Clashes, turn_of, turn, cost, Unified, charged, after_turn, turns, enough}
-use Rattle.dg_meaning.specs.Unifiers.{EqualValuesUnify}
+use Rattle.dg_meaning.specs.inside.Unifiers.{EqualValuesUnify}
 use Rattle.dg_meaning.proofs.Walks.{resolved_unbound, resolved_node, Walked, walked}
 use Rattle.dg_meaning.proofs.Solving.{solve_ends}
 use Rattle.dg_meaning.proofs.Unifiers.{label_refl}

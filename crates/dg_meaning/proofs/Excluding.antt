@@ -6,11 +6,12 @@ use Rattle.dg_base.specs.declared.program.Term.{Term, out-Term, Pair'}
 use Rattle.dg_base.specs.declared.program.Term as place
 use Rattle.dg_base.specs.declared.program.CoreProgram.{CoreProgram}
 use Rattle.dg_meaning.specs.Values.{Label, Value, Var, Node, Values, NoMore, value_of}
-use Rattle.dg_meaning.specs.Substitutions.{Substitution, walk, IsSubstitution}
+use Rattle.dg_meaning.specs.Substitutions.{Substitution, walk}
+use Rattle.dg_meaning.specs.inside.Substitutions.{IsSubstitution}
 use Rattle.dg_meaning.specs.Unify.{same_label, Equations, Clashes, turn_of, turn, cost, Unified, clashed, counted, charged, after_turn, turns, solve}
 use Rattle.dg_meaning.specs.Selection.{label_at, differs_from, excludes, first_excludes}
 use Rattle.dg_meaning.specs.Moves.{vars_of}
-use Rattle.dg_meaning.specs.Excluding.{ExcludedRulesClash}
+use Rattle.dg_meaning.specs.inside.Excluding.{ExcludedRulesClash}
 use Rattle.dg_meaning.proofs.LookUps.{walk_node}
 use Rattle.dg_meaning.proofs.Solving.{solve_is}
 

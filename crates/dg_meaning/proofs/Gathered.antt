@@ -9,7 +9,7 @@ use Rattle.dg_meaning.specs.World.{Game, World, Answered, noted, worked, kept}
 use Rattle.dg_meaning.specs.Path.{Step, Do, Answers, Cut, Keep, Leave, Registers, Failing, Answer, Branch, Kind, Plain, Rules, Shield, Gathers, Move, GoesOn, Outcome, Moves, Chooses}
 use Rattle.dg_meaning.specs.Moves.{path_of, path_at, goals_at, begins, keeping, move}
 use Rattle.dg_meaning.specs.Search.{search, answer, cut, cut_first, later, retried, after_branch, choose, choose_first, branch_cut, branches_cut, after_move, after_goal, go, begin}
-use Rattle.dg_meaning.specs.Context.{Around, InBranch, gathers, KeepIn, BranchesKeepIn}
+use Rattle.dg_meaning.specs.inside.Context.{Around, InBranch, gathers, KeepIn, BranchesKeepIn}
 use Rattle.dg_meaning.proofs.Search.{begin_good, after_branch_same, search_good, search_steps}
 use Rattle.dg_meaning.proofs.Fronts.{Front, IsNoGathering, BranchAlike, BranchesAlike, MoveAlike, OutcomeAlike, first_gathered, taken, begins_alike, cut_in_front, in_front}
 

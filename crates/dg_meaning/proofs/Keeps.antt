@@ -16,11 +16,11 @@ use Rattle.dg_meaning.specs.Cells.{writing}
 use Rattle.dg_meaning.specs.Moves.{path_of, exhausted, begun, goals_at, path_at, beginning, begins, choice, goes_on_if, move_of, keeping, stop, effect, outcome_of, behind_terms, move}
 use Rattle.dg_meaning.specs.Search.{Search, search, answer, later, retried, leave, begin, cut, cut_first, cut_result, after_branch, choose, branches_cut, after_move, after_goal}
 use Rattle.dg_meaning.specs.Transcript.{Run, run_of, run, start_world, start_path}
-use Rattle.dg_meaning.specs.Context.{Around, InBranch, InCut, unwind, gathers, tags_of, Opens, Way, ways, Live, cut_to, pushed, live, way_to, Older, StepsIn, PathIn, KeepsGathering, KeepGatherings, TakesOut, IsNewest, KeepIn, BranchesKeepIn, Sound, BranchIn, BranchesIn}
-use Rattle.dg_meaning.specs.Keeps.{world_at, world_of, unwound, Stands, Failed, Stopping, Resumed, Finished, open_at, FailsTo, Went, Began, Tried, tried_in, open_outside, new_choices, new_ways, After, WentOn, Keeps}
+use Rattle.dg_meaning.specs.inside.Context.{Around, InBranch, InCut, unwind, gathers, tags_of, Opens, Way, ways, Live, cut_to, pushed, live, way_to, Older, StepsIn, PathIn, KeepsGathering, KeepGatherings, TakesOut, IsNewest, KeepIn, BranchesKeepIn, Sound, BranchIn, BranchesIn}
+use Rattle.dg_meaning.specs.inside.Keeps.{world_at, world_of, unwound, Stands, Failed, Stopping, Resumed, Finished, open_at, FailsTo, Went, Began, Tried, tried_in, open_outside, new_choices, new_ways, After, WentOn, Keeps}
 use Rattle.dg_meaning.proofs.Dropping.{drops_nothing, drops_on, drops_grow}
-use Rattle.dg_meaning.specs.Bindings.{top_of_steps, IsBound}
-use Rattle.dg_meaning.specs.OneRun.{Grows}
+use Rattle.dg_meaning.specs.inside.Bindings.{top_of_steps, IsBound}
+use Rattle.dg_meaning.specs.inside.OneRun.{Grows}
 use Rattle.dg_meaning.proofs.OneRun.{grows_same, grows_on}
 use Rattle.dg_meaning.proofs.Stays.{world_in, EffectStays, effect_stays, world_before, beginning_stays}
 use Rattle.dg_meaning.proofs.Search.{IsGood, beginning_grows, after_branch_good, choose_good, search_good, search_steps}

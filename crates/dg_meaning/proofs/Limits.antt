@@ -5,7 +5,8 @@ use Rattle.dg_base.specs.declared.run.Limits.{Limits}
 use Rattle.dg_base.specs.declared.run.Outcome.{Outcome}
 use Rattle.dg_meaning.specs.World.{Game, Event, Meters}
 use Rattle.dg_meaning.specs.Transcript.{run}
-use Rattle.dg_meaning.specs.OneRun.{Begins, MetersGrow, Grows}
+use Rattle.dg_meaning.specs.inside.OneRun.{MetersGrow, Grows}
+use Rattle.dg_base.specs.Begins.{Begins}
 use Rattle.dg_meaning.specs.Peaks.{Area, Heap, Trail, Aux, Keep, greatest, limit_of, peak, IsWithin}
 use Rattle.dg_meaning.specs.Shows.{ShowsRun, Shows}
 use Rattle.dg_meaning.proofs.OneRun.{begins_on}

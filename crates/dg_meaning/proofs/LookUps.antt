@@ -3,8 +3,9 @@ use Rattle.std.proofs.Common.{◌≡◌, ℕ, suc, [], ◌∷◌, true, false, r
 use Rattle.std.specs.Prelude.{eqb}
 use Rattle.std.proofs.lemmas.Bool.{cond-true, cond-false, cases_eq, eq-eqb, ne_eqb}
 use Rattle.dg_meaning.specs.Values.{Label, Value, Var, Node, Values}
-use Rattle.dg_meaning.specs.Substitutions.{Substitution, is_bound, at_var, walk, links_at, links, resolved, contains, IsSubstitution}
-use Rattle.dg_meaning.specs.Unifiers.{binding_of, WalksUp, Resolves}
+use Rattle.dg_meaning.specs.Substitutions.{Substitution, at_var, walk, links_at, links, resolved, contains}
+use Rattle.dg_meaning.specs.inside.Substitutions.{is_bound, IsSubstitution}
+use Rattle.dg_meaning.specs.inside.Unifiers.{binding_of, WalksUp, Resolves}
 use Rattle.dg_meaning.proofs.Walks.{resolved_unbound, resolved_node, replaced_absent, Walked, walked, or_left, or_right, or_false}
 
 -- ## Bound or not

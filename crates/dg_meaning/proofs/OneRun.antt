@@ -14,7 +14,8 @@ use Rattle.dg_meaning.specs.Changes.{changed}
 use Rattle.dg_meaning.specs.Path.{Registers, Kind, Rules, Gathers}
 use Rattle.dg_meaning.specs.Moves.{printed, all_printed, exhausted, begun, selected}
 use Rattle.dg_meaning.specs.Search.{retried, leave}
-use Rattle.dg_meaning.specs.OneRun.{Begins, EndsWith, MetersGrow, Grows}
+use Rattle.dg_meaning.specs.inside.OneRun.{MetersGrow, Grows}
+use Rattle.dg_base.specs.Begins.{Begins, EndsWith}
 
 pub begins_same : {A : Type 0} (xs : List A) → Begins xs xs
 begins_same xs = record { behind = []; is = sym (append-nil xs) }

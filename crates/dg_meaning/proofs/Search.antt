@@ -13,8 +13,8 @@ use Rattle.dg_meaning.specs.Path.{Step, Do, Answers, Cut, Refuse, Back, Keep, Le
 use Rattle.dg_meaning.specs.Moves.{exhausted, begun, bound_by, made_since, choice, goes_on_if, unifying, stop, move_of, path_at, beginning, begins, keeping, effect, outcome_of, outcome, behind_terms, move}
 use Rattle.dg_meaning.specs.Search.{Search, answer, cut_result, cut, later, retried, leave, catches, after_branch, begin, branches_cut, choose, choose_first, after_move, after_goal, take_goal, go, nowhere, search_to, search}
 use Rattle.dg_meaning.specs.Transcript.{ending_of, run_of, start_world, start_path, run}
-use Rattle.dg_meaning.specs.OneRun.{Grows, GoesOnFrom}
-use Rattle.dg_meaning.specs.Keeps.{world_at, world_of}
+use Rattle.dg_meaning.specs.inside.OneRun.{Grows, GoesOnFrom}
+use Rattle.dg_meaning.specs.inside.Keeps.{world_at, world_of}
 use Rattle.dg_meaning.proofs.OneRun.{grows_same, grows_on, noted_grows, worked_grows, begun_grows, kept_grows, exhausted_grows, retried_grows, leave_grows}
 use Rattle.dg_meaning.proofs.Stays.{world_in, world_for, EffectStays, effect_stays, world_before, beginning_stays, before_grows}
 

@@ -1,7 +1,8 @@
 -- Unification by its turns.
 use Rattle.std.proofs.Common.{◌≡◌, ℕ, zero, suc, ◌≤◌, List, [], ◌∷◌, ◌++◌, Option, Some, None, refl, sym, ap, ◌∙◌, subst, arith}
 use Rattle.dg_meaning.specs.Values.{Value}
-use Rattle.dg_meaning.specs.Substitutions.{Substitution, IsSubstitution}
+use Rattle.dg_meaning.specs.Substitutions.{Substitution}
+use Rattle.dg_meaning.specs.inside.Substitutions.{IsSubstitution}
 use Rattle.dg_meaning.specs.Unify.{Equations, Turn, Goes, Binds, Clashes, turn, cost, Unified, agreed, clashed, counted, charged, after_turn, turns, enough, solve}
 use Rattle.dg_meaning.specs.inside.Solved.{Solves, done, goes, binds, clash, IsSolved}
 use Rattle.dg_meaning.proofs.Solving.{solve_ends, solve_is}

@@ -4,7 +4,8 @@ use Rattle.std.specs.Prelude.{eqb, nat_lt, max, ◌&&◌, if◌then◌else◌}
 use Rattle.std.proofs.lemmas.Bool.{cond_both, cases_eq, eq-eqb, ne_eqb}
 use Rattle.std.proofs.Math.Nat.{mul-le-mul_left}
 use Rattle.dg_meaning.specs.Values.{Value, Var, Node, Values, NoMore, More}
-use Rattle.dg_meaning.specs.Substitutions.{Substitution, is_bound, at_var, walk, resolved, all_resolved, contains, FitsFront, IsSubstitution, Extends}
+use Rattle.dg_meaning.specs.Substitutions.{Substitution, at_var, walk, resolved, contains}
+use Rattle.dg_meaning.specs.inside.Substitutions.{is_bound, all_resolved, FitsFront, IsSubstitution, Extends}
 use Rattle.dg_meaning.specs.Unify.{same_label, Equations, as_many, side_by_side, Turn, Goes, Binds, Clashes, binds, turn_of, turn, cost, Unified, agreed, clashed, charged, after_turn, turns, size, sizes, weight, top, tops, top_of_pairs, top_of_equations, turns_for, enough, solve}
 use Rattle.dg_meaning.proofs.Walks.{resolved_unbound, resolved_node, Walked, walked, size_some, size_replaced}
 

@@ -5,7 +5,7 @@ use Rattle.std.proofs.lemmas.Bool.{cond_both, cases_eq, eq-eqb, ne_eqb}
 use Rattle.dg_meaning.specs.Values.{Label, Num, Word, Unknown, Object, Nil, Pair, Closure, Value, Var, Node, Values, NoMore, More}
 use Rattle.dg_meaning.specs.Substitutions.{Substitution, at_var, walk, links_at, links, replaced, all_replaced, resolved, contains, any_contains}
 use Rattle.dg_meaning.specs.Unify.{same_spelling, same_label, Equations, as_many, side_by_side, Turn, Goes, Binds, Clashes, binds, ties, turn_of, turn, looked, all_looked, looks, looks_of, cost, Unified, charged, after_turn, turns, size, sizes, weight, top, tops, top_of_pairs, top_of_equations, enough, ended, solve}
-use Rattle.dg_meaning.specs.Spellings.{spelling_of, Differ, HaveLabel, Have, HaveAll, HavePairs, spelled_label, spelled, all_spelled, spelled_pairs, spelled_answer, SpellingsUnify}
+use Rattle.dg_meaning.specs.inside.Spellings.{spelling_of, Differ, HaveLabel, Have, HaveAll, HavePairs, spelled_label, spelled, all_spelled, spelled_pairs, spelled_answer, SpellingsUnify}
 use Rattle.dg_meaning.proofs.UnifyLaws.{spelling_same}
 
 -- ## Labels

@@ -17,13 +17,13 @@ use Rattle.dg_meaning.specs.Numbers.{total}
 use Rattle.dg_meaning.specs.Words.{behind_first}
 use Rattle.dg_meaning.specs.Facts.{Alteration, value_at, kinds_of}
 use Rattle.dg_meaning.specs.Changes.{found, change_of, changed, changing}
-use Rattle.dg_meaning.specs.OneAnswer.{passes}
+use Rattle.dg_meaning.specs.inside.OneAnswer.{passes}
 use Rattle.dg_meaning.specs.World.{Game, World, Gathering, Event, Prints, Answered, Retried, HasFailed, Print, Piece, GapOf, SpacesOf, Asked, noted, worked, gathered_at, dropped}
 use Rattle.dg_meaning.specs.Pieces.{pieces}
 use Rattle.dg_meaning.specs.Path.{Step, Registers, Whole, AsList, AsSum, Branch, Enter, Clash, TakeOut, Finds, Gathers, Act, Goes, Tests, Unifies, Ends, Fails, Stops, Effect, Acts, Offers}
 use Rattle.dg_meaning.specs.Moves.{printed, all_printed, begun, spaces, gives_number, reads, reads_if_set, finds, finds_if_set, takes_out, beginning, ask_object, ask_objects, ask_place, change_place, changes, change_looks, ask_body, ask_closure, selects, throws, splits, joins, takes_line, looked_up, first_looks, whole_looks, effect}
-use Rattle.dg_meaning.specs.OneRun.{Grows}
-use Rattle.dg_meaning.specs.Context.{tags_of}
+use Rattle.dg_meaning.specs.inside.OneRun.{Grows}
+use Rattle.dg_meaning.specs.inside.Context.{tags_of}
 use Rattle.dg_meaning.proofs.OneRun.{grows_same, grows_on, noted_grows, worked_grows, begun_grows, printed_grows, gathering_grows, changed_grows, selected_grows, drew_grows, line_grows, dropped_grows}
 
 -- ## Worlds

@@ -21,9 +21,9 @@ use Rattle.dg_meaning.specs.World.{Game, World, worked}
 use Rattle.dg_meaning.specs.Cells.{writing}
 use Rattle.dg_meaning.specs.Path.{Step, Do, Answers, Cut, Refuse, Back, Keep, Leave, Registers, Path, Whole, AsList, AsSum, Branch, Enter, Clash, TakeOut, Finds, Kind, Plain, Rules, Shield, Gathers, Move, GoesOn, FailsAt, EndsAt, StopsAt, Outcome, Moves, Chooses, Act, Goes, Tests, Unifies, Ends, Fails, Stops, Effect, Acts, Offers}
 use Rattle.dg_meaning.specs.Moves.{path_of, begun, goals_at, inside, enter, enter_if, choice_cells, is_excluded, call_cells, unless_excluded, list_branches, first_alone, vars_of, rule_branch, rule_branches, rules_of, choice, goes_on_if, stop, move_of, effect, outcome_of, behind_terms, move, closure_vars, closure_branch, numbers, object_branches, reads_if_set, beginning, begins, spaces, ask_object, ask_objects, ask_place, change_place, ask_body, ask_closure, looked_up, whole_looks, selects, gathers, gives_number, throws, splits, joins, takes_line}
-use Rattle.dg_meaning.specs.Bindings.{top_of_values, IsBound, IsBoundBehind, BranchBinds, BranchesBind, MoveBinds, OutcomeBinds}
+use Rattle.dg_meaning.specs.inside.Bindings.{top_of_values, IsBound, IsBoundBehind, BranchBinds, BranchesBind, MoveBinds, OutcomeBinds}
 use Rattle.dg_meaning.proofs.Bindings.{term_below, terms_below, ActMade, number_made, throws_made, set_made, spaces_made, place_made, splits_made, joins_made, line_made, beginning_made, binds_along}
-use Rattle.dg_meaning.specs.Context.{Around, InBranch, InCut, Holds, Older, Shielded, StopIn, StepsIn, PathIn, BranchIn, BranchesIn, KeepsGathering, KeepGatherings, TakesOut}
+use Rattle.dg_meaning.specs.inside.Context.{Around, InBranch, InCut, Holds, Older, Shielded, StopIn, StepsIn, PathIn, BranchIn, BranchesIn, KeepsGathering, KeepGatherings, TakesOut}
 
 -- ## Tags alone
 

@@ -3,9 +3,10 @@ use Rattle.std.proofs.Common.{◌≡◌, ℕ, zero, suc, ◌+◌, ◌≤◌, Lis
 use Rattle.std.specs.Prelude.{eqb, nat_lt, ◌||◌, if◌then◌else◌}
 use Rattle.std.proofs.lemmas.Bool.{cond_both, eqb-true, eq-eqb}
 use Rattle.dg_meaning.specs.Values.{Label, Num, Word, Unknown, Object, Nil, Pair, Closure, Value, Var, Node, Values, NoMore, More}
-use Rattle.dg_meaning.specs.Substitutions.{Substitution, at_var, walk, replaced, all_replaced, resolved, all_resolved, contains, any_contains}
+use Rattle.dg_meaning.specs.Substitutions.{Substitution, at_var, walk, replaced, all_replaced, resolved, contains, any_contains}
+use Rattle.dg_meaning.specs.inside.Substitutions.{all_resolved}
 use Rattle.dg_meaning.specs.Unify.{same_spelling, same_label, Equations, as_many, side_by_side, Turn, Goes, Binds, Clashes, binds, turn_of, turn, cost, Unified, charged, after_turn, turns, size, sizes, enough}
-use Rattle.dg_meaning.specs.Unifiers.{Assignment, under, all_under, Obeys, UnifyingExtends, UnifyingMakesEqual, UnifyingIsMostGeneral}
+use Rattle.dg_meaning.specs.inside.Unifiers.{Assignment, under, all_under, Obeys, UnifyingExtends, UnifyingMakesEqual, UnifyingIsMostGeneral}
 use Rattle.dg_meaning.proofs.Walks.{resolved_node}
 use Rattle.dg_meaning.proofs.Solving.{solve_ends, solve_extends}
 use Rattle.dg_meaning.proofs.UnifyLaws.{solve_equal}

@@ -3,8 +3,10 @@ use Rattle.std.proofs.Common.{◌≡◌, ℕ, zero, suc, ◌+◌, ◌<◌, ◌�
 use Rattle.std.specs.Prelude.{eqb, nat_lt, max, ◌&&◌, if◌then◌else◌}
 use Rattle.std.proofs.lemmas.Bool.{cond_both, cond-true, cond-false, eqb-true, eq-eqb}
 use Rattle.dg_meaning.specs.Values.{Label, Num, Word, Unknown, Object, Nil, Pair, Closure, Value, Var, Node, Values, NoMore, More}
-use Rattle.dg_meaning.specs.Substitutions.{Substitution, walk, replaced, resolved, all_resolved, contains, IsSubstitution}
-use Rattle.dg_meaning.specs.Unify.{same_spelling, same_label, Equations, as_many, side_by_side, Turn, Goes, Binds, Clashes, turn_of, turn, cost, Unified, agreed, clashed, counted, charged, after_turn, turns, top_of_pairs, top_of_equations, enough, ended, solve, unify, and_then, solve_turn}
+use Rattle.dg_meaning.specs.Substitutions.{Substitution, walk, replaced, resolved, contains}
+use Rattle.dg_meaning.specs.inside.Substitutions.{all_resolved, IsSubstitution}
+use Rattle.dg_meaning.specs.Unify.{same_spelling, same_label, Equations, as_many, side_by_side, Turn, Goes, Binds, Clashes, turn_of, turn, cost, Unified, agreed, clashed, counted, charged, after_turn, turns, top_of_pairs, top_of_equations, enough, ended, solve}
+use Rattle.dg_meaning.specs.inside.Unify.{unify, and_then, solve_turn}
 use Rattle.dg_meaning.proofs.Walks.{resolved_unbound, resolved_node, Walked, walked, replaced_absent}
 use Rattle.dg_meaning.proofs.Solving.{turns_for_some, Fair, ExtendsBy, turns_extend, turn_fair, solve_ends, solve_is, solve_extends, turns_more}
 

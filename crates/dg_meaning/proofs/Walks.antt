@@ -3,7 +3,8 @@ use Rattle.std.proofs.Common.{◌≡◌, ℕ, ◌*◌, ◌<◌, ◌≤◌, [], �
 use Rattle.std.specs.Prelude.{eqb, ◌||◌}
 use Rattle.std.proofs.lemmas.Bool.{cond_both, cond-true, cond-false}
 use Rattle.dg_meaning.specs.Values.{Label, Value, Var, Node, Values, NoMore, More}
-use Rattle.dg_meaning.specs.Substitutions.{Substitution, is_bound, at_var, walk, replaced, all_replaced, resolved, all_resolved, contains, any_contains, FitsFront, IsSubstitution}
+use Rattle.dg_meaning.specs.Substitutions.{Substitution, at_var, walk, replaced, all_replaced, resolved, contains, any_contains}
+use Rattle.dg_meaning.specs.inside.Substitutions.{is_bound, all_resolved, FitsFront, IsSubstitution}
 use Rattle.dg_meaning.specs.Unify.{size, sizes}
 
 pub or_left : (a b : Bool) → (a || b) ≡ false → a ≡ false

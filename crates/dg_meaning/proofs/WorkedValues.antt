@@ -1,7 +1,8 @@
 -- Worked unifications, by computation from the definitions.
 use Rattle.std.proofs.Common.{◌≡◌, [], ◌∷◌, refl, true, false}
 use Rattle.dg_meaning.specs.Values.{Num, Word, Unknown, Nil, Closure, Var, Node, NoMore, More, leaf, pair}
-use Rattle.dg_meaning.specs.Unify.{solve, unify}
+use Rattle.dg_meaning.specs.Unify.{solve}
+use Rattle.dg_meaning.specs.inside.Unify.{unify}
 
 -- [$0 | $1] and [1 | $0]: two bindings; the younger variable is bound to what the older one is bound to
 two_bindings : unify [] (pair (Var 0) (Var 1)) (pair (leaf (Num 1)) (Var 0)) ≡ record { agrees = true; subst = (1, leaf (Num 1)) ∷ (0, leaf (Num 1)) ∷ []; count = 9 }

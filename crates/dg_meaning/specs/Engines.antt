@@ -3,10 +3,8 @@ use Rattle.std.specs.Prelude.{ℕ, List, Option, Some, None}
 use Rattle.dg_base.specs.declared.program.CoreProgram.{CoreProgram}
 use Rattle.dg_base.specs.declared.run.Limits.{Limits}
 use Rattle.dg_base.specs.declared.run.Outcome.{Outcome}
-use Rattle.dg_base.specs.declared.run.RunFault.{RunFault}
-use Rattle.dg_base.specs.declared.run.RunFault.TheVariants.{Read, Write, OutOfMemory}
 use Rattle.dg_meaning.specs.World.{Game}
-use Rattle.dg_meaning.specs.Shows.{Shows, ShowsNoMemory, ShowsInputFault, MayWrite}
+use Rattle.dg_meaning.specs.Shows.{Shows, ShowsInputFault, MayWrite}
 use Rattle.dg_base.specs.Streams.{SourceView}
 use Rattle.dg_base.specs.Written.{SinkView, Wrote, BrokeOff}
 
@@ -21,11 +19,6 @@ told_behind (Some typed) left = left
 
 abbrev pub left_told : SourceView → SourceView → Option (List ℕ)
 left_told old new = told_behind old.left new.left
-
--- This holds for the typed bytes that a source tells, or for some where it doesn't tell them.
-abbrev pub ForTyped : Option (List ℕ) → (List ℕ → Type 0) → Type 0
-ForTyped None P = (typed : List ℕ) × P typed
-ForTyped (Some typed) P = P typed
 
 -- The sink took a text that shows the game with this outcome.
 pub record HasShown (g : Game) (typed : List ℕ) (limits : Limits) (outcome : Outcome) (left : Option (List ℕ)) (old new : SinkView) : Type 0 where
@@ -44,15 +37,3 @@ pub record HasLostOutput (g : Game) (typed : List ℕ) (limits : Limits) (left :
   pub bytes : List ℕ
   pub may_write : MayWrite g typed limits bytes left
   pub broke : BrokeOff old new bytes
-
--- Memory ran out, and the sink took the text up to there with its closing.
-pub record HasLostMemory (g : Game) (typed : List ℕ) (limits : Limits) (left : Option (List ℕ)) (old new : SinkView) : Type 0 where
-  pub bytes : List ℕ
-  pub shows : ShowsNoMemory g typed limits bytes left
-  pub wrote : Wrote old new bytes
-
--- What stands after each fault, of a source and a sink.
-abbrev pub HasBrokenOff : RunFault → Game → List ℕ → Limits → SourceView → SourceView → SinkView → SinkView → Type 0
-HasBrokenOff Read g typed limits i i' old new = HasLostInput g typed limits i'.left old new
-HasBrokenOff Write g typed limits i i' old new = HasLostOutput g typed limits (left_told i i') old new
-HasBrokenOff OutOfMemory g typed limits i i' old new = HasLostMemory g typed limits i'.left old new

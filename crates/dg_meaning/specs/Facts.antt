@@ -1,5 +1,5 @@
 -- What is set in the world, and what changes it. Hold it against docs/LANGUAGE.md, "The world", and the Dialog manual on the state of the world.
-use Rattle.std.specs.Prelude.{◌≡◌, ◌≢◌, ℕ, ◌+◌, ◌<◌, ◌≤◌, List, [], ◌∷◌, ◌++◌, Option, Some, None, Bool, true, false, ◌&&◌, not, nat_eq, map, filter, length, if◌then◌else◌}
+use Rattle.std.specs.Prelude.{ℕ, ◌+◌, List, [], ◌∷◌, ◌++◌, Option, Some, None, Bool, true, false, ◌&&◌, not, nat_eq, map, filter, length, if◌then◌else◌}
 use Rattle.dg_base.specs.declared.program.Term.{Term}
 use Rattle.dg_base.specs.declared.program.CoreProgram.{CoreProgram}
 use Rattle.dg_base.specs.declared.program.Place.{Place}
@@ -90,18 +90,6 @@ kept_size kinds facts = kept_from 0 kinds facts
 -- The kinds of the places of a program.
 abbrev pub kinds_of : CoreProgram → List PlaceKind
 kinds_of program = map (λ (place : Place). place.kind) program.places
-
--- ## The objects of a place in order
-
--- Something is set of an object at a place.
-abbrev pub IsSetAt : List Fact → ℕ → ℕ → Type 0
-IsSetAt facts place object = value_at facts place object ≢ None
-
--- The first object, from one on and of so many, of which something is set at a place; or there is none.
-abbrev pub IsFirstSet : List Fact → ℕ → ℕ → ℕ → Option ℕ → Type 0
-IsFirstSet facts place from objects None = (o : ℕ) → from ≤ o → o < objects → value_at facts place o ≡ None
-IsFirstSet facts place from objects (Some first) =
-    (from ≤ first) × (first < objects) × IsSetAt facts place first × ((o : ℕ) → from ≤ o → o < first → value_at facts place o ≡ None)
 
 -- ## The start
 

@@ -3,8 +3,6 @@ pub mod Values
 pub mod Substitutions
 pub mod Unify
 pub mod Letters
-pub mod Unifiers
-pub mod Spellings
 pub mod TypeTests
 pub mod ValueCells
 pub mod Copies
@@ -22,16 +20,10 @@ pub mod Changes
 pub mod Moves
 pub mod Search
 pub mod Transcript
-pub mod Bindings
-pub mod OneRun
 pub mod Peaks
 pub mod Shows
 pub mod Trace
 pub mod Quiet
 pub mod Initial
 pub mod Engines
-pub mod Context
-pub mod Keeps
-pub mod Excluding
-pub mod OneAnswer
 pub mod inside

@@ -6,7 +6,7 @@ use Rattle.dg_base.specs.declared.run.Outcome.{Outcome}
 use Rattle.dg_meaning.specs.Facts.{kinds_of, kept_size, start_facts}
 use Rattle.dg_meaning.specs.World.{Game, Event}
 use Rattle.dg_meaning.specs.Transcript.{run, text_of, closed, line_of, no_memory_line, input_fault_line}
-use Rattle.dg_meaning.specs.OneRun.{Begins, EndsWith}
+use Rattle.dg_base.specs.Begins.{Begins, EndsWith}
 use Rattle.dg_meaning.specs.Peaks.{Area, peak, limit_of, limit_ending, IsWithin}
 
 -- ## In which form

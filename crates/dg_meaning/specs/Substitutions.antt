@@ -1,15 +1,10 @@
 -- What variables are bound to. Hold it against docs/LANGUAGE.md, where it says when two values unify, and the chapter of the Dialog manual on values.
-use Rattle.std.specs.Prelude.{◌≡◌, ℕ, suc, ◌+◌, eqb, List, [], ◌∷◌, ◌++◌, ◌||◌, Bool, false, if◌then◌else◌}
+use Rattle.std.specs.Prelude.{ℕ, suc, ◌+◌, eqb, List, [], ◌∷◌, ◌||◌, Bool, false, if◌then◌else◌}
 use Rattle.dg_meaning.specs.Values.{Value, Var, Node, Values, NoMore, More}
 
 -- Pairs of a variable and what it is bound to, the newest first.
 abbrev pub Substitution : Type 0
 Substitution = List (ℕ × Value)
-
--- The variable x is bound.
-abbrev pub is_bound : ℕ → Substitution → Bool
-is_bound x [] = false
-is_bound x (p ∷ S) = eqb x p.0 || is_bound x S
 
 -- ## Walking
 
@@ -50,11 +45,6 @@ abbrev pub resolved : Substitution → Value → Value
 resolved [] v = v
 resolved (p ∷ S) v = replaced p.0 (resolved S p.1) (resolved S v)
 
--- The same for each of some values.
-abbrev pub all_resolved : Substitution → Values → Values
-all_resolved S NoMore = NoMore
-all_resolved S (More v vs) = More (resolved S v) (all_resolved S vs)
-
 -- The variable x stands in a value.
 abbrev mutual
   pub contains : ℕ → Value → Bool
@@ -65,20 +55,3 @@ abbrev mutual
   any_contains x NoMore = false
   any_contains x (More v vs) = contains x v || any_contains x vs
 
--- ## Which lists of pairs are substitutions
-
--- A pair may stand in front: its variable isn't bound, and its value, resolved, doesn't contain the variable.
-pub record FitsFront (x : ℕ) (v : Value) (S : Substitution) : Type 0 where
-  pub unbound : is_bound x S ≡ false
-  pub absent : contains x (resolved S v) ≡ false
-
--- Each pair fits in front of the older ones.
-abbrev pub IsSubstitution : Substitution → Type 0
-IsSubstitution [] = Unit {0}
-IsSubstitution (p ∷ S) = FitsFront p.0 p.1 S × IsSubstitution S
-
--- A substitution has grown at its front, and is one still.
-pub record Extends (S S' : Substitution) : Type 0 where
-  pub made : Substitution
-  pub is : S' ≡ made ++ S
-  pub sound : IsSubstitution S'

@@ -188,17 +188,3 @@ ended S (Some u) = u
 -- Equations in order, each under what the earlier ones have bound.
 unfoldable pub solve : Substitution → Equations → Unified
 solve S es = ended S (turns (enough S es) S es)
-
--- Two values.
-abbrev pub unify : Substitution → Value → Value → Unified
-unify S a b = solve S ((a, b) ∷ [])
-
--- What comes of one thing, and where it agrees of the next.
-abbrev pub and_then : Unified → (Substitution → Unified) → Unified
-and_then u next = if u.agrees then counted u.count (next u.subst) else u
-
--- What comes of a turn, with these equations left.
-abbrev pub solve_turn : Substitution → Equations → Turn → Unified
-solve_turn S es (Goes parts) = solve S (parts ++ es)
-solve_turn S es (Binds x v) = solve ((x, v) ∷ S) es
-solve_turn S es Clashes = clashed S

@@ -1,4 +1,16 @@
+pub mod Substitutions
+pub mod Unify
 pub mod Solved
+pub mod Unifiers
+pub mod Spellings
+pub mod Objects
+pub mod OneRun
+pub mod Engines
 pub mod Starts
 pub mod Erasing
 pub mod Finding
+pub mod Excluding
+pub mod Bindings
+pub mod OneAnswer
+pub mod Context
+pub mod Keeps

@@ -4,22 +4,23 @@
 ghost use Rattle.std.specs.Prelude.{ℕ, ◌≡◌, ◌+◌, List, Option};
 ghost use Rattle.dg_base.specs.declared.run.Limits.{Limits};
 ghost use Rattle.dg_base.specs.declared.run.Outcome.{Outcome};
-ghost use Rattle.dg_meaning.specs.Substitutions.{Substitution, IsSubstitution};
+ghost use Rattle.dg_meaning.specs.Substitutions.{Substitution};
+ghost use Rattle.dg_meaning.specs.inside.Substitutions.{IsSubstitution};
 ghost use Rattle.dg_meaning.specs.Unify.{Equations};
 ghost use Rattle.dg_meaning.specs.inside.Solved.{IsSolved};
-ghost use Rattle.dg_meaning.specs.Unifiers.{WalksUp, Resolves, UnifyingExtends, UnifyingMakesEqual, UnifyingIsMostGeneral, EqualValuesUnify};
-ghost use Rattle.dg_meaning.specs.Spellings.{SpellingsUnify};
+ghost use Rattle.dg_meaning.specs.inside.Unifiers.{WalksUp, Resolves, UnifyingExtends, UnifyingMakesEqual, UnifyingIsMostGeneral, EqualValuesUnify};
+ghost use Rattle.dg_meaning.specs.inside.Spellings.{SpellingsUnify};
 ghost use Rattle.dg_meaning.specs.World.{Game, Event};
 ghost use Rattle.dg_meaning.specs.Transcript.{run};
-ghost use Rattle.dg_meaning.specs.Bindings.{BindsAlong};
-ghost use Rattle.dg_meaning.specs.OneRun.{GoesOnFrom};
+ghost use Rattle.dg_meaning.specs.inside.Bindings.{BindsAlong};
+ghost use Rattle.dg_meaning.specs.inside.OneRun.{GoesOnFrom};
 ghost use Rattle.dg_meaning.specs.Peaks.{IsWithin};
 ghost use Rattle.dg_meaning.specs.Shows.{plain, MayBegin, ShowsRun, Shows};
 ghost use Rattle.dg_meaning.specs.Trace.{as_lines, erased};
 ghost use Rattle.dg_meaning.specs.inside.Erasing.{HaveNoNewline};
 ghost use Rattle.dg_meaning.specs.inside.Starts.{ShowsStart};
-ghost use Rattle.dg_meaning.specs.Keeps.{Keeps};
-ghost use Rattle.dg_meaning.specs.Excluding.{ExcludedRulesClash};
+ghost use Rattle.dg_meaning.specs.inside.Keeps.{Keeps};
+ghost use Rattle.dg_meaning.specs.inside.Excluding.{ExcludedRulesClash};
 
 /// All runs of a game are cuts of one run.
 pub fn runs_are_cuts()

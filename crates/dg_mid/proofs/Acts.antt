@@ -12,9 +12,9 @@ use Rattle.dg_meaning.specs.Cells.{cells}
 use Rattle.dg_meaning.specs.Path.{Step, Do, Registers, Act, Goes, Tests, Unifies, Ends, Fails as FailsNow, Stops, Effect, Acts, FailsAt as MoveFails, End as EndsSo}
 use Rattle.dg_meaning.specs.Moves.{begun, stop, goes_on_if, bound_by, made_since, unified, unifying, move_of, outcome_of, effect}
 use Rattle.dg_meaning.specs.Transcript.{Run}
-use Rattle.dg_meaning.specs.OneRun.{Grows}
-use Rattle.dg_meaning.specs.Context.{Way as WayOn, Live}
-use Rattle.dg_meaning.specs.Keeps.{Went, After, world_at}
+use Rattle.dg_meaning.specs.inside.OneRun.{Grows}
+use Rattle.dg_meaning.specs.inside.Context.{Way as WayOn, Live}
+use Rattle.dg_meaning.specs.inside.Keeps.{Went, After, world_at}
 use Rattle.dg_meaning.proofs.OneRun.{grows_on, begun_grows}
 use Rattle.dg_meaning.proofs.Stays.{world_in, EffectStays, effect_stays}
 use Rattle.dg_mid.specs.declared.code.Op.{Op}

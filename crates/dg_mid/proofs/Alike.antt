@@ -23,7 +23,7 @@ use Rattle.dg_meaning.specs.Numbers.{total}
 use Rattle.dg_meaning.specs.Words.{behind_first}
 use Rattle.dg_meaning.specs.Render.{nothing_met, met_from, written, characters}
 use Rattle.dg_meaning.specs.Letters.{copied}
-use Rattle.dg_meaning.specs.OneRun.{Grows}
+use Rattle.dg_meaning.specs.inside.OneRun.{Grows}
 use Rattle.dg_meaning.proofs.OneRun.{grows_same, grows_on, worked_grows, begun_grows}
 use Rattle.dg_meaning.proofs.Dropping.{prints_append}
 use Rattle.dg_mid.specs.declared.code.Action.{Action}

@@ -10,8 +10,8 @@ use Rattle.dg_meaning.specs.Path.{Registers, Path, Failing, Branch, Enter, Clash
 use Rattle.dg_meaning.specs.Moves.{begun, exhausted}
 use Rattle.dg_meaning.specs.Search.{retried}
 use Rattle.dg_meaning.specs.Transcript.{Run}
-use Rattle.dg_meaning.specs.Context.{Live, Way as WayOn, stays}
-use Rattle.dg_meaning.specs.Keeps.{Failed, Resumed, Tried, open_at, tried_in}
+use Rattle.dg_meaning.specs.inside.Context.{Live, Way as WayOn, stays}
+use Rattle.dg_meaning.specs.inside.Keeps.{Failed, Resumed, Tried, open_at, tried_in}
 use Rattle.dg_meaning.proofs.Keeps.{failed, tries, takes_newest, stands_happened}
 use Rattle.dg_mid.specs.declared.code.Op.{Op}
 use Rattle.dg_mid.specs.declared.code.Code.{Code}

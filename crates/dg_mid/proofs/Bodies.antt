@@ -19,8 +19,8 @@ use Rattle.dg_meaning.specs.Cells.{cells, writing}
 use Rattle.dg_meaning.specs.Path.{Step, Do, Registers, Path, Branch}
 use Rattle.dg_meaning.specs.Moves.{path_of, goals_at, first_alone, enter_if, new_vars, entered_with, matched, entering_with, unifying, head_equations, closure_head, closure_steps, closure_branch, ask_body, ask_closure, looked_up, outcome_of, made_since, older_bound}
 use Rattle.dg_meaning.specs.Transcript.{Run}
-use Rattle.dg_meaning.specs.Context.{Way as WayOn, Live}
-use Rattle.dg_meaning.specs.Keeps.{Began, After, Failed}
+use Rattle.dg_meaning.specs.inside.Context.{Way as WayOn, Live}
+use Rattle.dg_meaning.specs.inside.Keeps.{Began, After, Failed}
 use Rattle.dg_mid.specs.declared.code.Op.{Op}
 use Rattle.dg_mid.specs.declared.code.Op.TheVariants as op
 use Rattle.dg_mid.specs.declared.code.BodyCode.{BodyCode}

@@ -6,15 +6,15 @@ use Rattle.std.proofs.lemmas.Bool.{cond_both}
 use Rattle.dg_base.specs.declared.program.Rule.{Rule}
 use Rattle.dg_base.specs.declared.run.Limits.{Limits}
 use Rattle.dg_meaning.specs.Values.{Value, value_of}
-use Rattle.dg_meaning.specs.Substitutions.{IsSubstitution}
+use Rattle.dg_meaning.specs.inside.Substitutions.{IsSubstitution}
 use Rattle.dg_meaning.specs.Unify.{Unified, solve}
 use Rattle.dg_meaning.specs.World.{Game, World, Print, prints}
 use Rattle.dg_meaning.specs.Cells.{cells, writing}
 use Rattle.dg_meaning.specs.Path.{Step, Answers, Registers, Path, Branch, Clash, Rules}
 use Rattle.dg_meaning.specs.Moves.{begun, exhausted, path_of, goals_at, first_alone, inside, enter_if, rule_steps, new_vars, vars_of as rule_vars, entered as entered_at, match, matched, unless_excluded, is_excluded, call_cells, entering as entering_in, unifying, rule_branch, rule_branches, made_since, older_bound}
 use Rattle.dg_meaning.specs.Transcript.{Run}
-use Rattle.dg_meaning.specs.Context.{Way as WayOn, Live}
-use Rattle.dg_meaning.specs.Keeps.{Failed, Began, open_at}
+use Rattle.dg_meaning.specs.inside.Context.{Way as WayOn, Live}
+use Rattle.dg_meaning.specs.inside.Keeps.{Failed, Began, open_at}
 use Rattle.dg_meaning.specs.Path.{Moves, FailsAt as MoveFails}
 use Rattle.dg_meaning.proofs.Keeps.{has_happened, stands_happened}
 use Rattle.dg_mid.specs.declared.code.RuleCode.{RuleCode}

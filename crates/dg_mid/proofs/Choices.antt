@@ -10,8 +10,8 @@ use Rattle.dg_meaning.specs.World.{Game, World, Print, prints}
 use Rattle.dg_meaning.specs.Path.{Step, Do, Cut, Refuse, Back, Registers, Branch, Enter, Clash, TakeOut, Finds, Plain}
 use Rattle.dg_meaning.specs.Moves.{begun, path_of, goals_at, enter, inside, list_branches}
 use Rattle.dg_meaning.specs.Transcript.{Run}
-use Rattle.dg_meaning.specs.Context.{Way as WayOn, Live}
-use Rattle.dg_meaning.specs.Keeps.{Stands as StandsIn, open_at}
+use Rattle.dg_meaning.specs.inside.Context.{Way as WayOn, Live}
+use Rattle.dg_meaning.specs.inside.Keeps.{Stands as StandsIn, open_at}
 use Rattle.dg_meaning.proofs.Keeps.{stands_happened}
 use Rattle.dg_mid.specs.declared.code.Op.{Op}
 use Rattle.dg_mid.specs.declared.code.Op.TheVariants as op

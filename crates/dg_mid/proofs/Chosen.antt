@@ -13,7 +13,7 @@ use Rattle.dg_meaning.specs.World.{Game, World, Print}
 use Rattle.dg_meaning.specs.Path.{Step, Do}
 use Rattle.dg_meaning.specs.Moves.{path_of, goals_at, selects as selecting, selected as picked}
 use Rattle.dg_meaning.specs.Transcript.{Run}
-use Rattle.dg_meaning.specs.Keeps.{Stands as StandsIn}
+use Rattle.dg_meaning.specs.inside.Keeps.{Stands as StandsIn}
 use Rattle.dg_mid.specs.declared.code.Op.{Op}
 use Rattle.dg_mid.specs.declared.code.Op.TheVariants as op
 use Rattle.dg_mid.specs.declared.code.Code.{Code}

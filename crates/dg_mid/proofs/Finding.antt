@@ -16,9 +16,9 @@ use Rattle.dg_meaning.specs.Letters.{copied}
 use Rattle.dg_meaning.specs.Changes.{found}
 use Rattle.dg_meaning.specs.Moves.{begun, choice, path_of, first_alone, inside, behind_copy, copy_of, finds_if_set, object_branches, numbers, move_of, outcome_of, effect}
 use Rattle.dg_meaning.specs.Transcript.{Run}
-use Rattle.dg_meaning.specs.OneRun.{Grows}
-use Rattle.dg_meaning.specs.Context.{Way as WayOn, Live}
-use Rattle.dg_meaning.specs.Keeps.{Began, Tried, After, Went, open_at}
+use Rattle.dg_meaning.specs.inside.OneRun.{Grows}
+use Rattle.dg_meaning.specs.inside.Context.{Way as WayOn, Live}
+use Rattle.dg_meaning.specs.inside.Keeps.{Began, Tried, After, Went, open_at}
 use Rattle.dg_meaning.proofs.OneRun.{grows_on, worked_grows}
 use Rattle.dg_mid.specs.declared.code.Op.{Op}
 use Rattle.dg_mid.specs.declared.code.Op.TheVariants as op

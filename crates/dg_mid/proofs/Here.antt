@@ -6,8 +6,8 @@ use Rattle.dg_meaning.specs.World.{Game, World, Gathering, Print, Answered, Even
 use Rattle.dg_meaning.specs.Path.{Step, Do, Registers}
 use Rattle.dg_meaning.specs.Moves.{path_of, goals_at, move}
 use Rattle.dg_meaning.specs.Transcript.{Run}
-use Rattle.dg_meaning.specs.Context.{Way as WayOn, Live, Drops}
-use Rattle.dg_meaning.specs.Keeps.{Stands as StandsIn, After}
+use Rattle.dg_meaning.specs.inside.Context.{Way as WayOn, Live, Drops}
+use Rattle.dg_meaning.specs.inside.Keeps.{Stands as StandsIn, After}
 use Rattle.dg_meaning.proofs.Keeps.{passes_answer, takes}
 use Rattle.dg_meaning.proofs.Dropping.{prints_append}
 use Rattle.dg_unify.specs.Store.{State}

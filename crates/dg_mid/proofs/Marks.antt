@@ -15,8 +15,8 @@ use Rattle.dg_meaning.specs.World.{Game, World, Print, prints, kept as gathered_
 use Rattle.dg_meaning.specs.Path.{Step, Cut, Back, Result, FailsAt as MoveFails, End as EndsSo, Keep}
 use Rattle.dg_meaning.specs.Moves.{goals_at, first_alone, keeping}
 use Rattle.dg_meaning.specs.Transcript.{Run, ending_of}
-use Rattle.dg_meaning.specs.Keeps.{Finished}
-use Rattle.dg_meaning.specs.Context.{Live, cut_to as cut_lives}
+use Rattle.dg_meaning.specs.inside.Keeps.{Finished}
+use Rattle.dg_meaning.specs.inside.Context.{Live, cut_to as cut_lives}
 use Rattle.dg_meaning.proofs.Keeps.{passes_cut, passes_refuse, passes_back, passes_keep, passes_leave, done, keeps_in_newest}
 use Rattle.dg_mid.specs.declared.code.Op.{Op}
 use Rattle.dg_mid.specs.declared.code.Code.{Code}

@@ -4,7 +4,7 @@ use Rattle.std.proofs.Common.{◌≡◌, ℕ, List, [], ◌∷◌, ◌++◌, ref
 use Rattle.std.proofs.lemmas.Bool.{cond-true, eq-eqb}
 use Rattle.dg_meaning.specs.Values.{Value}
 use Rattle.dg_meaning.specs.World.{Gathering, gathered_with, gathered_at, gathered_without}
-use Rattle.dg_meaning.specs.Context.{IsNewest, tags_of}
+use Rattle.dg_meaning.specs.inside.Context.{IsNewest, tags_of}
 use Rattle.dg_mid.specs.Step.{newest_with}
 
 pub record HasNewest (t : ℕ) (gs : List Gathering) : Type 0 where

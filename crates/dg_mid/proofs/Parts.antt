@@ -14,9 +14,9 @@ use Rattle.dg_meaning.specs.Cells.{cells, writing}
 use Rattle.dg_meaning.specs.Path.{Step, Do, Keep, Leave, Registers, TakeOut, Plain, Whole, AsList, AsSum}
 use Rattle.dg_meaning.specs.Moves.{begun, path_of, goals_at, enter, inside, outcome_of, effect, move_of, gives_number, gathers as gathering_of, takes_out as takes_out_act}
 use Rattle.dg_meaning.specs.Transcript.{Run}
-use Rattle.dg_meaning.specs.Context.{Way as WayOn, Live, IsNewest, tags_of}
-use Rattle.dg_meaning.specs.Keeps.{Tried, After, Went}
-use Rattle.dg_meaning.specs.OneRun.{Grows}
+use Rattle.dg_meaning.specs.inside.Context.{Way as WayOn, Live, IsNewest, tags_of}
+use Rattle.dg_meaning.specs.inside.Keeps.{Tried, After, Went}
+use Rattle.dg_meaning.specs.inside.OneRun.{Grows}
 use Rattle.dg_meaning.proofs.Keeps.{stands_happened}
 use Rattle.dg_meaning.proofs.OneRun.{begun_grows}
 use Rattle.dg_meaning.specs.Numbers.{total}

@@ -8,7 +8,8 @@ use Rattle.dg_base.specs.declared.run.Ending.{Ending}
 use Rattle.dg_base.specs.declared.run.Ending.TheVariants as ending
 use Rattle.dg_meaning.specs.World.{Game, World, Event, Print, prints}
 use Rattle.dg_meaning.specs.Transcript.{Run, run_of, run, start_world, start_path, closed, line_of, input_fault_line, closed_text}
-use Rattle.dg_meaning.specs.OneRun.{Begins, EndsWith, Grows}
+use Rattle.dg_meaning.specs.inside.OneRun.{Grows}
+use Rattle.dg_base.specs.Begins.{Begins, EndsWith}
 use Rattle.dg_meaning.specs.Search.{answer}
 use Rattle.dg_meaning.specs.Peaks.{Area, Heap, Trail, Aux, Keep, greatest, peak, limit_of, limit_ending}
 use Rattle.dg_meaning.specs.Shows.{MayBegin, Shows, taken_by}

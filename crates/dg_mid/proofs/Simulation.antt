@@ -6,7 +6,7 @@ use Rattle.dg_meaning.specs.World.{Game, World, Print}
 use Rattle.dg_meaning.specs.Path.{Step, Rules, Kind}
 use Rattle.dg_meaning.specs.Moves.{call_cells}
 use Rattle.dg_meaning.specs.Transcript.{Run}
-use Rattle.dg_meaning.specs.Keeps.{Tried, open_at}
+use Rattle.dg_meaning.specs.inside.Keeps.{Tried, open_at}
 use Rattle.dg_mid.specs.declared.code.Op.{Op}
 use Rattle.dg_mid.specs.declared.code.Code.{Code}
 use Rattle.dg_mid.specs.Code.{block_at, selected}

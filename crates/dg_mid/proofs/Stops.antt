@@ -7,8 +7,8 @@ use Rattle.dg_meaning.specs.World.{Game, World, Print}
 use Rattle.dg_meaning.specs.Path.{Registers, End as EndsSo}
 use Rattle.dg_meaning.specs.Moves.{begun, inside, stop}
 use Rattle.dg_meaning.specs.Transcript.{Run}
-use Rattle.dg_meaning.specs.Context.{Way as WayOn, Live, way_to, cut_to as cut_lives}
-use Rattle.dg_meaning.specs.Keeps.{Went, WentOn}
+use Rattle.dg_meaning.specs.inside.Context.{Way as WayOn, Live, way_to, cut_to as cut_lives}
+use Rattle.dg_meaning.specs.inside.Keeps.{Went, WentOn}
 use Rattle.dg_meaning.proofs.Keeps.{stops_on}
 use Rattle.dg_unify.specs.Store.{State}
 use Rattle.dg_mid.specs.declared.code.Code.{Code}

@@ -13,9 +13,9 @@ use Rattle.dg_meaning.specs.Cells.{writing}
 use Rattle.dg_meaning.specs.Path.{Step, Do, Registers, Branch, Kind, Move, FailsAt as MoveFails, Moves}
 use Rattle.dg_meaning.specs.Moves.{path_of, exhausted, begun, begins, behind_terms, outcome, made_since, older_bound}
 use Rattle.dg_meaning.specs.Transcript.{Run}
-use Rattle.dg_meaning.specs.OneRun.{Grows}
-use Rattle.dg_meaning.specs.Context.{Way as WayOn, Live}
-use Rattle.dg_meaning.specs.Keeps.{Went, Tried, Began, After, world_at}
+use Rattle.dg_meaning.specs.inside.OneRun.{Grows}
+use Rattle.dg_meaning.specs.inside.Context.{Way as WayOn, Live}
+use Rattle.dg_meaning.specs.inside.Keeps.{Went, Tried, Began, After, world_at}
 use Rattle.dg_meaning.proofs.Keeps.{has_happened, stands_happened}
 use Rattle.dg_meaning.proofs.Search.{beginning_grows, outcome_grows}
 use Rattle.dg_meaning.proofs.OneRun.{grows_on, grows_same, exhausted_grows}

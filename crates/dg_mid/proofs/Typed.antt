@@ -20,9 +20,9 @@ use Rattle.dg_meaning.specs.Path.{Step, Registers, End as EndsSo, Failing, Resul
 use Rattle.dg_meaning.specs.Changes.{change_of}
 use Rattle.dg_meaning.specs.Moves.{looked_up, whole_looks, change_looks, printed, all_printed, spaces, changes, change_place, gives_number, throws, splits, joins, takes_line, outcome, move_of, stop}
 use Rattle.dg_meaning.specs.Transcript.{Run, run, start_world, start_path}
-use Rattle.dg_meaning.specs.OneRun.{EndsWith}
-use Rattle.dg_meaning.specs.Context.{Way as WayOn, Live}
-use Rattle.dg_meaning.specs.Keeps.{Went, After, Finished, Failed}
+use Rattle.dg_base.specs.Begins.{EndsWith}
+use Rattle.dg_meaning.specs.inside.Context.{Way as WayOn, Live}
+use Rattle.dg_meaning.specs.inside.Keeps.{Went, After, Finished, Failed}
 use Rattle.dg_meaning.proofs.Keeps.{failed, done, starts, limited}
 use Rattle.dg_meaning.proofs.OneRun.{ends_on, line_grows}
 use Rattle.dg_mid.specs.declared.code.Op.{Op}

@@ -7,8 +7,8 @@ use Rattle.dg_base.specs.declared.run.Ending.TheVariants as ending
 use Rattle.dg_meaning.specs.World.{Game, World, Print, prints}
 use Rattle.dg_meaning.specs.Path.{End as EndsSo}
 use Rattle.dg_meaning.specs.Transcript.{Run, run, start_world, start_path}
-use Rattle.dg_meaning.specs.OneRun.{Begins}
-use Rattle.dg_meaning.specs.Keeps.{Finished}
+use Rattle.dg_base.specs.Begins.{Begins}
+use Rattle.dg_meaning.specs.inside.Keeps.{Finished}
 use Rattle.dg_meaning.proofs.Keeps.{starts as stands_at_start, limited}
 use Rattle.dg_meaning.proofs.OneRun.{begins_on}
 use Rattle.dg_mid.specs.declared.code.Op.{Op}

@@ -6,15 +6,16 @@ use Rattle.dg_base.specs.declared.program.Term.{Term}
 use Rattle.dg_base.specs.declared.run.Ending.{Ending}
 use Rattle.dg_base.specs.declared.run.Ending.TheVariants as ending
 use Rattle.dg_meaning.specs.Values.{Value, value_of}
-use Rattle.dg_meaning.specs.Substitutions.{Substitution, IsSubstitution}
+use Rattle.dg_meaning.specs.Substitutions.{Substitution}
+use Rattle.dg_meaning.specs.inside.Substitutions.{IsSubstitution}
 use Rattle.dg_meaning.specs.World.{Game, World, Gathering, Print, prints}
 use Rattle.dg_meaning.specs.Path.{Step, Answers, Cut, Refuse, Back, Keep, Leave, Registers, Path, Branch, Enter, Clash, TakeOut, Finds, Kind, Plain, Rules, Result}
 use Rattle.dg_meaning.specs.Moves.{path_of, goals_at, first_alone, inside, object_branches, is_excluded, rule_branch, rule_branches}
 use Rattle.dg_meaning.specs.Transcript.{Run, run_of, ending_of}
 use Rattle.dg_meaning.specs.Search.{answer}
-use Rattle.dg_meaning.specs.Context.{Way as WayOn, Live, IsNewest, tags_of}
-use Rattle.dg_meaning.specs.Keeps.{Stands as StandsIn, Failed, Began, Tried, open_at}
-use Rattle.dg_meaning.specs.OneRun.{Grows}
+use Rattle.dg_meaning.specs.inside.Context.{Way as WayOn, Live, IsNewest, tags_of}
+use Rattle.dg_meaning.specs.inside.Keeps.{Stands as StandsIn, Failed, Began, Tried, open_at}
+use Rattle.dg_meaning.specs.inside.OneRun.{Grows}
 use Rattle.dg_unify.specs.Store.{State}
 use Rattle.dg_mid.specs.declared.code.Op.{Op}
 use Rattle.dg_mid.specs.declared.code.Op.TheVariants as op

@@ -5,7 +5,7 @@ use Rattle.dg_base.specs.declared.run.Ending.TheVariants.{StepLimit}
 use Rattle.dg_meaning.specs.World.{Game, Print, prints}
 use Rattle.dg_meaning.specs.Transcript.{run, start_world, closed_text, line_of, input_fault_line}
 use Rattle.dg_meaning.specs.Shows.{Shows, ShowsInputFault}
-use Rattle.dg_meaning.specs.OneRun.{Begins, EndsWith}
+use Rattle.dg_base.specs.Begins.{Begins, EndsWith}
 use Rattle.dg_mid.specs.Code.{block_at}
 use Rattle.dg_mid.specs.State.{Status, Runs, Ended}
 use Rattle.dg_mid.specs.Step.{Setting, step, said, followed, takes_goal}

@@ -8,7 +8,7 @@ use Rattle.dg_base.specs.declared.program.Term.{Term}
 use Rattle.dg_base.specs.declared.program.Rule.{Rule}
 use Rattle.dg_base.specs.declared.program.Pred.{Pred}
 use Rattle.dg_base.specs.declared.program.ClosureBody.{ClosureBody}
-use Rattle.dg_meaning.specs.OneRun.{Begins}
+use Rattle.dg_base.specs.Begins.{Begins}
 use Rattle.dg_meaning.specs.Moves.{rules_of}
 use Rattle.dg_mid.specs.declared.code.Op.{Op}
 use Rattle.dg_mid.specs.declared.code.Op.TheVariants as op

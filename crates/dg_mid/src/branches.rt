@@ -2,7 +2,7 @@
 ghost use Rattle.std.specs.Prelude.{List, ◌+◌, ◌≤◌, ◌≡◌, [], ◌∷◌, IfOk, OnOk, reverse};
 ghost use Rattle.dg_base.specs.declared.program.Goal.{Goal};
 ghost use Rattle.dg_base.specs.declared.program.Goal.TheVariants as goal;
-ghost use Rattle.dg_meaning.specs.OneRun.{Begins};
+ghost use Rattle.dg_base.specs.Begins.{Begins};
 ghost use Rattle.dg_mid.specs.Codes.{End};
 ghost use Rattle.dg_mid.specs.declared.code.Block.{Block};
 ghost use Rattle.dg_mid.specs.declared.code.Op.TheVariants as op;

@@ -1,7 +1,7 @@
 // Queries of closures, and the code of their bodies.
 ghost use Rattle.std.specs.Prelude.{◌+◌, ◌≤◌, ◌≡◌, [], ◌∷◌, IfOk, OnOk, reverse};
 ghost use Rattle.dg_base.specs.declared.program.Goal.TheVariants as goal;
-ghost use Rattle.dg_meaning.specs.OneRun.{Begins};
+ghost use Rattle.dg_base.specs.Begins.{Begins};
 ghost use Rattle.dg_mid.specs.Tidying.{BlocksTidy};
 ghost use Rattle.dg_mid.specs.Weights.{blocks_weight, closures_weight};
 ghost use Rattle.dg_mid.specs.Writing.{BodiesFor, BodyFor, Moves, PutsFirst, with_goal};

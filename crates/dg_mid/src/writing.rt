@@ -2,7 +2,7 @@
 ghost use Rattle.std.specs.Prelude.{ℕ, List, ◌+◌, ◌≤◌, ◌≡◌, ◌↔◌, ◌++◌, IsTrue, [], ◌∷◌, IfOk, OnOk, MatchOption, length, reverse};
 ghost use Rattle.std.specs.Option.{IfSome};
 ghost use Rattle.dg_base.specs.declared.program.Goal.TheVariants as goal;
-ghost use Rattle.dg_meaning.specs.OneRun.{Begins};
+ghost use Rattle.dg_base.specs.Begins.{Begins};
 ghost use Rattle.dg_mid.specs.Actions.{goal_of};
 ghost use Rattle.dg_mid.specs.declared.code.Block.{Block};
 ghost use Rattle.dg_mid.specs.declared.code.Op.TheVariants as op;

@@ -10,7 +10,8 @@ use Rattle.dg_base.specs.declared.cells.Simple.TheVariants as simple
 use Rattle.dg_base.specs.declared.program.PlaceKind.{PlaceKind}
 use Rattle.dg_base.specs.declared.program.PlaceKind.TheVariants.{Flag, ObjectFlag, ObjectVar, Parent, Global}
 use Rattle.dg_meaning.specs.Values.{Label, Num, Word, Unknown, Object, Nil, Pair, Closure, Value, Var, Node, Values, NoMore, leaf}
-use Rattle.dg_meaning.specs.Substitutions.{resolved, all_resolved, IsSubstitution}
+use Rattle.dg_meaning.specs.Substitutions.{resolved}
+use Rattle.dg_meaning.specs.inside.Substitutions.{all_resolved, IsSubstitution}
 use Rattle.dg_meaning.specs.TypeTests.{is_full}
 use Rattle.dg_meaning.specs.ValueCells.{cells_of}
 use Rattle.dg_meaning.specs.Facts.{Fact, set, value_at, kept_at, kept_from, size_of, Alteration, Sets, Clears, ClearsAll, altered, takes, is_simple}

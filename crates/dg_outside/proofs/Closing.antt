@@ -4,7 +4,7 @@ use Rattle.std.specs.List.{All}
 use Rattle.std.proofs.lemmas.List.{length-map, length-drop, drop-map, drop_all}
 use Rattle.std.proofs.lemmas.List.Elements.{All-drop}
 use Rattle.dg_meaning.specs.World.{Game, World, Gathering}
-use Rattle.dg_meaning.specs.Context.{Drops}
+use Rattle.dg_meaning.specs.inside.Context.{Drops}
 use Rattle.dg_lists.specs.Formed.{IsFormed}
 use Rattle.dg_outside.specs.declared.outside.Outside.{Outside}
 use Rattle.dg_outside.specs.Outside.{row_of, InWorld, closed_to, Closes}

@@ -11,7 +11,7 @@ use Rattle.dg_base.specs.declared.cells.Cell.{Cell}
 use Rattle.dg_meaning.specs.Values.{Value}
 use Rattle.dg_meaning.specs.ValueCells.{cells_of}
 use Rattle.dg_meaning.specs.World.{Gathering, gathered_with, gathered_size}
-use Rattle.dg_meaning.specs.Context.{tags_of, IsNewest}
+use Rattle.dg_meaning.specs.inside.Context.{tags_of, IsNewest}
 use Rattle.dg_lists.specs.Formed.{IsFormed}
 use Rattle.dg_lists.specs.Gathered.{Gathered, added, gathered_size as size_of_rows}
 use Rattle.dg_outside.specs.declared.outside.Outside.{Outside}

@@ -1,7 +1,8 @@
 -- What stands for an object, looked up and resolved.
 use Rattle.std.proofs.Common.{◌≡◌, false, refl, sym, ap, ◌∙◌}
 use Rattle.dg_meaning.specs.Values.{Label, Num, Word, Unknown, Object, Nil, Pair, Closure, Value, Var, Node, Values, NoMore}
-use Rattle.dg_meaning.specs.Substitutions.{Substitution, resolved, all_resolved, IsSubstitution}
+use Rattle.dg_meaning.specs.Substitutions.{Substitution, resolved}
+use Rattle.dg_meaning.specs.inside.Substitutions.{all_resolved, IsSubstitution}
 use Rattle.dg_meaning.proofs.Walks.{resolved_node, resolved_unbound, walked}
 use Rattle.dg_unify.specs.Store.{Store, told}
 use Rattle.dg_unify.specs.declared.bindings.Ref.{Ref}

@@ -11,7 +11,7 @@ use Rattle.dg_meaning.specs.Choosing.{die, Picks, no_picks, picked, picks_at, ch
 use Rattle.dg_meaning.specs.Facts.{Fact, kinds_of, kept_size, start_facts}
 use Rattle.dg_meaning.specs.Transcript.{start_world}
 use Rattle.dg_meaning.specs.World.{Game, World, Gathering, gathered_size, gathered_with, opened, kept}
-use Rattle.dg_meaning.specs.Context.{Drops, IsNewest, tags_of}
+use Rattle.dg_meaning.specs.inside.Context.{Drops, IsNewest, tags_of}
 use Rattle.dg_meaning.specs.Moves.{selects, selected}
 use Rattle.dg_world.specs.Tables.{Outline, outline_of}
 use Rattle.dg_world.specs.Worlds.{StandsFor}

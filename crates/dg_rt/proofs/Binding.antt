@@ -25,8 +25,9 @@ use Rattle.dg_rt.specs.Closings.{closing}
 use Rattle.dg_rt.specs.Moments.{trail_for, trail_of, IsMark, Entries, IsAt, FitsTrail, PassesTrail}
 use Rattle.dg_rt.specs.inside.Binds.{Binds, IsFull}
 use Rattle.dg_meaning.specs.Values.{Value}
-use Rattle.dg_meaning.specs.Substitutions.{Substitution, FitsFront}
-use Rattle.dg_meaning.specs.Unifiers.{binding_of}
+use Rattle.dg_meaning.specs.Substitutions.{Substitution}
+use Rattle.dg_meaning.specs.inside.Substitutions.{FitsFront}
+use Rattle.dg_meaning.specs.inside.Unifiers.{binding_of}
 use Rattle.dg_rt.proofs.Rules.{word, tested, computes, writes, trail_register, put_trail}
 use Rattle.dg_rt.proofs.Locals.{get_1, get_2, older, not_older}
 use Rattle.dg_meaning.proofs.LookUps.{unbound_none}

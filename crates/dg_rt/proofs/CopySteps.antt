@@ -18,7 +18,8 @@ use Rattle.dg_base.specs.declared.cells.Cell.TheVariants as cell
 use Rattle.dg_meaning.specs.Values.{Label, Pair, Closure, Unknown, Value, Var, Node, Values, NoMore, More, pair, leaf}
 use Rattle.dg_meaning.specs.ValueCells.{count_of, cells_of, cells_of_all}
 use Rattle.dg_meaning.specs.Letters.{letters_at, letters_in, letters_in_all}
-use Rattle.dg_meaning.specs.Substitutions.{Substitution, walk, links, resolved, all_resolved, contains, any_contains, IsSubstitution}
+use Rattle.dg_meaning.specs.Substitutions.{Substitution, walk, links, resolved, contains, any_contains}
+use Rattle.dg_meaning.specs.inside.Substitutions.{all_resolved, IsSubstitution}
 use Rattle.dg_meaning.specs.Unify.{looked, all_looked, looks, size}
 use Rattle.dg_meaning.proofs.Walks.{walked, resolved_node, resolved_unbound, or_left, or_right}
 use Rattle.dg_meaning.proofs.LookUps.{walk_node}

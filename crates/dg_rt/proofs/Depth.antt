@@ -6,7 +6,8 @@ use Rattle.std.proofs.lemmas.Bool.{cases_order, ne_eqb, eqb-true, or_cases}
 use Rattle.std.proofs.lemmas.Map.Steps.{length-le_from_distinct_below}
 use Rattle.std.proofs.lemmas.List.{length-map}
 use Rattle.dg_meaning.specs.Values.{Label, Value, Node, Values, NoMore, More, pair}
-use Rattle.dg_meaning.specs.Substitutions.{Substitution, walk, resolved, all_resolved, IsSubstitution}
+use Rattle.dg_meaning.specs.Substitutions.{Substitution, walk, resolved}
+use Rattle.dg_meaning.specs.inside.Substitutions.{all_resolved, IsSubstitution}
 use Rattle.dg_meaning.specs.Unify.{size, sizes}
 use Rattle.dg_meaning.proofs.Walks.{walked, resolved_node, size_some}
 use Rattle.dg_meaning.proofs.UnifyLaws.{resolved_later}

@@ -30,7 +30,7 @@ use Rattle.dg_rt.specs.Copies.{cell_word, words_of, Row}
 use Rattle.dg_rt.specs.CopiesIn.{HasCaptures, Reading, CopiesIn, CopiedIn}
 use Rattle.dg_rt.specs.inside.Walks.{steps}
 use Rattle.dg_meaning.specs.Substitutions.{Substitution}
-use Rattle.dg_meaning.specs.Unifiers.{binding_of}
+use Rattle.dg_meaning.specs.inside.Unifiers.{binding_of}
 use Rattle.dg_rt.proofs.Rules.{word, some_state, tested, computes, copies, writes, register, put_register}
 use Rattle.dg_rt.proofs.Locals.{first, second, third, fourth, fifth, put_first, put_second, put_third, put_fourth, put_fifth, reference, reference_is_negative, boxed_no_reference, boxed_is_negative, simple_is_positive, added}
 use Rattle.dg_rt.proofs.Cells.{holds_with, reads_cell, writes_cell}

@@ -6,7 +6,7 @@ use Rattle.dg_meaning.specs.Values.{Label, Num, Word, Unknown, Object, Nil, Pair
 use Rattle.dg_meaning.specs.ValueCells.{count_of}
 use Rattle.dg_meaning.specs.Copies.{vars_in, vars_in_all, copy_from, copies_from, label_weight, copy_cells, all_copy_cells}
 use Rattle.dg_meaning.specs.Substitutions.{Substitution}
-use Rattle.dg_meaning.specs.Unifiers.{binding_of}
+use Rattle.dg_meaning.specs.inside.Unifiers.{binding_of}
 use Rattle.dg_rt.specs.Areas.{heap_at}
 use Rattle.dg_rt.specs.Shapes.{Shape, IsShape, IsFixed, Cell, Letters, Shows, number, dict, object, nil, variable, boxed, Filled, pair_in, closure_in, word_in, AllShow, no_more, one_more, Stands}
 use Rattle.dg_rt.specs.Back.{Grown}

@@ -1,8 +1,9 @@
 -- One look of the test of containment behind another.
 use Rattle.std.proofs.Common.{◌≡◌, ℕ, ◌+◌, ◌<◌, Bool, true, false, Option, Some, None, refl, sym, ap, ◌∙◌, arith}
 use Rattle.dg_meaning.specs.Values.{Label, Value, Var, Node, Values}
-use Rattle.dg_meaning.specs.Substitutions.{Substitution, walk, links, IsSubstitution}
-use Rattle.dg_meaning.specs.Unifiers.{binding_of}
+use Rattle.dg_meaning.specs.Substitutions.{Substitution, walk, links}
+use Rattle.dg_meaning.specs.inside.Substitutions.{IsSubstitution}
+use Rattle.dg_meaning.specs.inside.Unifiers.{binding_of}
 use Rattle.dg_meaning.specs.Unify.{then_look}
 use Rattle.dg_meaning.proofs.LookUps.{looks_up, walk_free, none_unbound}
 

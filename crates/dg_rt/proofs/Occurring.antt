@@ -13,8 +13,9 @@ use Rattle.z_lang.specs.Acts.{answer_of, computed}
 use Rattle.z_lang.specs.Runs.{ActsRun as Runs, ActsOutcome as Outcome, Returns, at_label, goes, taken, passed, done, calls, returns, behind_label}
 use Rattle.dg_meaning.specs.Values.{Label, Pair, Closure, Value, Var, Node, Values, NoMore, More, pair}
 use Rattle.dg_meaning.specs.ValueCells.{count_of}
-use Rattle.dg_meaning.specs.Substitutions.{Substitution, walk, links, resolved, all_resolved, IsSubstitution}
-use Rattle.dg_meaning.specs.Unifiers.{binding_of}
+use Rattle.dg_meaning.specs.Substitutions.{Substitution, walk, links, resolved}
+use Rattle.dg_meaning.specs.inside.Substitutions.{all_resolved, IsSubstitution}
+use Rattle.dg_meaning.specs.inside.Unifiers.{binding_of}
 use Rattle.dg_meaning.specs.Unify.{then_look, looked, all_looked, size}
 use Rattle.dg_meaning.proofs.Walks.{walked, resolved_node}
 use Rattle.dg_meaning.proofs.LookUps.{looks_up, walk_node, walk_free, none_unbound}

@@ -11,8 +11,9 @@ use Rattle.z_lang.specs.State.{State, Program}
 use Rattle.z_lang.specs.Acts.{computed}
 use Rattle.z_lang.specs.Runs.{ActsRun as Runs, Returns, at_label, goes, taken, passed, done, returns, behind_label}
 use Rattle.dg_meaning.specs.Values.{Value}
-use Rattle.dg_meaning.specs.Substitutions.{Substitution, IsSubstitution}
-use Rattle.dg_meaning.specs.Unifiers.{binding_of}
+use Rattle.dg_meaning.specs.Substitutions.{Substitution}
+use Rattle.dg_meaning.specs.inside.Substitutions.{IsSubstitution}
+use Rattle.dg_meaning.specs.inside.Unifiers.{binding_of}
 use Rattle.dg_meaning.proofs.LookUps.{unbound_none}
 use Rattle.dg_rt.specs.declared.unify.TheConstants.{UNDO_ACTS}
 use Rattle.dg_rt.specs.Cells.{at_cell, with_cell, replaced, Holds}

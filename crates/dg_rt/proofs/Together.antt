@@ -12,8 +12,10 @@ use Rattle.z_lang.specs.State.{State}
 use Rattle.z_lang.specs.Runs.{ActsRun as Runs, ActsOutcome as Outcome, Returns, Stops, at_label, goes, taken, passed, done, calls, calls_last, returns, behind_label}
 use Rattle.dg_meaning.specs.Values.{Label, Closure, Unknown, Value, Var, Node, Values, NoMore, More, leaf, pair}
 use Rattle.dg_meaning.specs.ValueCells.{count_of}
-use Rattle.dg_meaning.specs.Substitutions.{Substitution, walk, links, resolved, FitsFront, Extends}
-use Rattle.dg_meaning.specs.Unify.{same_spelling, same_label, Equations, as_many, side_by_side, Goes, Binds, Clashes, binds, turn, looked, looks, cost, Unified, solve, unify}
+use Rattle.dg_meaning.specs.Substitutions.{Substitution, walk, links, resolved}
+use Rattle.dg_meaning.specs.inside.Substitutions.{FitsFront, Extends}
+use Rattle.dg_meaning.specs.Unify.{same_spelling, same_label, Equations, as_many, side_by_side, Goes, Binds, Clashes, binds, turn, looked, looks, cost, Unified, solve}
+use Rattle.dg_meaning.specs.inside.Unify.{unify}
 use Rattle.dg_meaning.specs.Letters.{values_compared, compared as letters_compared}
 use Rattle.dg_meaning.proofs.Solving.{solve_extends}
 use Rattle.dg_meaning.proofs.UnifyLaws.{solve_nothing}

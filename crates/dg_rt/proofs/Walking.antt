@@ -9,7 +9,7 @@ use Rattle.z_lang.specs.State.{State, Program}
 use Rattle.z_lang.specs.Runs.{ActsRun as Runs, Returns, at_label, goes, taken, passed, done, returns, behind_label}
 use Rattle.dg_meaning.specs.Values.{Value, Var, Node}
 use Rattle.dg_meaning.specs.Substitutions.{Substitution, links}
-use Rattle.dg_meaning.specs.Unifiers.{binding_of}
+use Rattle.dg_meaning.specs.inside.Unifiers.{binding_of}
 use Rattle.dg_meaning.proofs.LookUps.{looks_up, walk_node, walk_free, none_unbound}
 use Rattle.dg_rt.specs.declared.unify.TheConstants.{WALK_ACTS}
 use Rattle.dg_rt.specs.Cells.{at_cell, Holds}

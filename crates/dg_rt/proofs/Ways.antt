@@ -4,8 +4,10 @@ use Rattle.std.specs.Prelude.{eqb, max, ◌&&◌}
 use Rattle.std.proofs.lemmas.Bool.{eq-eqb, ne_eqb, cases_eq, cond-true, cond-false}
 use Rattle.dg_meaning.specs.Values.{Label, Num, Word, Object, Nil, Value, Node, Values, NoMore, More}
 use Rattle.dg_meaning.specs.ValueCells.{count_of}
-use Rattle.dg_meaning.specs.Substitutions.{Substitution, walk, FitsFront, IsSubstitution}
-use Rattle.dg_meaning.specs.Unify.{same_spelling, same_label, Equations, as_many, Turn, Goes, Binds, Clashes, turn, cost, Unified, agreed, clashed, counted, top_of_pairs, top_of_equations, solve, solve_turn, unify}
+use Rattle.dg_meaning.specs.Substitutions.{Substitution, walk}
+use Rattle.dg_meaning.specs.inside.Substitutions.{FitsFront, IsSubstitution}
+use Rattle.dg_meaning.specs.Unify.{same_spelling, same_label, Equations, as_many, Turn, Goes, Binds, Clashes, turn, cost, Unified, agreed, clashed, counted, top_of_pairs, top_of_equations, solve}
+use Rattle.dg_meaning.specs.inside.Unify.{solve_turn, unify}
 use Rattle.dg_meaning.specs.Letters.{values_compared, compared}
 use Rattle.dg_meaning.proofs.Solving.{Fair, turn_fair, solve_extends}
 use Rattle.dg_meaning.proofs.UnifyLaws.{solve_step, solve_nothing, solve_first}

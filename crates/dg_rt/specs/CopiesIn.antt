@@ -3,7 +3,7 @@ use Rattle.std.specs.Prelude.{◌≡◌, ◌≢◌, ℕ, ◌+◌, ◌*◌, ◌<�
 use Rattle.dg_meaning.specs.Values.{Value}
 use Rattle.dg_meaning.specs.Copies.{vars_in, copy_from, copy_cells}
 use Rattle.dg_meaning.specs.Substitutions.{Substitution}
-use Rattle.dg_meaning.specs.Unifiers.{binding_of}
+use Rattle.dg_meaning.specs.inside.Unifiers.{binding_of}
 use Rattle.dg_meaning.specs.Letters.{letters_in}
 use Rattle.dg_meaning.specs.Unify.{size}
 use Rattle.z_lang.specs.declared.act.Act.{Act}

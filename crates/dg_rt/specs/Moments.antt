@@ -4,7 +4,7 @@ use Rattle.std.specs.Prelude.{◌≡◌, ◌≢◌, ℕ, length, ◌+◌, ◌<�
 use Rattle.z_model.specs.declared.story.Layout.{Layout}
 use Rattle.z_lang.specs.State.{State, Program}
 use Rattle.dg_meaning.specs.Substitutions.{Substitution}
-use Rattle.dg_meaning.specs.Unifiers.{binding_of}
+use Rattle.dg_meaning.specs.inside.Unifiers.{binding_of}
 use Rattle.dg_rt.specs.Cells.{Holds}
 use Rattle.dg_rt.specs.Areas.{heap_at, trail_at, areas_end, trail_reg, mark_reg, state}
 use Rattle.dg_rt.specs.Shapes.{Shape, IsShape, Stands}

@@ -3,8 +3,9 @@
 use Rattle.std.specs.Prelude.{◌≡◌, ◌≢◌, ℕ, suc, ◌+◌, ◌<◌, ◌≤◌, List, [], ◌∷◌, length, Option, Some, None}
 use Rattle.dg_meaning.specs.Values.{Num, Word, Unknown, Object, Nil, Closure, Value, Var, Node, Values, NoMore, More, leaf, pair}
 use Rattle.dg_meaning.specs.ValueCells.{count_of}
-use Rattle.dg_meaning.specs.Substitutions.{Substitution, IsSubstitution}
-use Rattle.dg_meaning.specs.Unifiers.{binding_of}
+use Rattle.dg_meaning.specs.Substitutions.{Substitution}
+use Rattle.dg_meaning.specs.inside.Substitutions.{IsSubstitution}
+use Rattle.dg_meaning.specs.inside.Unifiers.{binding_of}
 use Rattle.dg_rt.specs.Areas.{heap_at}
 
 -- ## Shapes

@@ -2,7 +2,7 @@
 use Rattle.std.specs.Prelude.{◌≡◌, ◌≢◌, ℕ, ◌+◌, ◌*◌, ◌<◌, ◌≤◌, List, [], ◌∷◌, ◌++◌, length, Some, None}
 use Rattle.dg_meaning.specs.Values.{Value}
 use Rattle.dg_meaning.specs.Substitutions.{Substitution}
-use Rattle.dg_meaning.specs.Unifiers.{binding_of}
+use Rattle.dg_meaning.specs.inside.Unifiers.{binding_of}
 use Rattle.z_lang.specs.declared.act.Act.{Act}
 use Rattle.z_lang.specs.State.{Program}
 use Rattle.z_lang.specs.Runs.{ActsRun as Runs, Returns}

@@ -2,7 +2,8 @@
 use Rattle.std.specs.Prelude.{ℕ, ◌+◌, ◌*◌, ◌≤◌, List, [], ◌∷◌, ◌++◌}
 use Rattle.dg_base.specs.declared.run.Ending.TheVariants.{TrailLimit}
 use Rattle.dg_meaning.specs.Substitutions.{Substitution}
-use Rattle.dg_meaning.specs.Unify.{Equations, Unified, solve, unify}
+use Rattle.dg_meaning.specs.Unify.{Equations, Unified, solve}
+use Rattle.dg_meaning.specs.inside.Unify.{unify}
 use Rattle.dg_meaning.specs.Letters.{compared}
 use Rattle.dg_meaning.specs.Values.{Value}
 use Rattle.z_lang.specs.declared.act.Act.{Act}

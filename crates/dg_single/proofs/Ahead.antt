@@ -15,7 +15,7 @@ use Rattle.dg_meaning.specs.Numbers.{of_numbers, calculated, thrown}
 use Rattle.dg_meaning.specs.Words.{letters_in_word, joined_letters}
 use Rattle.dg_meaning.specs.Choosing.{die}
 use Rattle.dg_meaning.specs.Moves.{goals_at, enter_if, is_excluded, call_cells, unless_excluded, first_alone, vars_of, rule_branch, rule_branches, rules_of, path_at, selects, gives_number, spaces, change_place, throws, splits, joins, takes_line, looked_up, whole_looks, effect}
-use Rattle.dg_meaning.specs.OneAnswer.{IsFree}
+use Rattle.dg_meaning.specs.inside.OneAnswer.{IsFree}
 use Rattle.dg_single.specs.Plain.{is_just, is_cut_goal, is_plain_form, is_plain, has_just, has_cut, are_plain, rules_fit}
 use Rattle.dg_meaning.specs.Sets.{is_in_set}
 use Rattle.dg_single.specs.inside.Left.{all_plain, inside_plain}

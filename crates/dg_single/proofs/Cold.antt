@@ -11,8 +11,8 @@ use Rattle.dg_meaning.specs.Path.{Step, Do, Answers, Cut, Refuse, Back, Keep, Le
 use Rattle.dg_meaning.specs.Unify.{solve}
 use Rattle.dg_meaning.specs.Moves.{begun, bound_by, made_since, unifying, exhausted, goes_on_if, stop, move_of, path_at, beginning, begins, choice, effect, outcome_of, behind_terms, move}
 use Rattle.dg_meaning.specs.Search.{Search, answer, cut_first, branch_cut, branches_cut, later, retried, leave, catches, after_branch, after_move, begin, choose, choose_first, after_goal, take_goal, go, nowhere, search_to}
-use Rattle.dg_meaning.specs.Keeps.{world_at, world_of}
-use Rattle.dg_meaning.specs.OneAnswer.{passes, IsFree}
+use Rattle.dg_meaning.specs.inside.Keeps.{world_at, world_of}
+use Rattle.dg_meaning.specs.inside.OneAnswer.{passes, IsFree}
 use Rattle.dg_meaning.proofs.Stays.{passes_append, world_in, world_for, EffectStays, effect_stays, beginning_stays, before_answers}
 use Rattle.dg_single.proofs.Shapes.{beginning_quiet, Grown, ActFits, EffectFits, AllFit, quiet_fits, effect_fits}
 

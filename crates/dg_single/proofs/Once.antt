@@ -11,9 +11,9 @@ use Rattle.dg_meaning.specs.Cells.{writing}
 use Rattle.dg_meaning.specs.Path.{Step, Do, Answers, Cut, Refuse, Back, Keep, Leave, Registers, Path, Result, Failing, CutFail, StopTo, End, Answer, Branch, Enter, Clash, TakeOut, Finds, Kind, Plain, Rules, Shield, Gathers, Move, GoesOn, FailsAt, EndsAt, StopsAt, Outcome, Effect, Acts, Offers}
 use Rattle.dg_meaning.specs.Moves.{path_of, begun, path_at, begins, effect, outcome_of, behind_terms, move}
 use Rattle.dg_meaning.specs.Search.{Search, answer, cut_result, cut_first, branches_cut, later, retried, leave, catches, after_branch, after_move, begin, choose, choose_first, after_goal, take_goal, go, nowhere, search_to}
-use Rattle.dg_meaning.specs.Context.{Around, InBranch, InCut, Older, Holds, Shielded, StopIn, StepsIn, PathIn, BranchIn, BranchesIn}
-use Rattle.dg_meaning.specs.Keeps.{world_at, world_of}
-use Rattle.dg_meaning.specs.OneAnswer.{passes, IsFree}
+use Rattle.dg_meaning.specs.inside.Context.{Around, InBranch, InCut, Older, Holds, Shielded, StopIn, StepsIn, PathIn, BranchIn, BranchesIn}
+use Rattle.dg_meaning.specs.inside.Keeps.{world_at, world_of}
+use Rattle.dg_meaning.specs.inside.OneAnswer.{passes, IsFree}
 use Rattle.dg_meaning.proofs.Bindings.{binds_along}
 use Rattle.dg_meaning.proofs.Context.{holds_older, shield_older}
 use Rattle.dg_meaning.proofs.Stays.{passes_append}

@@ -7,8 +7,8 @@ use Rattle.dg_base.specs.declared.program.Term.{Term}
 use Rattle.dg_meaning.specs.World.{Game}
 use Rattle.dg_meaning.specs.Path.{Step, Do, Answers, Cut, Refuse, Back, Keep, Leave, Shield}
 use Rattle.dg_meaning.specs.Search.{search}
-use Rattle.dg_meaning.specs.Context.{Around, InBranch, Holds, Older, Shielded, StopIn, StepsIn, PathIn}
-use Rattle.dg_meaning.specs.OneAnswer.{IsOlder, AreOlder, HasOneAnswer}
+use Rattle.dg_meaning.specs.inside.Context.{Around, InBranch, Holds, Older, Shielded, StopIn, StepsIn, PathIn}
+use Rattle.dg_meaning.specs.inside.OneAnswer.{IsOlder, AreOlder, HasOneAnswer}
 use Rattle.dg_single.specs.Plain.{is_plain}
 use Rattle.dg_meaning.specs.Sets.{is_in_set}
 use Rattle.dg_single.specs.Singles.{IsClosed}

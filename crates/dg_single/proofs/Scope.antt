@@ -7,7 +7,7 @@ use Rattle.dg_meaning.specs.World.{Game, World, Answered, noted, worked}
 use Rattle.dg_meaning.specs.Path.{Step, Do, Answers, Cut, Refuse, Back, Keep, Leave, Registers, Path, Result, Failing, CutFail, StopTo, End, Answer, Branch, Enter, Clash, TakeOut, Finds, Kind, Plain, Rules, Shield, Gathers, Move, GoesOn, FailsAt, EndsAt, StopsAt, Outcome, Moves, Chooses}
 use Rattle.dg_meaning.specs.Moves.{path_of, begins, move}
 use Rattle.dg_meaning.specs.Search.{Search, answer, cut_result, cut_first, branches_cut, later, retried, leave, catches, after_branch, after_move, begin, choose, choose_first, after_goal, take_goal, go, nowhere, search_to}
-use Rattle.dg_meaning.specs.Context.{Around, InBranch, Holds, Older, Shielded, PathIn, BranchIn, BranchesIn}
+use Rattle.dg_meaning.specs.inside.Context.{Around, InBranch, Holds, Older, Shielded, PathIn, BranchIn, BranchesIn}
 use Rattle.dg_meaning.proofs.Bindings.{binds_along}
 use Rattle.dg_meaning.proofs.Context.{Held, held_min, held_outside, held_plain, shield_older}
 use Rattle.dg_meaning.proofs.Keeps.{cut_in, cut_bound}

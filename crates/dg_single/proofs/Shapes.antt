@@ -20,7 +20,7 @@ use Rattle.dg_meaning.specs.Choosing.{die}
 use Rattle.dg_meaning.specs.World.{Game, World, worked, gathered_at}
 use Rattle.dg_meaning.specs.Path.{Step, Do, Answers, Cut, Refuse, Back, Keep, Leave, Registers, Path, Whole, AsList, AsSum, Branch, Enter, Clash, TakeOut, Finds, Act, Goes, Tests, Unifies, Ends, Fails, Stops, Effect, Acts, Offers}
 use Rattle.dg_meaning.specs.Moves.{goals_at, enter_if, call_cells, is_excluded, unless_excluded, list_branches, first_alone, vars_of, rule_branch, rule_branches, rules_of, closure_vars, closure_branch, numbers, object_branches, gives_number, reads, reads_if_set, finds, finds_if_set, takes_out, path_at, beginning, spaces, ask_object, ask_objects, ask_place, changes, change_place, ask_body, ask_closure, looked_up, whole_looks, selects, throws, splits, joins, takes_line, effect}
-use Rattle.dg_meaning.specs.OneAnswer.{IsFree}
+use Rattle.dg_meaning.specs.inside.OneAnswer.{IsFree}
 
 -- ## Acts that name no steps of their own
 

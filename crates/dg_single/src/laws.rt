@@ -1,7 +1,7 @@
 // What holds of single predicates.
 ghost use Rattle.std.specs.Prelude.{◌≡◌, ℕ, List, Bool, true};
 ghost use Rattle.dg_meaning.specs.World.{Game};
-ghost use Rattle.dg_meaning.specs.OneAnswer.{HasOneAnswer};
+ghost use Rattle.dg_meaning.specs.inside.OneAnswer.{HasOneAnswer};
 ghost use Rattle.dg_meaning.specs.Sets.{is_in_set};
 ghost use Rattle.dg_single.specs.Singles.{IsClosed};
 

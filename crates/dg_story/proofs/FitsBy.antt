@@ -4,10 +4,9 @@ use Rattle.dg_base.specs.declared.run.Ending.{Ending}
 use Rattle.dg_base.specs.declared.run.Ending.TheVariants as endings
 use Rattle.dg_meaning.specs.World.{Game}
 use Rattle.dg_meaning.specs.Transcript.{run}
-use Rattle.dg_meaning.specs.OneRun.{Begins}
+use Rattle.dg_base.specs.Begins.{Begins}
 use Rattle.z_model.specs.declared.end.ZEnd.{ZEnd}
 use Rattle.z_model.specs.declared.end.ZEnd.TheVariants as ends
-use Rattle.dg_base.specs.Begins as base
 use Rattle.dg_meaning.proofs.OneRun.{begins_on}
 use Rattle.z_model.specs.Run.{ZGiven, ZState, ZRun, zrun}
 use Rattle.z_lang.specs.Turns.{Turning, printed_by}
@@ -15,9 +14,6 @@ use Rattle.z_lang.specs.WholeRuns.{Within, IsOver, Shown, IsTurn}
 use Rattle.z_lang.proofs.Turns.{shows, suffices, ends_by}
 use Rattle.dg_story.specs.Agrees.{IsDone, IsCut, EndsWhole, IsThere, IsAtLimit, Fits, printed_body, enough_for}
 use Rattle.dg_story.specs.inside.Tells.{InTime, reached, over, Tells}
-
-as_begins : (xs ys : List ℕ) → base.Begins xs ys → Begins xs ys
-as_begins xs ys b = record { behind = b.behind; is = b.is }
 
 -- a run whose budget was used up has no other ending
 not_input : (e : Ending) → e ≡ endings.StepLimit → e ≡ endings.InputEnded → ⊥
@@ -31,7 +27,7 @@ module _ {A : Type 0} (w : ZGiven) (t : Turning ZEnd A) (Rep : A → ZState → 
   shown_by r s = ⊎_elim within over_by s.is
     where
       within : Within t s.b r → ((r.end ≡ ends.StepLimit) × IsCut g typed r.state.output) ⊎ EndsWhole g typed r.end r.state.output
-      within h = inl (h.end, tells.between s.reached r.state.output (as_begins (t.out s.b) r.state.output h.least) (as_begins r.state.output (printed_by t (t.next s.b)) h.most))
+      within h = inl (h.end, tells.between s.reached r.state.output h.least h.most)
 
       over_by : IsOver (λ e. e) t s.b r → ((r.end ≡ ends.StepLimit) × IsCut g typed r.state.output) ⊎ EndsWhole g typed r.end r.state.output
       over_by h = inr (subst (λ (e : ZEnd). EndsWhole g typed e r.state.output) (sym h.end_is) (subst (λ (bytes : List ℕ). EndsWhole g typed h.end bytes) (sym h.output) (tells.whole s.reached h.end h.bytes h.next)))
@@ -39,7 +35,7 @@ module _ {A : Type 0} (w : ZGiven) (t : Turning ZEnd A) (Rep : A → ZState → 
   enough_by : (steps n : ℕ) → enough_for g typed n ≤ steps → InTime g typed t a n → IsThere g typed n (zrun w steps z).state.output (zrun w steps z).end ⊎ IsAtLimit g typed n (zrun w steps z).state.output (zrun w steps z).end
   enough_by steps n le (reached {b = b} {spent = spent} r in_time going printed) =
       inl (record {
-        printed = begins_on (printed_body g typed n) (t.out b) (zrun w steps z).state.output printed (as_begins (t.out b) (zrun w steps z).state.output (suffices w (λ e. e) t Rep turns steps z rep r (omega arith)));
+        printed = begins_on (printed_body g typed n) (t.out b) (zrun w steps z).state.output printed (suffices w (λ e. e) t Rep turns steps z rep r (omega arith));
         input = λ e. absurd (not_input (run g typed n).ending going e);
         done = λ d. absurd (not_done (run g typed n).ending going d);
       })

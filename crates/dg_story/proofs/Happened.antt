@@ -7,9 +7,10 @@ use Rattle.dg_meaning.specs.Path.{Kind, Branch, Moves, FailsAt}
 use Rattle.dg_meaning.specs.Moves.{begins, exhausted}
 use Rattle.dg_meaning.specs.Render.{nothing_met, met_from, render, render_from}
 use Rattle.dg_meaning.specs.Transcript.{Run, text_of}
-use Rattle.dg_meaning.specs.OneRun.{Begins, Grows}
-use Rattle.dg_meaning.specs.Context.{Live, Way as WayOn, pushed}
-use Rattle.dg_meaning.specs.Keeps.{Tried}
+use Rattle.dg_meaning.specs.inside.OneRun.{Grows}
+use Rattle.dg_base.specs.Begins.{Begins}
+use Rattle.dg_meaning.specs.inside.Context.{Live, Way as WayOn, pushed}
+use Rattle.dg_meaning.specs.inside.Keeps.{Tried}
 use Rattle.dg_meaning.proofs.OneRun.{begins_same, grows_on, exhausted_grows}
 use Rattle.dg_meaning.proofs.Search.{beginning_grows}
 use Rattle.dg_meaning.proofs.Keeps.{stands_happened, has_happened}

@@ -7,7 +7,7 @@ use Rattle.dg_meaning.specs.World.{Game, World, Print, prints}
 use Rattle.dg_meaning.specs.Render.{render}
 use Rattle.dg_meaning.specs.Search.{answer}
 use Rattle.dg_meaning.specs.Transcript.{Run, run_of, run, closed, line_of, transcript, closed_text}
-use Rattle.dg_meaning.specs.OneRun.{Begins}
+use Rattle.dg_base.specs.Begins.{Begins}
 use Rattle.dg_meaning.specs.Peaks.{Heap, peak, limit_of}
 use Rattle.dg_meaning.proofs.OneRun.{begins_same, begins_on}
 use Rattle.dg_meaning.proofs.Limits.{later_run, limit_covers}

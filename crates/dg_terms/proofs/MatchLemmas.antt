@@ -6,8 +6,10 @@ use Rattle.std.specs.List.{All, zip}
 use Rattle.std.proofs.lemmas.List.{drop_more, drop_all}
 use Rattle.std.proofs.lemmas.List.Elements.{All-get_or}
 use Rattle.std.proofs.lemmas.Bool.{cond-true, cond-false}
-use Rattle.dg_meaning.specs.Substitutions.{Substitution, IsSubstitution}
-use Rattle.dg_meaning.specs.Unify.{Equations, Unified, agreed, counted, solve, unify, and_then}
+use Rattle.dg_meaning.specs.Substitutions.{Substitution}
+use Rattle.dg_meaning.specs.inside.Substitutions.{IsSubstitution}
+use Rattle.dg_meaning.specs.Unify.{Equations, Unified, agreed, counted, solve}
+use Rattle.dg_meaning.specs.inside.Unify.{unify, and_then}
 use Rattle.dg_meaning.proofs.Solving.{solve_extends}
 use Rattle.dg_meaning.proofs.UnifyLaws.{solve_none, solve_first}
 use Rattle.dg_unify.specs.Store.{Store, told, Holds, Kept, OnlyBinds, Does, BrokeOff, Follows}

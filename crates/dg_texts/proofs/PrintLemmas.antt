@@ -11,7 +11,8 @@ use Rattle.dg_meaning.specs.Values.{Label, Num, Word, Unknown, Object, Closure, 
 use Rattle.dg_meaning.specs.World.{Print, Piece}
 use Rattle.dg_meaning.specs.Render.{Met, nothing_met, met_from, met_behind, written, render_from, growth}
 use Rattle.dg_meaning.specs.Pieces.{shown_letter, word_text, pieces, first_piece, list_pieces, tail_pieces}
-use Rattle.dg_meaning.specs.Substitutions.{resolved, all_resolved, IsSubstitution}
+use Rattle.dg_meaning.specs.Substitutions.{resolved}
+use Rattle.dg_meaning.specs.inside.Substitutions.{all_resolved, IsSubstitution}
 use Rattle.dg_meaning.specs.Unify.{size}
 use Rattle.dg_meaning.proofs.Walks.{resolved_node, resolved_unbound, walked, size_some}
 use Rattle.dg_unify.specs.Store.{Store, told, Holds, ShowsPair, Shows, label_of}

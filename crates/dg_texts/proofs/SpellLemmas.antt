@@ -12,7 +12,8 @@ use Rattle.std.proofs.lemmas.Bool.{le-leb, lt-leb}
 use Rattle.std.proofs.lemmas.Option.{slice_get_within, get_or_from_slice_get, slice_get_cases}
 use Rattle.dg_base.specs.Sound.{IsName, IsPrintable}
 use Rattle.dg_meaning.specs.Values.{Label, Num, Word, Unknown, Object, Nil, Pair, Closure, Value, Var, Node, Values, NoMore, pair}
-use Rattle.dg_meaning.specs.Substitutions.{resolved, all_resolved, IsSubstitution}
+use Rattle.dg_meaning.specs.Substitutions.{resolved}
+use Rattle.dg_meaning.specs.inside.Substitutions.{all_resolved, IsSubstitution}
 use Rattle.dg_meaning.proofs.Walks.{resolved_node, resolved_unbound, walked}
 use Rattle.dg_meaning.specs.Words.{is_alone, if_spelled, spellings_behind, spellings_of, letters_in_word, letters_in_list, followed_by, few_enough, joined_letters}
 use Rattle.dg_unify.specs.Store.{Store, Shows, told}

@@ -2,7 +2,8 @@
 use Rattle.std.proofs.Common.{◌≡◌, ℕ, ◌+◌, ◌*◌, ◌<◌, List, [], ◌∷◌, ◌++◌, Bool, true, false, refl, sym, ap, ◌∙◌, arith, subst, Option, Some, None, inl, inr, length, length-append}
 use Rattle.std.specs.Prelude.{◌||◌}
 use Rattle.dg_meaning.specs.Values.{Value, Var, Node, Values, NoMore, More}
-use Rattle.dg_meaning.specs.Substitutions.{Substitution, resolved, all_resolved, contains, any_contains, IsSubstitution}
+use Rattle.dg_meaning.specs.Substitutions.{Substitution, resolved, contains, any_contains}
+use Rattle.dg_meaning.specs.inside.Substitutions.{all_resolved, IsSubstitution}
 use Rattle.dg_meaning.specs.Unify.{size, sizes}
 use Rattle.dg_meaning.proofs.Walks.{resolved_node, resolved_unbound, walked, size_some}
 use Rattle.dg_unify.specs.Store.{Store, told, Holds, ShowsVar, Shows}

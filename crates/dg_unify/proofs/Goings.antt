@@ -3,8 +3,10 @@ use Rattle.std.proofs.Common.{◌≡◌, ℕ, ◌+◌, ◌*◌, ◌<◌, ◌≤�
 use Rattle.std.specs.Prelude.{if◌then◌else◌, Result, Ok, Err, IsTrue}
 use Rattle.std.proofs.lemmas.Bool.{cond_both, cond-true, cond-false}
 use Rattle.dg_meaning.specs.Values.{Value, Values, NoMore, More}
-use Rattle.dg_meaning.specs.Substitutions.{Substitution, IsSubstitution, Extends}
-use Rattle.dg_meaning.specs.Unify.{Equations, side_by_side, cost, Unified, agreed, counted, solve, unify, and_then, solve_turn}
+use Rattle.dg_meaning.specs.Substitutions.{Substitution}
+use Rattle.dg_meaning.specs.inside.Substitutions.{IsSubstitution, Extends}
+use Rattle.dg_meaning.specs.Unify.{Equations, side_by_side, cost, Unified, agreed, counted, solve}
+use Rattle.dg_meaning.specs.inside.Unify.{unify, and_then, solve_turn}
 use Rattle.dg_meaning.proofs.Solving.{solve_extends}
 use Rattle.dg_meaning.proofs.UnifyLaws.{solve_none, solve_step, solve_first}
 use Rattle.dg_unify.specs.Store.{State, Store, told, Holds, Kept, trail_of, OnlyBinds, Does, UnifyFull, BrokeOff, Follows}

@@ -3,8 +3,10 @@ use Rattle.std.proofs.Common.{◌≡◌, ℕ, ◌+◌, ◌<◌, ◌≤◌, [], �
 use Rattle.std.specs.Prelude.{eqb, nat_lt, Result, Ok, Err}
 use Rattle.std.proofs.lemmas.Bool.{lt-ltb, le-ltb, eq-eqb, ne_eqb}
 use Rattle.dg_meaning.specs.Values.{Label, Value, Var, Node, Values}
-use Rattle.dg_meaning.specs.Substitutions.{Substitution, is_bound, walk, resolved, contains, FitsFront, IsSubstitution}
-use Rattle.dg_meaning.specs.Unify.{Goes, Binds, Clashes, binds, ties, turn, cost, Unified, clashed, counted, solve, solve_turn}
+use Rattle.dg_meaning.specs.Substitutions.{Substitution, walk, resolved, contains}
+use Rattle.dg_meaning.specs.inside.Substitutions.{is_bound, FitsFront, IsSubstitution}
+use Rattle.dg_meaning.specs.Unify.{Goes, Binds, Clashes, binds, ties, turn, cost, Unified, clashed, counted, solve}
+use Rattle.dg_meaning.specs.inside.Unify.{solve_turn}
 use Rattle.dg_meaning.proofs.Walks.{resolved_unbound, walked}
 use Rattle.dg_meaning.proofs.LookUps.{walk_free}
 use Rattle.dg_meaning.proofs.UnifyLaws.{solve_none, solve_step}

@@ -1,7 +1,8 @@
 -- What of two values will be equal when what is left has been done.
 use Rattle.std.proofs.Common.{◌≡◌, List, [], ◌∷◌, ◌++◌, sym, ap, ◌∙◌, subst, append_assoc}
 use Rattle.dg_meaning.specs.Values.{Value}
-use Rattle.dg_meaning.specs.Substitutions.{Substitution, resolved, walk, IsSubstitution}
+use Rattle.dg_meaning.specs.Substitutions.{Substitution, resolved, walk}
+use Rattle.dg_meaning.specs.inside.Substitutions.{IsSubstitution}
 use Rattle.dg_meaning.specs.Unify.{Equations, turn}
 use Rattle.dg_meaning.proofs.Walks.{walked}
 use Rattle.dg_meaning.proofs.UnifyLaws.{EqualUnder, Makes, turned_makes, resolved_later}

@@ -5,8 +5,8 @@ use Rattle.std.specs.List.{slice_get}
 use Rattle.std.proofs.lemmas.Bool.{or_cases, and_parts, both_ways, cond-true, cond-false, lt-ltb, le-ltb, cases_eq, eq-eqb, ne_eqb}
 use Rattle.std.proofs.lemmas.Option.{slice_get_within, get_or_from_slice_get}
 use Rattle.dg_meaning.specs.Values.{Unknown, Closure, Value, Var, Node, Values, leaf, pair, parts_of}
-use Rattle.dg_meaning.specs.Substitutions.{is_bound, FitsFront, IsSubstitution}
-use Rattle.dg_meaning.specs.Unifiers.{binding_of}
+use Rattle.dg_meaning.specs.inside.Substitutions.{is_bound, FitsFront, IsSubstitution}
+use Rattle.dg_meaning.specs.inside.Unifiers.{binding_of}
 use Rattle.dg_meaning.proofs.LookUps.{none_unbound, unbound_none, LooksUp, looks_up}
 use Rattle.dg_unify.specs.Store.{or_nil, IsTold}
 use Rattle.dg_unify.specs.Links.{to_of}

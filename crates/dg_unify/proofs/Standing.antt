@@ -1,7 +1,8 @@
 -- A value that stands in another stands there still when more is bound, and has fewer nodes.
 use Rattle.std.proofs.Common.{◌≡◌, ℕ, ◌+◌, ◌<◌, ◌≤◌, List, [], ◌∷◌, ◌++◌, refl, sym, ap, ◌∙◌, arith, subst, inl, inr, ◌⊎◌, length}
 use Rattle.dg_meaning.specs.Values.{Label, Value, Var, Node, Values, NoMore, More}
-use Rattle.dg_meaning.specs.Substitutions.{Substitution, replaced, all_replaced, resolved, all_resolved, IsSubstitution}
+use Rattle.dg_meaning.specs.Substitutions.{Substitution, replaced, all_replaced, resolved}
+use Rattle.dg_meaning.specs.inside.Substitutions.{all_resolved, IsSubstitution}
 use Rattle.dg_meaning.specs.Unify.{size, sizes}
 use Rattle.dg_meaning.proofs.Walks.{resolved_node, walked, size_some}
 use Rattle.dg_unify.specs.Store.{Store, told, Holds, Kept}

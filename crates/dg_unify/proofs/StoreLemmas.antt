@@ -5,7 +5,8 @@ use Rattle.std.proofs.lemmas.List.Elements.{All-head, All-tail}
 use Rattle.std.specs.Prelude.{eqb, nat_lt}
 use Rattle.std.proofs.lemmas.Bool.{lt-ltb, le-ltb, cases_lt, cases_eq, eq-eqb, ne_eqb}
 use Rattle.dg_meaning.specs.Values.{Value, Var}
-use Rattle.dg_meaning.specs.Substitutions.{Substitution, walk, resolved, contains, IsSubstitution}
+use Rattle.dg_meaning.specs.Substitutions.{Substitution, walk, resolved, contains}
+use Rattle.dg_meaning.specs.inside.Substitutions.{IsSubstitution}
 use Rattle.dg_meaning.proofs.Walks.{resolved_unbound, walked}
 use Rattle.dg_unify.specs.Store.{Store, or_nil, IsTold, told, Holds, Kept, ShowsVar}
 use Rattle.dg_unify.specs.declared.bindings.Ref.{Ref}

@@ -3,7 +3,8 @@ use Rattle.std.proofs.Common.{◌≡◌, ℕ, zero, suc, ◌+◌, ◌<◌, ◌�
 use Rattle.std.specs.List.{slice_get}
 use Rattle.std.proofs.lemmas.List.{take_all, take-take, take-append-le}
 use Rattle.dg_meaning.specs.Values.{Value, Var, Node, Unknown, Closure, leaf, pair}
-use Rattle.dg_meaning.specs.Substitutions.{Substitution, walk, FitsFront}
+use Rattle.dg_meaning.specs.Substitutions.{Substitution, walk}
+use Rattle.dg_meaning.specs.inside.Substitutions.{FitsFront}
 use Rattle.dg_meaning.proofs.Walks.{walked}
 use Rattle.dg_unify.specs.Store.{Store, Saved, or_nil, IsTold, Kept, Fresh, Made, WordsAt, Blocked, MayBind, Bound, TrailFull, trail_for, Back}
 use Rattle.dg_unify.specs.declared.bindings.Full.{Full}

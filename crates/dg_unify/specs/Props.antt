@@ -3,7 +3,8 @@ use Rattle.std.specs.Prelude.{◌≡◌, ℕ, List, [], ◌∷◌, Option, None,
 use Rattle.std.proofs.Props.{props}
 use Rattle.std.specs.Coded.{×_prop, Unit-prop}
 use Rattle.dg_meaning.specs.Values.{Value}
-use Rattle.dg_meaning.specs.Substitutions.{Substitution, FitsFront, IsSubstitution}
+use Rattle.dg_meaning.specs.Substitutions.{Substitution}
+use Rattle.dg_meaning.specs.inside.Substitutions.{FitsFront, IsSubstitution}
 use Rattle.dg_unify.specs.Store.{IsTold}
 use Rattle.dg_unify.specs.Links.{Once, Lists, AreLinked}
 use Rattle.dg_unify.specs.Slots.{value_in, AreTold, IsFew, Fits, Fields, AreSound}

@@ -2,7 +2,8 @@
 use Rattle.std.specs.Prelude.{◌≡◌, ℕ, zero, suc, ◌-◌, ◌<◌, ◌≤◌, nat_lt, nat_le, ◌||◌, true, false, List, [], ◌∷◌, Option, Some, None, Bool, if◌then◌else◌, length, take, reverse}
 use Rattle.std.specs.List.{slice_get}
 use Rattle.dg_meaning.specs.Values.{Label, Num, Word, Unknown, Object, Nil, Closure, Value, Var, Node, Values, NoMore, More, leaf, pair}
-use Rattle.dg_meaning.specs.Substitutions.{Substitution, IsSubstitution}
+use Rattle.dg_meaning.specs.Substitutions.{Substitution}
+use Rattle.dg_meaning.specs.inside.Substitutions.{IsSubstitution}
 use Rattle.dg_unify.specs.Store.{Store, Saved, or_nil, IsTold}
 use Rattle.dg_unify.specs.Links.{Once}
 use Rattle.dg_unify.specs.declared.bindings.Ref.{Ref}

@@ -4,7 +4,8 @@ use Rattle.std.specs.Prelude.{◌≡◌, ℕ, zero, suc, ◌+◌, ◌<◌, ◌�
 use Rattle.dg_base.specs.declared.cells.Simple.{Simple}
 use Rattle.dg_base.specs.declared.cells.Simple.TheVariants as simple
 use Rattle.dg_meaning.specs.Values.{Label, Num, Word, Unknown, Object, Nil, Closure, Value, Var, Node, Values, NoMore, More, leaf, pair, parts_of}
-use Rattle.dg_meaning.specs.Substitutions.{Substitution, walk, FitsFront}
+use Rattle.dg_meaning.specs.Substitutions.{Substitution, walk}
+use Rattle.dg_meaning.specs.inside.Substitutions.{FitsFront}
 use Rattle.dg_meaning.specs.Unify.{Unified}
 use Rattle.dg_unify.specs.declared.bindings.Ref.{Ref}
 use Rattle.dg_unify.specs.declared.bindings.Mark.{Mark}

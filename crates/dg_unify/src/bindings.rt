@@ -46,7 +46,8 @@ pub trait Bindings {
     ghost use Rattle.std.specs.Prelude.{◌≡◌, ℕ, ◌+◌, ◌*◌, ◌<◌, ◌≤◌, List, [], ◌∷◌, ◌++◌, Option, Some, true, false, All, length, MatchResult, IfOk, IsOk};
     ghost use Rattle.std.specs.List.{slice_get};
     ghost use Rattle.dg_meaning.specs.Values.{Label, Unknown, Closure, Value, Var, Node, Values, leaf, pair};
-    ghost use Rattle.dg_meaning.specs.Substitutions.{walk, resolved, contains, IsSubstitution};
+    ghost use Rattle.dg_meaning.specs.Substitutions.{walk, resolved, contains};
+    ghost use Rattle.dg_meaning.specs.inside.Substitutions.{IsSubstitution};
     ghost use Rattle.dg_unify.specs.Store.{State, Store, Saved, told, told_parts, Holds, Kept, Fresh, Made, HeapFull, Charged, label_of, is_single, Shows, part_at, IsPart, IsClosureAt, IsUnknownAt, MayBind, Bound, TrailFull, marked, Back};
     ghost use Rattle.dg_unify.specs.Waits.{TakesUp};
     ghost use Rattle.dg_unify.specs.declared.parts.Wait.{Wait};

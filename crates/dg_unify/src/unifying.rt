@@ -3,7 +3,8 @@
 ghost use Rattle.std.specs.Prelude.{◌≡◌, ℕ, List, [], Some, ◌&&◌, length};
 ghost use Rattle.dg_meaning.specs.Values.{Label, Var, Node, Values};
 ghost use Rattle.dg_meaning.specs.Substitutions.{walk};
-ghost use Rattle.dg_meaning.specs.Unify.{same_label, as_many, side_by_side, Binds, binds, ties, same_spelling, solve as solved, unify as unified};
+ghost use Rattle.dg_meaning.specs.Unify.{same_label, as_many, side_by_side, Binds, binds, ties, same_spelling, solve as solved};
+ghost use Rattle.dg_meaning.specs.inside.Unify.{unify as unified};
 ghost use Rattle.dg_unify.specs.Store.{Saved, told, Holds, Kept, label_of, Shows, IsClosureAt, IsUnknownAt, MayBind, Follows};
 ghost use Rattle.dg_unify.specs.Parts.{AreIn, values_of, IsOpened};
 ghost use Rattle.dg_unify.specs.Waits.{HasRoom};

@@ -14,7 +14,8 @@ use Rattle.dg_base.specs.declared.program.PlaceKind.TheVariants.{Flag, ObjectFla
 use Rattle.dg_meaning.specs.Values.{Value}
 use Rattle.dg_meaning.specs.TypeTests.{is_full}
 use Rattle.dg_meaning.specs.ValueCells.{cells_of}
-use Rattle.dg_meaning.specs.Facts.{Fact, value_at, kept_size, Alteration, Sets, Clears, ClearsAll, altered, takes, IsFirstSet}
+use Rattle.dg_meaning.specs.Facts.{Fact, value_at, kept_size, Alteration, Sets, Clears, ClearsAll, altered, takes}
+use Rattle.dg_meaning.specs.inside.Objects.{IsFirstSet}
 use Rattle.dg_world.specs.Lists.{Lists, joined}
 use Rattle.dg_world.specs.Tables.{Outline, IsKind, HasValues, HasObjects, Table, simple_value, takes_slot, width_of, slot_in, put_at, emptied, cells_set, stored, stored_from, is_fresh, IsFirstSlot, AreTables}
 use Rattle.dg_world.specs.Worlds.{StandsFor, Means, takes_in, is_taken, Changed, Fits, KeepsList}

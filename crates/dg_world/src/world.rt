@@ -5,7 +5,8 @@ ghost use Rattle.std.specs.List.{list_any};
 ghost use Rattle.dg_base.specs.declared.program.PlaceKind.{PlaceKind};
 ghost use Rattle.dg_base.specs.declared.program.PlaceKind.TheVariants.{Flag, ObjectFlag, ObjectVar, Parent, Global as GlobalKind};
 ghost use Rattle.dg_meaning.specs.ValueCells.{cells_of};
-ghost use Rattle.dg_meaning.specs.Facts.{Fact, Alteration, value_at, kept_size, start_facts, IsFirstSet};
+ghost use Rattle.dg_meaning.specs.Facts.{Fact, Alteration, value_at, kept_size, start_facts};
+ghost use Rattle.dg_meaning.specs.inside.Objects.{IsFirstSet};
 ghost use Rattle.dg_world.specs.Tables.{Outline, outline_of, IsKind, HasValues, HasObjects, Table, simple_value, slot_in, put_at, emptied, is_fresh, takes_slot};
 ghost use Rattle.dg_world.specs.Starts.{HasStarts};
 

@@ -10,7 +10,7 @@ use Rattle.dg_base.specs.declared.refusal.Refusal.{Refusal}
 use Rattle.dg_base.specs.declared.refusal.Kind.TheVariants.{SourceTooLong}
 use Rattle.dg_meaning.specs.Transcript.{no_memory_line}
 use Rattle.dg_single.specs.Singles.{AreSingles}
-use Rattle.dg_meaning.specs.Engines.{ForTyped}
+use Rattle.dg_meaning.specs.inside.Engines.{ForTyped}
 use Rattle.dg_machine.specs.Program.{IsUntouched}
 use Rattle.z_model.specs.Story.{story_refusal}
 use Rattle.z_model.specs.declared.story.StoryRefusal.{StoryRefusal}

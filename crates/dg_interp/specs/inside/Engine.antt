@@ -17,8 +17,8 @@ use Rattle.dg_meaning.specs.Pieces.{pieces}
 use Rattle.dg_meaning.specs.Path.{Step, Do, Registers, Result, Failing, End}
 use Rattle.dg_meaning.specs.Moves.{path_of}
 use Rattle.dg_meaning.specs.Transcript.{Run, run, start_world}
-use Rattle.dg_meaning.specs.Context.{Way, Live}
-use Rattle.dg_meaning.specs.Keeps.{Stands, Failed, Finished, Tried, WentOn as LeftPart}
+use Rattle.dg_meaning.specs.inside.Context.{Way, Live}
+use Rattle.dg_meaning.specs.inside.Keeps.{Stands, Failed, Finished, Tried, WentOn as LeftPart}
 use Rattle.dg_meaning.specs.Peaks.{Area, Heap, Trail, Aux, Keep, greatest, limit_of}
 use Rattle.dg_built.specs.Built.{IsBuilt, IsBuiltGoal, AreBuilt}
 use Rattle.dg_unify.specs.Store.{Store, Saved, Holds, told}

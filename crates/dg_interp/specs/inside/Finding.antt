@@ -2,7 +2,7 @@
 use Rattle.std.specs.Prelude.{ℕ, ◌+◌, List, Option, Bool, map, slice_get}
 use Rattle.dg_meaning.specs.Changes.{found}
 use Rattle.dg_meaning.specs.Facts.{Fact, kinds_of}
-use Rattle.dg_meaning.specs.Keeps.{After}
+use Rattle.dg_meaning.specs.inside.Keeps.{After}
 use Rattle.dg_meaning.specs.Moves.{outcome_of, numbers, object_branches, reads_if_set, finds_if_set, ask_objects, ask_place}
 use Rattle.dg_meaning.specs.Path.{Step, Registers, Effect, Offers, Plain}
 use Rattle.dg_meaning.specs.Transcript.{Run}

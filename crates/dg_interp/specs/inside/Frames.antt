@@ -8,8 +8,8 @@ use Rattle.dg_meaning.specs.Facts.{kinds_of}
 use Rattle.dg_meaning.specs.World.{Game, World}
 use Rattle.dg_meaning.specs.Path.{Step, Answers, Cut, Refuse, Back, Keep, Leave, Registers, Whole, AsList, AsSum, Branch, TakeOut as TakeOutBranch, Kind, Plain, Rules as RulesOf}
 use Rattle.dg_meaning.specs.Moves.{path_of, goals_at, first_alone, inside, enter, list_branches, rule_branches}
-use Rattle.dg_meaning.specs.Context.{Live, Way as WayOn, tags_of, cut_to, IsNewest}
-use Rattle.dg_meaning.specs.Keeps.{open_at}
+use Rattle.dg_meaning.specs.inside.Context.{Live, Way as WayOn, tags_of, cut_to, IsNewest}
+use Rattle.dg_meaning.specs.inside.Keeps.{open_at}
 use Rattle.dg_built.specs.Built.{AreBuilt, IsBuiltRule}
 use Rattle.dg_unify.specs.Store.{Store, Saved, told, Holds}
 use Rattle.dg_unify.specs.inside.Engines.{Agrees, GoBackTo as GoBack}

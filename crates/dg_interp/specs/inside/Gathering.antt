@@ -7,8 +7,8 @@ use Rattle.dg_base.specs.declared.program.Term.TheVariants.{Var as Var-Term}
 use Rattle.dg_meaning.specs.Values.{Value}
 use Rattle.dg_meaning.specs.World.{Game, World, Gathering, opened}
 use Rattle.dg_meaning.specs.Path.{Step, Keep, Registers, TakeOut, Plain}
-use Rattle.dg_meaning.specs.Context.{Live, Way}
-use Rattle.dg_meaning.specs.Keeps.{Stands, Went}
+use Rattle.dg_meaning.specs.inside.Context.{Live, Way}
+use Rattle.dg_meaning.specs.inside.Keeps.{Stands, Went}
 use Rattle.dg_meaning.specs.Moves.{path_of, begun, goals_at, inside, move_of, takes_out}
 use Rattle.dg_meaning.specs.Transcript.{Run}
 use Rattle.dg_unify.specs.Store.{told}

@@ -8,7 +8,7 @@ use Rattle.dg_meaning.specs.World.{Game, World, Print, SpacesOf}
 use Rattle.dg_meaning.specs.Path.{Registers, Act, Unifies}
 use Rattle.dg_meaning.specs.Moves.{move_of, gives_number}
 use Rattle.dg_meaning.specs.Transcript.{Run}
-use Rattle.dg_meaning.specs.Keeps.{Went}
+use Rattle.dg_meaning.specs.inside.Keeps.{Went}
 use Rattle.dg_unify.specs.Store.{told}
 use Rattle.dg_unify.specs.declared.bindings.Ref.{Ref}
 use Rattle.dg_interp.specs.declared.engine.Engine.{Engine}

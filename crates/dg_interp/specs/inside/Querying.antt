@@ -1,6 +1,6 @@
 -- Where a run is whose goal asks a value. Hold it against docs/LANGUAGE.md, where it says what a closure is.
 use Rattle.std.specs.Prelude.{ℕ, ◌+◌, Bool, true, false, map}
-use Rattle.dg_meaning.specs.Keeps.{After}
+use Rattle.dg_meaning.specs.inside.Keeps.{After}
 use Rattle.dg_meaning.specs.Moves.{ask_closure, outcome_of}
 use Rattle.dg_meaning.specs.Substitutions.{walk}
 use Rattle.dg_meaning.specs.Transcript.{Run}

@@ -7,7 +7,8 @@ use Rattle.dg_base.specs.declared.run.RunFault.TheVariants.{Read, Write, OutOfMe
 use Rattle.dg_meaning.specs.World.{Game, World, Print, prints}
 use Rattle.dg_meaning.specs.Render.{render}
 use Rattle.dg_meaning.specs.Transcript.{Run, text_of}
-use Rattle.dg_meaning.specs.OneRun.{Begins, EndsWith, Grows}
+use Rattle.dg_meaning.specs.inside.OneRun.{Grows}
+use Rattle.dg_base.specs.Begins.{Begins, EndsWith}
 use Rattle.dg_meaning.specs.Peaks.{Area, Heap, Trail, Aux, Keep, greatest, limit_ending}
 use Rattle.dg_spacing.specs.declared.spacer.Spacer.{Spacer}
 use Rattle.dg_interp.specs.declared.engine.Engine.{Engine}

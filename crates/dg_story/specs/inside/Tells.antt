@@ -3,7 +3,7 @@ use Rattle.std.specs.Prelude.{◌≡◌, ℕ, ◌+◌, ◌≤◌, ◌⊎◌, Lis
 use Rattle.dg_base.specs.declared.run.Ending.TheVariants as endings
 use Rattle.dg_meaning.specs.World.{Game}
 use Rattle.dg_meaning.specs.Transcript.{run}
-use Rattle.dg_meaning.specs.OneRun.{Begins}
+use Rattle.dg_base.specs.Begins.{Begins}
 use Rattle.z_model.specs.declared.end.ZEnd.{ZEnd}
 use Rattle.z_lang.specs.Turns.{Over, Turning, Reaches, printed_by}
 use Rattle.dg_story.specs.Agrees.{IsCut, EndsWhole, IsThere, IsAtLimit, printed_body, enough_for}

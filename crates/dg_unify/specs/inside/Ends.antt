@@ -1,7 +1,8 @@
 -- Where the bindings of a store lead. Hold it against dg_meaning/specs/Substitutions.antt.
 use Rattle.std.specs.Prelude.{◌≡◌, ℕ, ◌<◌, Option, Some, None, reverse}
 use Rattle.dg_meaning.specs.Values.{Value}
-use Rattle.dg_meaning.specs.Substitutions.{Substitution, walk, links, FitsFront}
+use Rattle.dg_meaning.specs.Substitutions.{Substitution, walk, links}
+use Rattle.dg_meaning.specs.inside.Substitutions.{FitsFront}
 use Rattle.dg_unify.specs.Store.{or_nil, IsTold}
 use Rattle.dg_unify.specs.Slots.{value_in, subst_of, Fields}
 use Rattle.dg_unify.specs.declared.bindings.Ref.{Ref}

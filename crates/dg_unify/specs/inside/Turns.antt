@@ -1,8 +1,9 @@
 -- What one turn of a unification leaves in a store. Hold it against dg_meaning/specs/Unify.antt.
 use Rattle.std.specs.Prelude.{◌≡◌, ℕ, [], ◌∷◌, ◌&&◌, Option, Some, None, Bool, true, false, Result, Ok, Err}
 use Rattle.dg_meaning.specs.Values.{Label, Var, Values, More}
-use Rattle.dg_meaning.specs.Substitutions.{is_bound}
-use Rattle.dg_meaning.specs.Unify.{Turn, Goes, turn, Unified, solve_turn, same_label, as_many, side_by_side, unify}
+use Rattle.dg_meaning.specs.inside.Substitutions.{is_bound}
+use Rattle.dg_meaning.specs.Unify.{Turn, Goes, turn, Unified, same_label, as_many, side_by_side}
+use Rattle.dg_meaning.specs.inside.Unify.{solve_turn, unify}
 use Rattle.dg_unify.specs.Store.{Store, told, Holds, Does, UnifyFull}
 use Rattle.dg_unify.specs.Parts.{values_of, AreIn, IsOpened, ShowsInner}
 use Rattle.dg_unify.specs.declared.bindings.Ref.{Ref}

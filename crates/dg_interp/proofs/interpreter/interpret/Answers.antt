@@ -1,7 +1,8 @@
 use Rattle.std.proofs.Common.{ℕ, List, refl}
 use Rattle.dg_base.specs.declared.run.Outcome.{Outcome}
 use Rattle.dg_base.specs.declared.run.RunFault.{RunFault}
-use Rattle.dg_meaning.specs.Engines.{game, left_told, ForTyped, HasShown, HasBrokenOff}
+use Rattle.dg_meaning.specs.Engines.{game, left_told, HasShown}
+use Rattle.dg_meaning.specs.inside.Engines.{ForTyped, HasBrokenOff}
 use Rattle.dg_meaning.proofs.Engines.{as_told, for_typed}
 use Rattle.dg_interp.proofs.Whole.{if_ok_map, if_err_map}
 use Rattle.dg_interp.proofs.interpreter.interpret.Goals as goal

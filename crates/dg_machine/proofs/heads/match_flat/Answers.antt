@@ -4,7 +4,7 @@ use Rattle.dg_base.specs.declared.program.Term.{out-Term}
 use Rattle.dg_base.specs.declared.program.Term.TheVariants.{Pair as Pair-Term}
 use Rattle.dg_meaning.specs.Values.{pair, value_of}
 use Rattle.dg_meaning.specs.Substitutions.{walk}
-use Rattle.dg_meaning.specs.Unify.{unify}
+use Rattle.dg_meaning.specs.inside.Unify.{unify}
 use Rattle.dg_unify.specs.Store.{told, ShowsPair, Follows}
 use Rattle.dg_unify.proofs.StoreLemmas.{holds_some}
 use Rattle.dg_arena.specs.Held.{meaning_of}

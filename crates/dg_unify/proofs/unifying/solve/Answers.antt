@@ -1,5 +1,6 @@
 use Rattle.std.proofs.Common.{◌≡◌, ◌∙◌, ◌<◌, [], ◌∷◌, true, refl, sym, subst, length}
-use Rattle.dg_meaning.specs.Unify.{unify, solve}
+use Rattle.dg_meaning.specs.Unify.{solve}
+use Rattle.dg_meaning.specs.inside.Unify.{unify}
 use Rattle.dg_meaning.proofs.Solving.{solve_extends}
 use Rattle.dg_unify.specs.Store.{told, Does}
 use Rattle.dg_unify.specs.inside.Known.{AreEqual}

@@ -1,5 +1,5 @@
 use Rattle.std.proofs.Common.{true, refl, sym, ap, subst}
-use Rattle.dg_meaning.specs.Unify.{unify}
+use Rattle.dg_meaning.specs.inside.Unify.{unify}
 use Rattle.dg_unify.specs.Store.{told, Does}
 use Rattle.dg_unify.specs.Parts.{values_of}
 use Rattle.dg_unify.specs.inside.Turns.{AreLeft}

@@ -1,5 +1,6 @@
 use Rattle.std.proofs.Common.{◌≡◌, ◌∙◌, [], refl, sym, subst, length, append-nil}
-use Rattle.dg_meaning.specs.Unify.{unify, solve}
+use Rattle.dg_meaning.specs.Unify.{solve}
+use Rattle.dg_meaning.specs.inside.Unify.{unify}
 use Rattle.dg_unify.specs.Store.{told, Follows, BrokeOff}
 use Rattle.dg_unify.specs.inside.Turns.{AreLeft}
 use Rattle.dg_unify.specs.Parts.{IsOpened}

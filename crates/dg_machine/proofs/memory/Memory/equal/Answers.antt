@@ -1,6 +1,6 @@
 use Rattle.std.proofs.Common.{sym, subst}
 use Rattle.dg_meaning.specs.Values.{value_of}
-use Rattle.dg_meaning.specs.Unify.{unify}
+use Rattle.dg_meaning.specs.inside.Unify.{unify}
 use Rattle.dg_meaning.specs.Cells.{cells}
 use Rattle.std.specs.Prelude.{◌∷◌, []}
 use Rattle.dg_base.specs.declared.run.Ending.TheVariants.{TrailLimit}

@@ -2,7 +2,7 @@ use Rattle.std.proofs.Common.{[], None, Some, refl, sym, subst, arith, vec_len}
 use Rattle.dg_base.specs.declared.run.Ending.TheVariants.{HeapLimit, TrailLimit}
 use Rattle.dg_meaning.specs.Copies.{copy_cells, copy_from}
 use Rattle.dg_meaning.specs.Facts.{value_at}
-use Rattle.dg_meaning.specs.Unify.{unify}
+use Rattle.dg_meaning.specs.inside.Unify.{unify}
 use Rattle.dg_arena.specs.Held.{meaning_of}
 use Rattle.dg_mid.specs.Actions.{world_of}
 use Rattle.dg_mid.specs.State.{Runs as RunsOf}

@@ -1,7 +1,7 @@
 use Rattle.std.proofs.Common.{◌∷◌, [], None, Some, refl, sym, subst, arith}
 use Rattle.dg_base.specs.declared.run.Ending.TheVariants.{TrailLimit}
 use Rattle.dg_meaning.specs.Changes.{found}
-use Rattle.dg_meaning.specs.Unify.{unify}
+use Rattle.dg_meaning.specs.inside.Unify.{unify}
 use Rattle.dg_meaning.specs.World.{worked}
 use Rattle.dg_world.specs.Tables.{simple_value}
 use Rattle.dg_arena.specs.Held.{meaning_of}

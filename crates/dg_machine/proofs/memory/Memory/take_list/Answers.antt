@@ -1,7 +1,7 @@
 use Rattle.std.proofs.Common.{◌∷◌, [], ◌-◌, ◌∙◌, ap}
 use Rattle.dg_base.specs.declared.run.Ending.TheVariants.{TrailLimit}
 use Rattle.dg_meaning.specs.Copies.{list_of, copy_from}
-use Rattle.dg_meaning.specs.Unify.{unify}
+use Rattle.dg_meaning.specs.inside.Unify.{unify}
 use Rattle.dg_unify.proofs.StoreLemmas.{holds_some, kept_holds}
 use Rattle.dg_arena.specs.Held.{meaning_of}
 use Rattle.dg_mid.specs.declared.code.Gathered.TheVariants.{List as InList}

@@ -1,6 +1,6 @@
 use Rattle.std.proofs.Common.{◌∷◌, [], Some, None, ◌-◌, ap}
 use Rattle.dg_base.specs.declared.run.Ending.TheVariants.{TrailLimit}
-use Rattle.dg_meaning.specs.Unify.{unify}
+use Rattle.dg_meaning.specs.inside.Unify.{unify}
 use Rattle.dg_meaning.specs.Values.{Num, leaf}
 use Rattle.dg_mid.specs.declared.code.Gathered.TheVariants.{Sum}
 use Rattle.dg_machine.specs.declared.now.Now.TheVariants.{Runs, Fails, Ended}

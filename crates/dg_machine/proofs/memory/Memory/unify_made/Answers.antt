@@ -1,6 +1,7 @@
 use Rattle.std.proofs.Common.{◌∷◌, []}
 use Rattle.std.specs.Prelude.{Ok, Err}
-use Rattle.dg_meaning.specs.Unify.{Equations, unify}
+use Rattle.dg_meaning.specs.Unify.{Equations}
+use Rattle.dg_meaning.specs.inside.Unify.{unify}
 use Rattle.dg_arena.specs.Held.{meaning_of}
 use Rattle.dg_machine.specs.Refs.{Keeps}
 use Rattle.dg_machine.proofs.Matching.{matched_in}

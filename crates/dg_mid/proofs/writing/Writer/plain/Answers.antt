@@ -1,6 +1,6 @@
 use Rattle.std.proofs.Common.{refl, sym, subst}
 use Rattle.dg_base.specs.declared.program.Goal.{Goal}
-use Rattle.dg_meaning.specs.OneRun.{Begins}
+use Rattle.dg_base.specs.Begins.{Begins}
 use Rattle.dg_mid.specs.declared.writing.Work.{Work}
 use Rattle.dg_mid.specs.Actions.{goal_of}
 use Rattle.dg_mid.specs.Writing.{Moves, with_goal}

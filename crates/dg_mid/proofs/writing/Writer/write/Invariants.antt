@@ -1,6 +1,6 @@
 use Rattle.std.proofs.Common.{◌+◌, ◌≤◌, List, reverse, ◌++◌}
 use Rattle.dg_base.specs.declared.program.Goal.{Goal}
-use Rattle.dg_meaning.specs.OneRun.{Begins}
+use Rattle.dg_base.specs.Begins.{Begins}
 use Rattle.dg_mid.specs.Codes.{End}
 use Rattle.dg_mid.specs.Tidying.{Neat, WorkTidy}
 use Rattle.dg_mid.specs.Weights.{ops_weight, blocks_weight, body_weight, work_weight}

@@ -2,8 +2,9 @@
 -- values unify.
 use Rattle.std.specs.Prelude.{◌≡◌, ℕ, suc, eqb, [], ◌∷◌, Option, Some, None, true, if◌then◌else◌}
 use Rattle.dg_meaning.specs.Values.{Label, Value, Var, Node, Values, NoMore, More}
-use Rattle.dg_meaning.specs.Substitutions.{Substitution, walk, links, resolved, all_resolved, IsSubstitution, Extends}
-use Rattle.dg_meaning.specs.Unify.{unify}
+use Rattle.dg_meaning.specs.Substitutions.{Substitution, walk, links, resolved}
+use Rattle.dg_meaning.specs.inside.Substitutions.{all_resolved, IsSubstitution, Extends}
+use Rattle.dg_meaning.specs.inside.Unify.{unify}
 
 -- ## Looking up
 

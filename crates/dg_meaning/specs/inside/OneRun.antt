@@ -1,18 +1,9 @@
 -- That all runs of a game are cuts of one run. Hold it against the Dialog manual, chapter "Output": what was printed is never taken back.
-use Rattle.std.specs.Prelude.{ℕ, ◌+◌, ◌≡◌, ◌≢◌, ◌≤◌, List, ◌++◌}
+use Rattle.std.specs.Prelude.{ℕ, ◌+◌, ◌≡◌, ◌≢◌, ◌≤◌}
+use Rattle.dg_base.specs.Begins.{Begins, EndsWith}
 use Rattle.dg_base.specs.declared.run.Ending.TheVariants.{StepLimit}
 use Rattle.dg_meaning.specs.World.{World, Meters}
 use Rattle.dg_meaning.specs.Transcript.{Run}
-
--- A list begins with another.
-pub record Begins {A : Type 0} (before after : List A) : Type 0 where
-  pub behind : List A
-  pub is : after ≡ before ++ behind
-
--- A list ends with another.
-pub record EndsWith {A : Type 0} (before after : List A) : Type 0 where
-  pub taken : List A
-  pub is : before ≡ taken ++ after
 
 -- No meter falls.
 pub record MetersGrow (old new : Meters) : Type 0 where

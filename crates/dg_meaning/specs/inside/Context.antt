@@ -6,7 +6,7 @@ use Rattle.dg_meaning.specs.Moves.{path_at}
 use Rattle.dg_meaning.specs.Search.{Search, answer, cut_result, later, after_branch, branches_cut, choose}
 use Rattle.dg_meaning.specs.Transcript.{Run, run_of}
 use Rattle.dg_meaning.specs.Unify.{top}
-use Rattle.dg_meaning.specs.Bindings.{top_of_values, IsBound}
+use Rattle.dg_meaning.specs.inside.Bindings.{top_of_values, IsBound}
 
 -- ## Around a search
 

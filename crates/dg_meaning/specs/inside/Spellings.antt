@@ -2,8 +2,10 @@
 -- says what a dictionary word and an unknown word are.
 use Rattle.std.specs.Prelude.{◌≡◌, ℕ, ◌<◌, List, [], ◌∷◌, length, get_or}
 use Rattle.dg_meaning.specs.Values.{Label, Word, Unknown, Value, Var, Node, Values, NoMore, More}
-use Rattle.dg_meaning.specs.Substitutions.{Substitution, IsSubstitution}
-use Rattle.dg_meaning.specs.Unify.{Unified, unify}
+use Rattle.dg_meaning.specs.Substitutions.{Substitution}
+use Rattle.dg_meaning.specs.inside.Substitutions.{IsSubstitution}
+use Rattle.dg_meaning.specs.Unify.{Unified}
+use Rattle.dg_meaning.specs.inside.Unify.{unify}
 
 -- The spelling of a word, by its number.
 abbrev pub spelling_of : List (List ℕ) → ℕ → List ℕ

@@ -13,9 +13,9 @@ use Rattle.dg_meaning.specs.Path.{Step, Do, Answers, Cut, Refuse, Back, Keep, Le
 use Rattle.dg_meaning.specs.Moves.{path_of, exhausted, begun, goals_at, begins, keeping, move}
 use Rattle.dg_meaning.specs.Search.{Search, search, answer, later, retried, choose}
 use Rattle.dg_meaning.specs.Transcript.{Run, run_of, run, start_world, start_path}
-use Rattle.dg_meaning.specs.Bindings.{IsBound}
-use Rattle.dg_meaning.specs.OneRun.{Grows}
-use Rattle.dg_meaning.specs.Context.{Around, InBranch, unwind, gathers, Opens, Way, ways, Live, cut_to, pushed, live, way_to, Shielded, PathIn, IsNewest, KeepIn, Sound, Drops, tags_of}
+use Rattle.dg_meaning.specs.inside.Bindings.{IsBound}
+use Rattle.dg_meaning.specs.inside.OneRun.{Grows}
+use Rattle.dg_meaning.specs.inside.Context.{Around, InBranch, unwind, gathers, Opens, Way, ways, Live, cut_to, pushed, live, way_to, Shielded, PathIn, IsNewest, KeepIn, Sound, Drops, tags_of}
 
 -- The world that a move leaves.
 abbrev pub world_at : Move → World

@@ -2,7 +2,7 @@
 use Rattle.std.specs.Prelude.{ℕ, ◌≤◌, max, List, [], ◌∷◌, Option}
 use Rattle.dg_base.specs.declared.program.Goal.{Goal, out-Goal}
 use Rattle.dg_meaning.specs.Values.{Value}
-use Rattle.dg_meaning.specs.Substitutions.{IsSubstitution, Extends}
+use Rattle.dg_meaning.specs.inside.Substitutions.{IsSubstitution, Extends}
 use Rattle.dg_meaning.specs.Unify.{top, top_of_pairs}
 use Rattle.dg_meaning.specs.World.{Game, World}
 use Rattle.dg_meaning.specs.Path.{Step, Do, Keep, Registers, Path, Branch, Enter, Clash, TakeOut, Finds, Move, GoesOn, Outcome, Moves, Chooses}

@@ -7,7 +7,7 @@ use Rattle.dg_meaning.specs.World.{Game, World, Event, Answered}
 use Rattle.dg_meaning.specs.Path.{Step, Do, Answers, Cut, Refuse, Back, Keep, Leave, Registers, Path}
 use Rattle.dg_meaning.specs.Moves.{path_of}
 use Rattle.dg_meaning.specs.Search.{search}
-use Rattle.dg_meaning.specs.Bindings.{IsBound}
+use Rattle.dg_meaning.specs.inside.Bindings.{IsBound}
 
 -- How often it is told that q was answered.
 abbrev pub passes : ℕ → List Event → ℕ

@@ -3,7 +3,7 @@
 use Rattle.std.specs.Prelude.{◌≡◌, List, true, false}
 use Rattle.dg_base.specs.declared.program.Rule.{Rule}
 use Rattle.dg_meaning.specs.Values.{Value}
-use Rattle.dg_meaning.specs.Substitutions.{IsSubstitution}
+use Rattle.dg_meaning.specs.inside.Substitutions.{IsSubstitution}
 use Rattle.dg_meaning.specs.World.{Game}
 use Rattle.dg_meaning.specs.Path.{Registers}
 use Rattle.dg_meaning.specs.Moves.{is_excluded, match}
