@@ -273,8 +273,8 @@ module _ (code : Code) (g : Game) (l : Limits) (codes : Codes g.program code) (t
       let begins = prints_begin c.world (run g typed goals) ps (stands_happened g at.lives at.ways _ more c.world (run g typed goals) at.stands) at.mirrors.printed_is in
       subst (BrokeOff start k) (sym begins.1) (broke_first start k (render ps) begins.0 x.broke)
 
-  pub text_lost : (r : Memory) (start k : SinkView) (i i' : SourceView) (rest : List ℕ) → IsLeft (left_told i i') rest → IsLostWithin code g l typed l.steps r start k rest → HasLostText g typed l i i' start k
-  text_lost r start k i i' rest is h =
+  pub text_lost : MayBegin g l → (r : Memory) (start k : SinkView) (i i' : SourceView) (rest : List ℕ) → IsLeft (left_told i i') rest → IsLostWithin code g l typed l.steps r start k rest → HasLostText g typed l i i' start k
+  text_lost begins r start k i i' rest is h =
       let x = h.lost in
       let one : (after the_set typed (suc x.steps)).goals ≡ suc h.goals = ap (λ b. one_if b + (after the_set typed x.steps).goals) x.takes ∙ omega (arith, x.goals_is) in
       let first : (after the_set typed (suc x.steps)).goals - 1 ≡ h.goals = omega (arith, one) in
@@ -286,6 +286,7 @@ module _ (code : Code) (g : Game) (l : Limits) (codes : Codes g.program code) (t
         bytes = text_of (run g typed (h.goals + 1)).world.events;
         writing = up_to_goal
             (record {
+              begins = begins;
               goals = h.goals;
               below = h.within;
               goes_on = subst (λ n. (run g typed n).ending ≡ StepLimit) x.goals_is (ap (λ (y : Run). y.ending) stops.is);

@@ -9,7 +9,7 @@ use Rattle.dg_base.specs.Streams.{SourceView}
 use Rattle.dg_base.specs.Written.{SinkView, BrokeOff}
 use Rattle.dg_meaning.specs.World.{Game}
 use Rattle.dg_meaning.specs.Transcript.{run, text_of}
-use Rattle.dg_meaning.specs.Shows.{LeftBetween, Shows, ShowsInputFault}
+use Rattle.dg_meaning.specs.Shows.{LeftBetween, MayBegin, Shows, ShowsInputFault}
 use Rattle.dg_meaning.specs.Engines.{left_told}
 use Rattle.dg_outside.specs.Outside.{StartsOutside}
 use Rattle.dg_outside.specs.declared.outside.Outside.{Outside}
@@ -29,9 +29,10 @@ pub record IsUntouched (i i' : SourceView) (k k' : SinkView) : Type 0 where
   pub source : i' ≡ i
   pub sink : k' ≡ k
 
--- What a run prints up to the goal behind so many, which don't end it. Of the input no less is left than that goal leaves, and no more than those
--- before it.
+-- What a run that may begin prints up to the goal behind so many, which don't end it. Of the input no less is left than that goal leaves, and no more
+-- than those before it.
 pub record ShowsGoal (g : Game) (typed : List ℕ) (limits : Limits) (bytes : List ℕ) (left : Option (List ℕ)) : Type 0 where
+  pub begins : MayBegin g limits
   pub goals : ℕ
   pub below : goals < limits.steps
   pub goes_on : (run g typed goals).ending ≡ StepLimit

@@ -12,9 +12,9 @@ use Rattle.dg_base.specs.declared.run.Outcome.{Outcome}
 use Rattle.dg_machine.specs.Program.{HasLostText, MayWriteText, up_to_goal, to_the_end, up_to_fault}
 use Rattle.dg_meaning.specs.Engines.{game, HasShown}
 use Rattle.dg_make.specs.Made.{made_source}
-use Rattle.dg_meaning.specs.Shows.{Shows}
-use Rattle.dg_meaning.specs.Transcript.{run, text_of, closing, line_of, transcript, no_memory_line}
-use Rattle.dg_meaning.specs.World.{Game}
+use Rattle.dg_meaning.specs.Shows.{MayBegin, Shows}
+use Rattle.dg_meaning.specs.Transcript.{run, text_of, ending_line, line_of, transcript, no_memory_line}
+use Rattle.dg_meaning.specs.World.{Game, prints}
 use Rattle.dg_meaning.proofs.Limits.{later_run}
 use Rattle.dg_meaning.proofs.Search.{run_within}
 use Rattle.dg_story.proofs.Happened.{text_grows}
@@ -74,15 +74,15 @@ none_rose rose = absurd (omega (arith, rose))
 abbrev ended : Game → List ℕ → Limits → Outcome
 ended g typed limits = let r = run g typed limits.steps in record { ending = r.ending; goals = limits.steps - r.left }
 
-whole_shows : (g : Game) (typed : List ℕ) (limits : Limits) → Shows g typed limits (transcript g typed limits.steps) (ended g typed limits) None
-whole_shows g typed limits = inl (record { text = refl; ending = refl; goals = omega (arith, run_within g typed limits.steps); left_is = tt })
+whole_shows : (g : Game) (typed : List ℕ) (limits : Limits) → MayBegin g limits → Shows g typed limits (transcript g typed limits.steps) (ended g typed limits) None
+whole_shows g typed limits begins = inl (record { begins = begins; text = refl; ending = refl; goals = omega (arith, run_within g typed limits.steps); left_is = tt })
 
 -- it writes no less than a part of it
 whole_longer : (g : Game) (typed : List ℕ) (m n : ℕ) → m ≤ n → length (text_of (run g typed m).world.events) ≤ length (transcript g typed n)
 whole_longer g typed m n le =
     let r = run g typed n in
     let b = text_grows (run g typed m).world.events r.world.events (later_run g typed m n le).events in
-    omega (arith, ap length b.is, length-append (text_of (run g typed m).world.events) b.behind, length-append (text_of r.world.events) (closing r.world.events (line_of r.ending)))
+    omega (arith, ap length b.is, length-append (text_of (run g typed m).world.events) b.behind, length-append (text_of r.world.events) (ending_line (prints r.world.events) (line_of r.ending)))
 
 -- a run that its sink broke off writes more than there is room for
 pub made_long : (n : ℕ) (p : Core) (dice before text left left' : List ℕ) (room faults status : ℕ) (new : SinkView) → Compiles (made_source n) (Ok p) → room ≡ most_output
@@ -95,7 +95,7 @@ made_long n p dice before text left left' room faults status new is all lost e s
     here : MayWriteText (game p dice) [] made_limits (sure left) (sure left') lost.bytes → Makes dice n status text
     here (up_to_goal w) =
         let more = whole_longer (game p dice) [] (w.goals + 1) made_limits.steps (omega (arith, w.below)) in
-        overflows p is (transcript (game p dice) [] made_limits.steps) (ended (game p dice) [] made_limits) None (whole_shows (game p dice) [] made_limits)
+        overflows p is (transcript (game p dice) [] made_limits.steps) (ended (game p dice) [] made_limits) None (whole_shows (game p dice) [] made_limits w.begins)
         (omega (arith, over, ap length w.text, more)) s e
     here (to_the_end outcome shows) = overflows p is lost.bytes outcome _ shows over s e
     here (up_to_fault rose shows) = none_rose rose

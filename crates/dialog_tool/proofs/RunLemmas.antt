@@ -41,12 +41,13 @@ leaving : (g : Game) (typed : List ℕ) (limits : Limits) (bytes : List ℕ) (ou
 leaving g typed limits bytes outcome left (inl h) = record {
   rest = (run g typed limits.steps).world.typed;
   is = h.left_is;
-  shows = inl (record { text = h.text; ending = h.ending; goals = h.goals; left_is = refl });
+  shows = inl (record { begins = h.begins; text = h.text; ending = h.ending; goals = h.goals; left_is = refl });
 }
 leaving g typed limits bytes outcome left (inr h) = record {
   rest = h.input.rest;
   is = h.input.left_is;
   shows = inr (record {
+    begins = h.begins;
     area = h.area;
     ending = h.ending;
     goals = h.goals;

@@ -65,7 +65,7 @@ returns-in-Err-Write-clause-output g c e p dice codes is_of starts =
     let at = at_start m.code p dice m.limits h.typed c.clear.new.self c.args.outside.now c.code_at.result c.new-spacer.result k c.requires.built c.code_at.ensures (c.clear.ensures.held m.code m.limits m.roomy) c.clear.ensures.none c.new-spacer.ensures starts in
     let i' = g.S.Source.view c.go.new.source in
     let k' = g.K.Sink.view c.go.new.sink in
-    for_given i.left h.typed (λ typed. HasLostText x typed m.limits i i' k k') h.is_typed (text_lost m.code x m.limits codes h.typed c.go.new.memory k k' i i' h.rest (as_told i i' h.rest h.is_rest) (h.loses x is_of m.limits h.typed k at))
+    for_given i.left h.typed (λ typed. HasLostText x typed m.limits i i' k k') h.is_typed (text_lost m.code x m.limits codes h.typed starts.begins c.go.new.memory k k' i i' h.rest (as_told i i' h.rest h.is_rest) (h.loses x is_of m.limits h.typed k at))
 
 pub returns-in-Err-clause-output : goal.returns-in-Err-clause-output
 returns-in-Err-clause-output g c e p dice codes is_of starts =
