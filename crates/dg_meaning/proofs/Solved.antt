@@ -1,5 +1,5 @@
 -- Unification by its turns.
-use Rattle.std.proofs.Common.{◌≡◌, ℕ, zero, suc, ◌≤◌, List, [], ◌∷◌, ◌++◌, Option, Some, None, refl, sym, ap, ◌∙◌, subst, arith}
+use Rattle.std.proofs.Common.{◌≡◌, ℕ, zero, suc, [], ◌∷◌, ◌++◌, Option, Some, None, refl, sym, ap, ◌∙◌, subst}
 use Rattle.dg_meaning.specs.Values.{Value}
 use Rattle.dg_meaning.specs.Substitutions.{Substitution}
 use Rattle.dg_meaning.specs.inside.Substitutions.{IsSubstitution}

@@ -54,4 +54,3 @@ abbrev mutual
   pub any_contains : ℕ → Values → Bool
   any_contains x NoMore = false
   any_contains x (More v vs) = contains x v || any_contains x vs
-

@@ -1,5 +1,5 @@
 -- Whole runs of register code, and what they show. Hold it against the Dialog manual, chapter "Output".
-use Rattle.std.specs.Prelude.{ℕ, zero, suc, ◌+◌, ◌-◌, ◌≡◌, ◌<◌, ◌≤◌, ◌++◌, List, [], length, Some, None, true}
+use Rattle.std.specs.Prelude.{ℕ, zero, suc, ◌+◌, ◌-◌, ◌≡◌, ◌<◌, ◌≤◌, List, [], length, Some, None, true}
 use Rattle.dg_base.specs.declared.run.Ending.{Ending}
 use Rattle.dg_base.specs.declared.run.Ending.TheVariants.{StepLimit}
 use Rattle.dg_meaning.specs.World.{Game, Print, prints}

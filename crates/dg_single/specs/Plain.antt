@@ -1,5 +1,5 @@
 -- Which goals leave no choice open behind their answer, where the predicates of a set don't. Hold it against docs/LANGUAGE.md, "Search", on queries and (just).
-use Rattle.std.specs.Prelude.{ℕ, List, [], ◌∷◌, Bool, true, false, not, ◌&&◌, ◌||◌}
+use Rattle.std.specs.Prelude.{List, [], ◌∷◌, Bool, true, false, not, ◌&&◌, ◌||◌}
 use Rattle.std.specs.List.{list_any}
 use Rattle.dg_base.specs.declared.program.Goal.{Goal, out-Goal, If', Select', Row_of-Goal, end_of-Goal, more_of-Goal, items-the_row-Goal, Row_of-Goal-Either-0-1, end_of-Goal-Either-0-1, more_of-Goal-Either-0-1}
 use Rattle.dg_base.specs.declared.program.Goal.TheOpen.{Goal-F, Ask, Holds, IsObject, Query, Either, Forever, Just, Fail}

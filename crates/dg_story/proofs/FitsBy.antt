@@ -4,12 +4,11 @@ use Rattle.dg_base.specs.declared.run.Ending.{Ending}
 use Rattle.dg_base.specs.declared.run.Ending.TheVariants as endings
 use Rattle.dg_meaning.specs.World.{Game}
 use Rattle.dg_meaning.specs.Transcript.{run}
-use Rattle.dg_base.specs.Begins.{Begins}
 use Rattle.z_model.specs.declared.end.ZEnd.{ZEnd}
 use Rattle.z_model.specs.declared.end.ZEnd.TheVariants as ends
 use Rattle.dg_meaning.proofs.OneRun.{begins_on}
 use Rattle.z_model.specs.Run.{ZGiven, ZState, ZRun, zrun}
-use Rattle.z_lang.specs.Turns.{Turning, printed_by}
+use Rattle.z_lang.specs.Turns.{Turning}
 use Rattle.z_lang.specs.WholeRuns.{Within, IsOver, Shown, IsTurn}
 use Rattle.z_lang.proofs.Turns.{shows, suffices, ends_by}
 use Rattle.dg_story.specs.Agrees.{IsDone, IsCut, EndsWhole, IsThere, IsAtLimit, Fits, printed_body, enough_for}

@@ -1,5 +1,5 @@
 -- The report on the predicates of a program: hold it against man/dialog.1, `singles`, and docs/LANGUAGE.md, "Search".
-use Rattle.std.specs.Prelude.{ℕ, List, [], ◌∷◌, ◌++◌, Bool, true, false, ◌&&◌, codes, zip, flat_map, if◌then◌else◌}
+use Rattle.std.specs.Prelude.{ℕ, List, [], ◌++◌, Bool, true, false, ◌&&◌, codes, zip, flat_map, if◌then◌else◌}
 use Rattle.dg_base.specs.declared.program.CoreProgram.{CoreProgram as Core}
 use Rattle.dg_base.specs.declared.program.Pred.{Pred}
 use Rattle.dg_base.specs.Goals.{has_rule}

@@ -2,7 +2,7 @@
 use Rattle.std.specs.Prelude.{◌≡◌, ℕ, [], ◌∷◌, ◌++◌}
 use Rattle.dg_meaning.specs.Values.{Value}
 use Rattle.dg_meaning.specs.Substitutions.{Substitution}
-use Rattle.dg_meaning.specs.Unify.{Equations, Turn, Goes, Binds, Clashes, turn, cost, Unified, agreed, clashed, counted, solve}
+use Rattle.dg_meaning.specs.Unify.{Equations, Goes, Binds, Clashes, turn, cost, Unified, agreed, clashed, counted, solve}
 
 -- What comes of equations in order: nothing is left to be done, or the first one counts, and then its parts come before the others, or what it binds
 -- stands in front of the substitution for the others, or it clashes, and what was bound before is bound.

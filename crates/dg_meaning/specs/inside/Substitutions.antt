@@ -1,5 +1,5 @@
 -- Which lists of pairs are substitutions, and how they grow. Hold it against docs/LANGUAGE.md, where it says when two values unify.
-use Rattle.std.specs.Prelude.{◌≡◌, ℕ, ◌+◌, eqb, [], ◌∷◌, ◌++◌, ◌||◌, Bool, false}
+use Rattle.std.specs.Prelude.{◌≡◌, ℕ, eqb, [], ◌∷◌, ◌++◌, ◌||◌, Bool, false}
 use Rattle.dg_meaning.specs.Values.{Value, Values, NoMore, More}
 use Rattle.dg_meaning.specs.Substitutions.{Substitution, resolved, contains}
 

@@ -1,5 +1,5 @@
 -- Unification of two values, and of one thing after another. Hold it against docs/LANGUAGE.md, where it says when two values unify.
-use Rattle.std.specs.Prelude.{◌+◌, [], ◌∷◌, ◌++◌, if◌then◌else◌}
+use Rattle.std.specs.Prelude.{[], ◌∷◌, ◌++◌, if◌then◌else◌}
 use Rattle.dg_meaning.specs.Values.{Value}
 use Rattle.dg_meaning.specs.Substitutions.{Substitution}
 use Rattle.dg_meaning.specs.Unify.{Equations, Turn, Goes, Binds, Clashes, Unified, clashed, counted, solve}
