@@ -1,49 +1,46 @@
 -- Calls have as many arguments as the rules that they may enter.
-use Rattle.std.proofs.Common.{ℕ, zero, suc, ◌+◌, ◌≤◌, ◌⊎◌, inl, inr, List, [], ◌∷◌, ◌++◌, Option, Some, None, Bool, true, false, sym, ap, subst, arith, length, map, get_or}
-use Rattle.std.specs.List.{All, zip}
-use Rattle.std.specs.Prelude.{if◌then◌else◌, ◌-◌, nat_lt, eqb, slice_get}
+use Rattle.std.proofs.Common.{ℕ, zero, suc, ◌+◌, ◌≤◌, ◌⊎◌, inl, inr, List, [], ◌∷◌, ◌++◌, Option, Some, None, Bool, true, false, sym, subst, arith, length, map, get_or}
+use Rattle.std.specs.List.{zip}
+use Rattle.std.specs.Prelude.{if◌then◌else◌, ◌-◌, nat_lt, eqb}
 use Rattle.std.proofs.lemmas.Bool.{cond_both}
 use Rattle.std.proofs.lemmas.List.{length-map}
-use Rattle.dg_base.specs.Goals.{goals_of, option_terms, terms_held}
-use Rattle.dg_base.proofs.NodeLemmas.{inside as inside_of}
-use Rattle.dg_base.specs.Sound.{IsGoalOf, IsPredOf, IsRuleOf, IsClosureOf, IsEntry, FitsHeads, FitsProgram, closure_vars, IsSound}
-use Rattle.dg_base.specs.declared.program.ClosureBody.{ClosureBody}
+use Rattle.dg_base.specs.Goals.{option_terms, terms_held}
+use Rattle.dg_base.specs.Sound.{IsSound}
 use Rattle.dg_base.specs.declared.program.Goal.{Goal}
 use Rattle.dg_base.specs.declared.program.Goal.TheVariants as goal
 use Rattle.dg_base.specs.declared.program.Goal.TheOpen as form
-use Rattle.dg_base.specs.declared.program.Pred.{Pred}
-use Rattle.dg_base.specs.declared.program.Rule.{Rule}
 use Rattle.dg_base.specs.declared.program.Term.{Term}
 use Rattle.dg_base.specs.declared.run.Ending.{Ending}
 use Rattle.dg_base.specs.declared.run.Ending.TheVariants as ending
 use Rattle.dg_meaning.specs.Cells.{cells}
-use Rattle.dg_meaning.specs.Moves.{rules_of, selects as selects_so}
+use Rattle.dg_meaning.specs.Moves.{selects as selects_so}
 use Rattle.dg_meaning.specs.Path.{Act, Goes as GoesAct, Tests, Unifies, Ends, Fails as FailsNow, Stops, Effect, Acts, Offers}
 use Rattle.dg_meaning.specs.Substitutions.{walk, resolved}
 use Rattle.dg_meaning.specs.Unify.{Unified, solve}
-use Rattle.dg_meaning.specs.Values.{Closure, Value, Values, Node, value_of}
+use Rattle.dg_meaning.specs.Values.{Value, value_of}
 use Rattle.dg_meaning.specs.World.{Gathering, gathered_size, Game}
 use Rattle.dg_mid.specs.declared.code.Op.{Op}
 use Rattle.dg_mid.specs.declared.code.Op.TheVariants as op
 use Rattle.dg_mid.specs.declared.code.Gathered.{Gathered}
 use Rattle.dg_mid.specs.declared.code.Gathered.TheVariants as gathered
 use Rattle.dg_mid.specs.declared.code.RuleCode.{RuleCode}
-use Rattle.dg_mid.specs.declared.code.BodyCode.{BodyCode}
 use Rattle.dg_mid.specs.Actions.{goal_of, terms_of, asked_at, act_at, found_at, world_of, outside_in}
-use Rattle.dg_mid.specs.Calls.{HoldsFew, FirstFits, StatusFits, AllHoldFew}
+use Rattle.dg_mid.specs.Calls.{FirstFits, StatusFits, AllHoldFew}
 use Rattle.dg_mid.specs.Code.{block_at, rules_at, selected}
-use Rattle.dg_mid.specs.Codes.{End, Returns, Commits, Refuses, Backs, Leaves, Keeps, Finishes, found_goals, found_end, Stands, jumps, returns, commits, refuses, backs, leaves, keeps, finishes, acts, ask, last_ask, query, last_query, holds, objects, only, either, selects, once, negates, branch, exhausts, shields, collects, accumulates, forever, Others, last_list, more_lists, Branches, no_branch, a_branch, BodyStands, Codes}
+use Rattle.dg_mid.specs.Codes.{End, Commits, Refuses, Backs, Leaves, Keeps, Finishes, found_goals, found_end, Stands, jumps, returns, commits, refuses, backs, leaves, keeps, finishes, acts, ask, last_ask, query, last_query, holds, objects, only, either, selects, once, negates, branch, exhausts, shields, collects, accumulates, forever, Others, last_list, more_lists, Branches, no_branch, a_branch, Codes}
 use Rattle.dg_mid.specs.declared.code.Code.{Code}
 use Rattle.dg_base.specs.declared.run.Limits.{Limits}
 use Rattle.dg_mid.specs.Runs.{after}
 use Rattle.dg_mid.specs.State.{Place, Frame, Call, Target, ToPred, ToBody, Find, Way, Goes, Takes, Calls, Tries, Stop, Choice, Mid, Status, Runs, Enters, Resumes, Fails, Ended, vars_of, cut_of, cut_choices, stop_to, place_of}
-use Rattle.dg_mid.specs.Step.{Setting, setting, more, charged, bound, unified, if_agreed, if_passed, made_in, done, stops, stops_at, begins, enters, asks, calls, call_of, asks_last, last, queries, queries_last, asked_by, body_of, closure_at, values, seeks}
+use Rattle.dg_mid.specs.Step.{Setting, setting, more, charged, bound, unified, if_agreed, if_passed, made_in, done, stops, stops_at, begins, enters, asks, calls, call_of, asks_last, last, queries, queries_last, asked_by, values, seeks}
 use Rattle.dg_mid.specs.Step.{does, runs, commits as commits_to, refuses as refuses_to, leaves as leaves_to, returns as returns_to, returned, entered, resumed, goes_on, goes_back, step, passed, parameter, body_equations, body_frame, new_frame, first_of, keeps as keeps_to, gathering, gathers}
 use Rattle.dg_mid.specs.Step.{newest_with, keeps_value, taken_out, takes_newest, takes, trying, trying_cells, tries, inside, shielded, within}
 use Rattle.dg_mid.proofs.Backs.{goes_plainly}
-use Rattle.dg_mid.proofs.Deep.{Each, DeepIn, first_deep, rest_deep, inside_deep, append_deep, made_deep, lists_deep, three_deep}
+use Rattle.dg_mid.proofs.Deep.{DeepIn, first_deep, rest_deep, inside_deep, append_deep, lists_deep, three_deep}
 use Rattle.dg_mid.proofs.FitCode as fit
-use Rattle.dg_mid.proofs.FitCode.{heads_fit, tail, rules_fit, selected_fit, enters_with, all_enter, choices_fit, way_fits}
+use Rattle.dg_mid.proofs.FitCode.{selected_fit, enters_with, all_enter, choices_fit, way_fits}
+use Rattle.dg_mid.proofs.FitProgram as program
+use Rattle.dg_mid.proofs.FitProgram.{asked_is, answers, ask_fits, start_fits}
 
 module _ (g : Game) (n : ℕ) (code : Code) (limits : Limits) (codes : Codes g.program code) (sound : IsSound g.program) (few : AllHoldFew n g.program) where
   abbrev GoalFits : Goal → Type 0
@@ -94,73 +91,11 @@ module _ (g : Game) (n : ℕ) (code : Code) (limits : Limits) (codes : Codes g.p
   abbrev set : Setting
   set = setting g code limits
 
-  -- ## What the program has
-
-  goals_are : (vars : ℕ) (gs : List Goal) → All (IsGoalOf g.program vars) gs → All (HoldsFew n) gs → Each GoalFits gs
-  goals_are vars [] a b = tt
-  goals_are vars (x ∷ xs) a b = (((a 0 x (omega arith)).fits, b 0 x (omega arith)), goals_are vars xs (tail g n code (IsGoalOf g.program vars) x xs a) (tail g n code (HoldsFew n) x xs b))
-
-  -- a rule holds few terms in each goal
-  abbrev RuleFew : Rule → Type 0
-  RuleFew rule = All (HoldsFew n) (goals_of rule.body)
-
-  abbrev PredFew : Pred → Type 0
-  PredFew pred = All RuleFew pred.rules
-
-  abbrev BodyFits : Rule → Type 0
-  BodyFits rule = AreFit rule.body
-
-  rules_are : (rules : List Rule) → All (IsRuleOf g.program) rules → All RuleFew rules → All BodyFits rules
-  rules_are rules a b k d lt = let rule = get_or rules k d in goals_are rule.vars (goals_of rule.body) (a k d lt).body (b k d lt)
-
-  preds_are : (preds : List Pred) (i : ℕ) → All (IsPredOf g.program) preds → All PredFew preds → All BodyFits (rules_of (slice_get preds i))
-  preds_are [] i a b = λ k d lt. absurd (omega (arith, lt))
-  preds_are (x ∷ preds) zero a b = rules_are x.rules (a 0 x (omega arith)).rules (b 0 x (omega arith))
-  preds_are (x ∷ preds) (suc i) a b = preds_are preds i (tail g n code (IsPredOf g.program) x preds a) (tail g n code PredFew x preds b)
-
-  pred_fits : (pred k : ℕ) → FitsHeads k (slice_get g.program.preds pred) → RulesFit k (rules_at code pred)
-  pred_fits pred k h = rules_fit g n code k (rules_at code pred) (rules_of (slice_get g.program.preds pred)) (codes.rules pred) (heads_fit g n code k (slice_get g.program.preds pred) h) (preds_are g.program.preds pred sound.preds few.preds)
-
-  abbrev ClosureFew : ClosureBody → Type 0
-  ClosureFew closure = All (HoldsFew n) (goals_of closure.body)
-
-  abbrev ClosureIs : Option ClosureBody → Type 0
-  ClosureIs None = Unit {0}
-  ClosureIs (Some closure) = AreFit closure.body
-
-  closures_are : (closures : List ClosureBody) (i : ℕ) → All (IsClosureOf g.program) closures → All ClosureFew closures → ClosureIs (slice_get closures i)
-  closures_are [] i a b = tt
-  closures_are (x ∷ xs) zero a b = goals_are (closure_vars x) (goals_of x.body) (a 0 x (omega arith)).body (b 0 x (omega arith))
-  closures_are (x ∷ xs) (suc i) a b = closures_are xs i (tail g n code (IsClosureOf g.program) x xs a) (tail g n code ClosureFew x xs b)
-
-  -- what is asked with so many arguments fits
   abbrev TargetFits : ℕ → Target → Type 0
-  TargetFits k (ToPred pred) = RulesFit k (rules_at code pred)
-  TargetFits k (ToBody c captured) = CodeFits (block_at code c.block)
+  TargetFits k t = program.TargetFits g n code codes sound few k t
 
   abbrev IfTarget : ℕ → Option Target → Type 0
-  IfTarget k None = Unit {0}
-  IfTarget k (Some t) = TargetFits k t
-
-  body_is : (k : ℕ) (o : Option BodyCode) (q : Option ClosureBody) (parts : Values) → BodyStands code o q → ClosureIs q → IfTarget k (body_of o parts)
-  body_is k None q parts h c = tt
-  body_is k (Some b) None parts h c = absurd h
-  body_is k (Some b) (Some closure) parts h c = record { goals = closure.body; end = Returns; stands = h.1; fit = c; ends = tt }
-
-  asked_is : (k : ℕ) (v : Value) → IfTarget k (closure_at code v)
-  asked_is k (Node (Closure place) parts) = body_is k (slice_get code.closures place) (slice_get g.program.closures place) parts (codes.bodies place) (closures_are g.program.closures place sound.closures few.closures)
-  asked_is k v = tt
-
-  -- the code that answers a rule
-  answers : CodeFits (block_at code 0)
-  answers = record { goals = []; end = Returns; stands = subst (λ l. Stands code l [] Returns) (sym codes.answers) (returns []); fit = tt; ends = tt }
-
-  -- what holds of a query of a predicate
-  ask_fits : (pred : ℕ) (terms : List Term) (many : Bool) (gs : List Goal) → AreFit (goal.Ask pred terms many ∷ gs) → (length terms ≤ n) × RulesFit (length terms) (rules_at code pred)
-  ask_fits pred terms many gs h =
-      let is = goal.outs-Ask pred terms many in
-      let x = first_deep GoalFits (goal.Ask pred terms many) gs h in
-      (subst (λ l. length (terms_held l) ≤ n) is x.1, pred_fits pred (length terms) (subst (FitsProgram g.program) is x.0))
+  IfTarget k t = program.IfTarget g n code codes sound few k t
 
   -- ## What leads where
 
@@ -228,10 +163,10 @@ module _ (g : Game) (n : ℕ) (code : Code) (limits : Limits) (codes : Codes g.p
 
   on_asks_last : (t : Target) (vs : List Value) (many every : Bool) (x : Frame) (xs : List Frame) (m : Mid) → length vs ≤ n → TargetFits (length vs) t → FramesFit (x ∷ xs) → F m → S (asks_last set t vs many every x xs m)
   on_asks_last t vs many true x xs m le h fs f = on_calls t (call_of vs many x.next m) (record m { frames = xs; inner = x.inner }) (le, fs.0) h (fs.1, f.1, f.2)
-  on_asks_last t vs many false x xs m le h fs f = on_calls t (call_of vs many 0 m) (record m { inner = [] }) (le, answers) h f
+  on_asks_last t vs many false x xs m le h fs f = on_calls t (call_of vs many 0 m) (record m { inner = [] }) (le, answers g n code codes sound few) h f
 
   on_last : (t : Target) (vs : List Value) (many : Bool) (xs : List Frame) (m : Mid) → length vs ≤ n → TargetFits (length vs) t → FramesFit xs → F m → S (last set t vs many xs m)
-  on_last t vs many [] m le h fs f = on_calls t (call_of vs many 0 m) (record m { inner = [] }) (le, answers) h f
+  on_last t vs many [] m le h fs f = on_calls t (call_of vs many 0 m) (record m { inner = [] }) (le, answers g n code codes sound few) h f
   on_last t vs many (x ∷ xs) m le h fs f = on_asks_last t vs many x.many x xs m le h fs f
 
   on_queries : (t : Option Target) (vs : List Value) (many : Bool) (next : ℕ) (m : Mid) → length vs ≤ n → IfTarget (length vs) t → CodeFits (block_at code next) → F m → S (queries set t vs many next m)
@@ -343,14 +278,14 @@ module _ (g : Game) (n : ℕ) (code : Code) (limits : Limits) (codes : Codes g.p
   on_runs ops goals end (ask pred terms many next others goals' end' s) fit ends m f =
       let m0 : Mid = record m { ops = others } in
       let k = cells g.program terms in
-      let x = ask_fits pred terms many goals' fit in
+      let x = ask_fits g n code codes sound few pred terms many goals' fit in
       let c = call_of (values set m0 terms) many next (more k m0) in
       let b : CodeFits (block_at code next) = record { goals = goals'; end = end'; stands = s; fit = rest_deep GoalFits (goal.Ask pred terms many) goals' fit; ends = ends } in
       on_charged k m0 (asks set pred c (more k m0)) (on_calls (ToPred pred) c (more k m0) (few_values m0 terms x.0, b) (rules_for m0 terms (rules_at code pred) x.1) f)
   on_runs ops goals end (last_ask pred terms many others) fit ends m f =
       let m0 : Mid = record m { ops = others } in
       let k = cells g.program terms in
-      let x = ask_fits pred terms many [] fit in
+      let x = ask_fits g n code codes sound few pred terms many [] fit in
       let vs = values set m0 terms in
       on_charged k m0 (last set (ToPred pred) vs many m.frames (more k m0)) (on_last (ToPred pred) vs many m.frames (more k m0) (few_values m0 terms x.0) (rules_for m0 terms (rules_at code pred) x.1) f.0 f)
   on_runs ops goals end (query a t many next others goals' end' s) fit ends m f =
@@ -361,7 +296,7 @@ module _ (g : Game) (n : ℕ) (code : Code) (limits : Limits) (codes : Codes g.p
       let b : CodeFits (block_at code next) = record { goals = goals'; end = end'; stands = s; fit = rest_deep GoalFits (goal.Query a t many) goals' fit; ends = ends } in
       let asked = asked_by set a m0 in
       let vs = values set m0 (option_terms t) in
-      on_charged k m0 (queries set asked vs many next (more k m0)) (on_queries asked vs many next (more k m0) (few_values m0 (option_terms t) le) (asked_is (length vs) (walk m.state.subst (value_of g.program (vars_of m.frames) a))) b f)
+      on_charged k m0 (queries set asked vs many next (more k m0)) (on_queries asked vs many next (more k m0) (few_values m0 (option_terms t) le) (asked_is g n code codes sound few (length vs) (walk m.state.subst (value_of g.program (vars_of m.frames) a))) b f)
   on_runs ops goals end (last_query a t many others) fit ends m f =
       let m0 : Mid = record m { ops = others } in
       let k = cells g.program (a ∷ option_terms t) in
@@ -369,7 +304,7 @@ module _ (g : Game) (n : ℕ) (code : Code) (limits : Limits) (codes : Codes g.p
       let le : length (option_terms t) ≤ n = let h : suc (length (option_terms t)) ≤ n = subst (λ l. length (terms_held l) ≤ n) (goal.outs-Query a t many) held in omega (arith, h) in
       let asked = asked_by set a m0 in
       let vs = values set m0 (option_terms t) in
-      on_charged k m0 (queries_last set asked vs many (more k m0)) (on_queries_last asked vs many (more k m0) (few_values m0 (option_terms t) le) (asked_is (length vs) (walk m.state.subst (value_of g.program (vars_of m.frames) a))) f)
+      on_charged k m0 (queries_last set asked vs many (more k m0)) (on_queries_last asked vs many (more k m0) (few_values m0 (option_terms t) le) (asked_is g n code codes sound few (length vs) (walk m.state.subst (value_of g.program (vars_of m.frames) a))) f)
   on_runs ops goals end (holds place terms many next others goals' end' s o) fit ends m f =
       let rest = rest_deep GoalFits (goal.Holds place terms many) goals' fit in
       let le = subst (λ l. length (terms_held l) ≤ n) (goal.outs-Holds place terms many) (first_deep GoalFits (goal.Holds place terms many) goals' fit).1 in
@@ -491,25 +426,14 @@ module _ (g : Game) (n : ℕ) (code : Code) (limits : Limits) (codes : Codes g.p
 
   -- ## Whole runs
 
-  -- the entry has no parameters
-  entry_fits : (pred : Option Pred) → IsEntry pred → FitsHeads 0 pred
-  entry_fits None h = absurd h
-  entry_fits (Some pred) h = λ k rule lt. ap length (h k rule lt)
-
-  start_fits : AreFit (goal.Ask g.program.entry [] false ∷ [])
-  start_fits =
-      let x = goal.Ask g.program.entry [] false in
-      let is = goal.outs-Ask g.program.entry [] false in
-      made_deep GoalFits x [] (subst (FitsProgram g.program) (sym is) (entry_fits (slice_get g.program.preds g.program.entry) sound.entry), subst (λ l. length (terms_held l) ≤ n) (sym is) (omega arith)) (subst (λ l. Each GoalFits (inside_of l)) (sym is) tt) tt
-
   all_are : (typed : List ℕ) (k : ℕ) → S (after set typed k).now
-  all_are typed zero = (record { goals = goal.Ask g.program.entry [] false ∷ []; end = Finishes; stands = codes.starts; fit = start_fits; ends = tt }, (tt, tt, tt))
+  all_are typed zero = (record { goals = goal.Ask g.program.entry [] false ∷ []; end = Finishes; stands = codes.starts; fit = start_fits g n code codes sound few; ends = tt }, (tt, tt, tt))
   all_are typed (suc k) = on_step (after set typed k).now (all_are typed k)
 
   -- the code at hand asks what fits
   first_fits : (ops : List Op) (goals : List Goal) (end : End) → Stands code ops goals end → AreFit goals → FirstFits n code ops
-  first_fits ops goals end (ask pred terms many next others goals' end' s) fit = let x = ask_fits pred terms many goals' fit in (x.0, all_enter g n code (length terms) (rules_at code pred) x.1)
-  first_fits ops goals end (last_ask pred terms many others) fit = let x = ask_fits pred terms many [] fit in (x.0, all_enter g n code (length terms) (rules_at code pred) x.1)
+  first_fits ops goals end (ask pred terms many next others goals' end' s) fit = let x = ask_fits g n code codes sound few pred terms many goals' fit in (x.0, all_enter g n code (length terms) (rules_at code pred) x.1)
+  first_fits ops goals end (last_ask pred terms many others) fit = let x = ask_fits g n code codes sound few pred terms many [] fit in (x.0, all_enter g n code (length terms) (rules_at code pred) x.1)
   first_fits ops goals end (holds place terms many next others goals' end' s o) fit = subst (λ l. length (terms_held l) ≤ n) (goal.outs-Holds place terms many) (first_deep GoalFits (goal.Holds place terms many) goals' fit).1
   first_fits ops goals end (objects term many next others goals' end' s o) fit = subst (λ l. length (terms_held l) ≤ n) (goal.outs-IsObject term many) (first_deep GoalFits (goal.IsObject term many) goals' fit).1
   first_fits ops goals end s fit = tt

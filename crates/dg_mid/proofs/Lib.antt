@@ -27,7 +27,14 @@ pub mod Open
 pub mod Standing
 pub mod Deep
 pub mod FitCode
+pub mod FitProgram
 pub mod CallsFit
+pub mod Rest
+pub mod Within
+pub mod SingleCalls
+pub mod SingleGoals
+pub mod SingleRuns
+pub mod Single
 pub mod Falling
 pub mod Pending
 pub mod Trails

@@ -1,13 +1,15 @@
 -- What holds of all register code. Hold it against the Dialog manual, chapters "Choice points" and "Output", and docs/LANGUAGE.md, "Limits".
-use Rattle.std.specs.Prelude.{ℕ, ◌+◌, ◌*◌, ◌≡◌, ◌≢◌, ◌<◌, ◌≤◌, ◌⊎◌, List, false}
+use Rattle.std.specs.Prelude.{ℕ, ◌+◌, ◌*◌, ◌≡◌, ◌≢◌, ◌<◌, ◌≤◌, ◌⊎◌, List, Bool, true, false}
 use Rattle.dg_base.specs.declared.run.Ending.TheVariants.{StepLimit}
 use Rattle.dg_base.specs.declared.run.Limits.{Limits}
 use Rattle.dg_base.specs.Sound.{IsSound}
 use Rattle.dg_meaning.specs.World.{Game}
 use Rattle.dg_meaning.specs.Transcript.{run}
 use Rattle.dg_meaning.specs.Shows.{MayBegin}
+use Rattle.dg_meaning.specs.Sets.{is_in_set}
+use Rattle.dg_single.specs.Singles.{IsClosed}
 use Rattle.dg_mid.specs.declared.code.Code.{Code}
-use Rattle.dg_mid.specs.State.{Status, Ended}
+use Rattle.dg_mid.specs.State.{Mid, Status, Runs, Ended}
 use Rattle.dg_mid.specs.Step.{Setting, setting, step, takes_goal}
 use Rattle.dg_mid.specs.Code.{block_at}
 use Rattle.dg_mid.specs.Codes.{Codes}
@@ -16,6 +18,7 @@ use Rattle.dg_mid.specs.Heights.{StatusOrdered}
 use Rattle.dg_mid.specs.Trails.{StatusTrailed}
 use Rattle.dg_mid.specs.Calls.{AllHoldFew, StatusCuts, StatusFits}
 use Rattle.dg_mid.specs.Seeking.{OpsLeave, StatusSeeks}
+use Rattle.dg_mid.specs.Singles.{IsAnswered, choices_in}
 use Rattle.dg_mid.specs.Falling.{left_at}
 use Rattle.dg_mid.specs.Potential.{Tidy, IsOver}
 
@@ -58,6 +61,14 @@ CallsFit = (g : Game) (code : Code) (limits : Limits) → Codes g.program code �
 abbrev pub ObjectsTried : Type 0
 ObjectsTried = (s : Setting) → ((b : ℕ) → OpsLeave s.code (block_at s.code b)) → (typed : List ℕ) (k : ℕ) →
     StatusSeeks s.game s.code (after s typed k).now
+
+-- In every run of code that stands for a program, a query of a predicate of a set that its rules fit leaves the choices as they were, once it is
+-- answered.
+abbrev pub SinglesLeaveNone : Type 0
+SinglesLeaveNone = (g : Game) (code : Code) (limits : Limits) → Codes g.program code → (set : List Bool) → IsClosed g.program.preds set →
+    (typed : List ℕ) (k pred : ℕ) (m : Mid) (steps : ℕ) (answer : Mid) → is_in_set set pred ≡ true →
+    (after (setting g code limits) typed k).now ≡ Runs m → IsAnswered (setting g code limits) pred m steps answer →
+    choices_in (step (setting g code limits) (Runs answer)) ≡ m.choices
 
 -- In tidy code a number falls at each step that takes no goal, until the run has ended.
 abbrev pub Falls : Type 0

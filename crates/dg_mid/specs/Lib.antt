@@ -13,6 +13,7 @@ pub mod Stops
 pub mod Trails
 pub mod Calls
 pub mod Seeking
+pub mod Singles
 pub mod Falling
 pub mod Potential
 pub mod Laws

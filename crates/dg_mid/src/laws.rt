@@ -1,6 +1,6 @@
 // What holds of all register code.
 ghost use Rattle.dg_mid.specs.Laws.{CallsCut, CallsFit, CodeShows, CodeShowsFaults, CostsItsWork, Falls, HeightsOrder, LooksItsWork};
-ghost use Rattle.dg_mid.specs.Laws.{MovesOn, NoStepLimit, ObjectsTried, RunsAsSearched, TrailsOrder};
+ghost use Rattle.dg_mid.specs.Laws.{MovesOn, NoStepLimit, ObjectsTried, RunsAsSearched, SinglesLeaveNone, TrailsOrder};
 
 /// Every run of code that stands for a program is a run of its search.
 pub fn code_runs_as_searched()
@@ -45,6 +45,11 @@ pub fn runs_meet_no_step_limit()
 /// Objects are tried where they may be found, and where one answer is wanted an inner construct is left then.
 pub fn objects_are_tried_where_they_may_be()
     ensures { ObjectsTried }
+{}
+
+/// A query of a single predicate leaves no choice open behind its answer.
+pub fn singles_leave_no_choice()
+    ensures { SinglesLeaveNone }
 {}
 
 /// A number falls at each step of tidy code that takes no goal, so the next goal or the end comes.
