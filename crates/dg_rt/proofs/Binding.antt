@@ -1,6 +1,6 @@
 -- The routine that binds a variable does so.
-use Rattle.std.proofs.Common.{◌≡◌, ◌≢◌, ℕ, suc, ◌+◌, ◌%◌, ◌<◌, ◌≤◌, inl, inr, Bool, true, false, List, [], ◌∷◌, ◌++◌, drop, Some, None, refl, sym, ap, ◌∙◌, subst, arith}
-use Rattle.std.specs.Prelude.{◌==◌, slice_set, ◌/◌, eqb, nat_lt}
+use Rattle.std.proofs.Common.{◌≡◌, ◌≢◌, ℕ, suc, ◌+◌, ◌<◌, ◌≤◌, inl, inr, Bool, true, false, List, [], ◌∷◌, ◌++◌, drop, Some, None, refl, sym, ap, ◌∙◌, subst, arith}
+use Rattle.std.specs.Prelude.{◌==◌, eqb, nat_lt}
 use Rattle.std.proofs.lemmas.Bool.{eq-eqb, ne_eqb, cases_eq, ltb-true, ltb-false, cond-true, cond-false}
 use Rattle.z_lang.specs.declared.act.Atom.TheVariants as atoms
 use Rattle.z_lang.specs.declared.act.Function.TheVariants as functions
@@ -28,7 +28,7 @@ use Rattle.dg_meaning.specs.Values.{Value}
 use Rattle.dg_meaning.specs.Substitutions.{Substitution}
 use Rattle.dg_meaning.specs.inside.Substitutions.{FitsFront}
 use Rattle.dg_meaning.specs.inside.Unifiers.{binding_of}
-use Rattle.dg_rt.proofs.Rules.{word, tested, computes, writes, trail_register, put_trail}
+use Rattle.dg_rt.proofs.Following.{word, tested, computes, writes, trail_register, put_trail}
 use Rattle.dg_rt.proofs.Locals.{get_1, get_2, older, not_older}
 use Rattle.dg_meaning.proofs.LookUps.{unbound_none}
 use Rattle.dg_rt.proofs.Backs.{grown_none, trail_stays, back_grown, back_bound, back_young}

@@ -1,8 +1,6 @@
 -- Capturing values: acts, labels and locals.
-use Rattle.std.proofs.Common.{◌≡◌, ◌≢◌, ℕ, zero, suc, ◌+◌, ◌-◌, ◌*◌, ◌/◌, ◌%◌, ◌<◌, ◌≤◌, inl, inr, true, false, List, [], ◌∷◌, ◌++◌, drop, length, Option, Some, refl, sym, ap, ◌∙◌, subst, arith}
-use Rattle.std.specs.Prelude.{get_or}
-use Rattle.std.specs.Int.RustNames.{int_div, int_rem}
-use Rattle.std.proofs.lemmas.Bool.{lt-ltb, ne_eqb, cases_lt}
+use Rattle.std.proofs.Common.{◌≡◌, ℕ, suc, ◌+◌, ◌*◌, ◌/◌, ◌%◌, ◌<◌, ◌≤◌, true, false, List, [], ◌∷◌, Some, refl, ap, arith}
+use Rattle.std.proofs.lemmas.Bool.{lt-ltb, ne_eqb}
 use Rattle.z_model.specs.Numbers.{quotient, remainder}
 use Rattle.z_lang.specs.declared.act.Act.{Act}
 use Rattle.z_lang.specs.declared.act.Act.TheVariants as acts
@@ -13,21 +11,12 @@ use Rattle.z_lang.specs.declared.act.Comparison.TheVariants as comparisons
 use Rattle.z_lang.specs.declared.act.Width.TheVariants as widths
 use Rattle.z_lang.specs.State.{State, Program, variable, value, put, with_local}
 use Rattle.z_lang.specs.Acts.{computed}
-use Rattle.z_lang.specs.Runs.{ActsRun as Runs, ActsOutcome, Returns, at_label, goes, taken, passed, done, returns, behind_label}
+use Rattle.z_lang.specs.Runs.{behind_label}
 use Rattle.dg_meaning.specs.Values.{Value, Nil, leaf}
 use Rattle.dg_rt.specs.declared.frames.TheConstants.{CAPTURE_ACTS}
-use Rattle.dg_rt.specs.Cells.{at_cell, with_cell, replaced, Holds}
-use Rattle.dg_rt.specs.Areas.{heap_at, IsMapped, state}
-use Rattle.dg_rt.specs.Shapes.{Shape, IsFixed, Cell, Shows, nil}
-use Rattle.dg_rt.specs.Back.{at_place}
-use Rattle.dg_rt.specs.RunTime.{HasRunTime}
-use Rattle.dg_rt.specs.Frames.{ClosureIn, Captured, HasVars, VarsAt, six_numbers, HoldVars, Captures, CaptureWorks}
-use Rattle.dg_rt.specs.inside.Walks.{steps}
-use Rattle.dg_rt.proofs.Cells.{holds_with, reads_cell, writes_cell, other_cell, same_cell}
-use Rattle.dg_rt.proofs.Rules.{word, some_state, tested, computes, copies, writes, register, puts}
-use Rattle.dg_rt.proofs.Locals.{less_by, not_less_by, adds, subtracts}
-use Rattle.dg_rt.proofs.UnifySteps.{steps_are}
-use Rattle.dg_rt.proofs.Variables.{in_cells, in_row, in_front, behind, none_there}
+use Rattle.dg_rt.specs.Areas.{state}
+use Rattle.dg_rt.specs.Shapes.{Shape, Cell, Shows}
+use Rattle.dg_rt.proofs.Following.{word, some_state}
 
 -- ## Words
 

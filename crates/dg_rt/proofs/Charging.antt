@@ -1,5 +1,5 @@
 -- The routine that takes cells of the heap does so.
-use Rattle.std.proofs.Common.{◌≡◌, ◌≢◌, ℕ, suc, ◌+◌, ◌<◌, ◌≤◌, true, false, List, [], ◌∷◌, ◌++◌, drop, None, refl, ap, ◌∙◌, subst, arith}
+use Rattle.std.proofs.Common.{◌≡◌, ℕ, suc, ◌+◌, ◌<◌, ◌≤◌, true, false, List, [], ◌∷◌, ◌++◌, drop, None, refl, ◌∙◌, subst, arith}
 use Rattle.dg_base.specs.declared.run.Ending.TheVariants.{HeapLimit}
 use Rattle.z_model.specs.declared.end.Halt.TheVariants.{AtQuit}
 use Rattle.z_lang.specs.declared.act.Act.{Act}
@@ -14,12 +14,12 @@ use Rattle.dg_rt.specs.declared.numbers.TheConstants.{HEAP_LIMIT}
 use Rattle.dg_rt.specs.declared.heap.TheConstants.{CHARGE_ACTS}
 use Rattle.dg_rt.specs.declared.closings.TheConstants.{HEAP_LIMIT_ACTS}
 use Rattle.dg_rt.specs.Cells.{with_cell, replaced, Holds}
-use Rattle.dg_rt.specs.Areas.{heap_reg, term_reg, last_reg, state}
+use Rattle.dg_rt.specs.Areas.{heap_reg, last_reg, state}
 use Rattle.dg_rt.specs.RunTime.{routine_of, HasRunTime}
 use Rattle.dg_rt.specs.Closings.{closing, closing_most}
 use Rattle.dg_rt.specs.Charges.{MeetsLimit, Charged, ChargeWorks}
 use Rattle.dg_rt.proofs.Cells.{other_cell, same_cell}
-use Rattle.dg_rt.proofs.Rules.{word, tested, computes, copies, register, puts, local_1, put_1}
+use Rattle.dg_rt.proofs.Following.{tested, computes, copies, register, puts, local_1, put_1}
 use Rattle.dg_rt.proofs.Locals.{adds, more_by, not_more_by}
 use Rattle.dg_rt.proofs.Standing.{heap_limit_at}
 use Rattle.dg_rt.proofs.Closing.{closings_work}

@@ -1,6 +1,6 @@
 -- The routines that end a run do so.
-use Rattle.std.proofs.Common.{◌≡◌, ◌≢◌, ℕ, suc, ◌+◌, ◌<◌, ◌≤◌, inl, inr, Bool, true, false, List, [], ◌∷◌, ◌++◌, length, map, Some, refl, sym, ap, ◌∙◌, subst, arith, append_assoc}
-use Rattle.std.specs.Prelude.{◌==◌, ◌&&◌, nat_lt, if◌then◌else◌, None, codes}
+use Rattle.std.proofs.Common.{◌≡◌, ◌≢◌, ℕ, suc, ◌+◌, ◌<◌, ◌≤◌, inl, inr, Bool, true, false, List, [], ◌∷◌, ◌++◌, length, map, refl, sym, ap, subst, arith, append_assoc}
+use Rattle.std.specs.Prelude.{◌&&◌, nat_lt, None, codes}
 use Rattle.std.proofs.lemmas.Bool.{eq-eqb, ne_eqb, lt-ltb, ltb-true, cases_eq, and_parts}
 use Rattle.std.proofs.lemmas.List.{append-nil}
 use Rattle.std.proofs.Math.Utf8.{encode}
@@ -16,16 +16,16 @@ use Rattle.z_lang.specs.declared.act.Atom.TheVariants as atoms
 use Rattle.z_lang.specs.declared.act.Comparison.TheVariants as comparisons
 use Rattle.z_lang.specs.declared.act.Print.TheVariants as prints
 use Rattle.z_lang.specs.State.{State, Program, value}
-use Rattle.z_lang.specs.Acts.{print_output, with_output}
-use Rattle.z_lang.specs.Runs.{ActsRun as Runs, ActsOutcome, Returns, Stops, at_label, taken, passed, done, calls, returns, quits, behind_label}
+use Rattle.z_lang.specs.Acts.{print_output}
+use Rattle.z_lang.specs.Runs.{ActsRun as Runs, Returns, Stops, at_label, taken, passed, done, calls, returns, quits, behind_label}
 use Rattle.dg_rt.specs.declared.numbers.TheConstants.{NEWLINE}
-use Rattle.dg_rt.specs.declared.closings.TheConstants.{NEWLINE_ACTS, DONE_ACTS, FAILED_ACTS, STOPPED_ACTS, HEAP_LIMIT_ACTS, TRAIL_LIMIT_ACTS, AUX_LIMIT_ACTS, KEEP_LIMIT_ACTS}
+use Rattle.dg_rt.specs.declared.closings.TheConstants.{NEWLINE_ACTS, DONE_ACTS, TRAIL_LIMIT_ACTS}
 use Rattle.dg_rt.specs.Cells.{Holds}
 use Rattle.dg_rt.specs.Areas.{last_reg, state}
 use Rattle.dg_rt.specs.RunTime.{routine_of, HasRunTime}
 use Rattle.dg_rt.specs.Closings.{closing, Closes, EndsRuns, ClosingsWork}
 use Rattle.dg_rt.proofs.Cells.{some_list}
-use Rattle.dg_rt.proofs.Rules.{word, tested, register, says}
+use Rattle.dg_rt.proofs.Following.{word, tested, register, says}
 use Rattle.dg_rt.proofs.Standing.{newline_at}
 
 -- ## Letters

@@ -1,49 +1,35 @@
 -- The routine that copies a value out of the heap does so.
-use Rattle.std.proofs.Common.{◌≡◌, ℕ, zero, suc, ◌+◌, ◌*◌, ◌%◌, ◌<◌, ◌≤◌, inl, inr, Bool, true, false, List, [], ◌∷◌, ◌++◌, drop, map, length, Some, refl, sym, ap, ◌∙◌, subst, arith, length-append, append-nil}
-use Rattle.std.specs.Prelude.{◌==◌}
-use Rattle.std.proofs.lemmas.Bool.{eq-eqb, ne_eqb, cases_lt, cond-true, cond-false}
-use Rattle.std.proofs.lemmas.List.{map-append}
-use Rattle.z_lang.specs.declared.act.Act.{Act}
-use Rattle.z_lang.specs.declared.act.Act.TheVariants as acts
-use Rattle.z_lang.specs.declared.act.Args.TheVariants as args
-use Rattle.z_lang.specs.declared.act.Atom.TheVariants as atoms
-use Rattle.z_lang.specs.declared.act.Function.TheVariants as functions
+use Rattle.std.proofs.Common.{◌≡◌, ℕ, zero, suc, ◌+◌, ◌*◌, ◌<◌, ◌≤◌, true, false, List, [], ◌∷◌, ◌++◌, drop, map, length, Some, refl, sym, ap, ◌∙◌, subst, arith, append-nil}
+use Rattle.std.proofs.lemmas.Bool.{eq-eqb, ne_eqb}
 use Rattle.z_lang.specs.declared.act.Comparison.TheVariants as comparisons
-use Rattle.z_lang.specs.declared.act.Width.TheVariants as widths
-use Rattle.z_model.specs.declared.story.Layout.{Layout}
 use Rattle.z_lang.specs.State.{State, Program}
-use Rattle.z_lang.specs.Acts.{answer_of, computed, does}
-use Rattle.z_lang.specs.Runs.{ActsRun as Runs, Returns, at_label, goes, taken, passed, done, calls, returns, behind_label}
+use Rattle.z_lang.specs.Runs.{at_label, goes, taken, passed, done, calls, returns, behind_label}
 use Rattle.dg_base.specs.declared.cells.Cell.TheVariants as cell
 use Rattle.dg_meaning.specs.Values.{Label, Pair, Closure, Unknown, Value, Var, Node, Values, NoMore, More, pair, leaf}
-use Rattle.dg_meaning.specs.ValueCells.{count_of, cells_of, cells_of_all}
+use Rattle.dg_meaning.specs.ValueCells.{count_of}
 use Rattle.dg_meaning.specs.Letters.{letters_at, letters_in, letters_in_all}
 use Rattle.dg_meaning.specs.Substitutions.{Substitution, walk, links, resolved, contains, any_contains}
 use Rattle.dg_meaning.specs.inside.Substitutions.{all_resolved, IsSubstitution}
-use Rattle.dg_meaning.specs.Unify.{looked, all_looked, looks, size}
+use Rattle.dg_meaning.specs.Unify.{looks, size}
 use Rattle.dg_meaning.proofs.Walks.{walked, resolved_node, resolved_unbound, or_left, or_right}
 use Rattle.dg_meaning.proofs.LookUps.{walk_node}
-use Rattle.dg_rt.proofs.Standing.{walk_at, copy_out_at}
-use Rattle.dg_rt.specs.declared.numbers.TheConstants.{COPY_OUT}
+use Rattle.dg_rt.proofs.Standing.{walk_at}
 use Rattle.dg_rt.specs.declared.unify.TheConstants.{WALK_ACTS}
 use Rattle.dg_rt.specs.declared.copies.TheConstants.{COPY_OUT_ACTS}
-use Rattle.dg_rt.specs.Cells.{compared, at_cell, with_cell, replaced, Holds}
+use Rattle.dg_rt.specs.Cells.{compared, at_cell}
 use Rattle.dg_rt.specs.Areas.{heap_at, state}
-use Rattle.dg_rt.specs.Shapes.{Shape, IsShape, Cell, Letters, Shows, number, dict, object, nil, boxed, Filled, pair_in, closure_in, word_in, AllShow, one_more, Stands}
+use Rattle.dg_rt.specs.Shapes.{Shape, IsShape, Cell, Letters, Shows, number, dict, object, nil, boxed, Filled, pair_in, closure_in, word_in, AllShow, one_more}
 use Rattle.dg_rt.specs.RunTime.{HasRunTime}
-use Rattle.dg_rt.specs.Copies.{cell_word, words_of, Row, Copies, in_area, past_it, CopiesOut}
+use Rattle.dg_rt.specs.Copies.{cell_word, words_of, CopiesOut}
 use Rattle.dg_rt.specs.inside.Walks.{ending, Walks, steps}
 use Rattle.dg_rt.specs.inside.Depth.{Smaller, AllSmaller, Below, on_top, under}
-use Rattle.dg_rt.proofs.Rules.{word, some_state, tested, computes, copies, writes}
-use Rattle.dg_rt.proofs.Locals.{first, second, third, fourth, fifth, put_first, put_second, put_fourth, put_fifth, reference, boxed_is_negative, simple_is_positive, high_is_negative, added}
-use Rattle.dg_rt.proofs.Cells.{holds_with, reads_cell, writes_cell}
+use Rattle.dg_rt.proofs.Locals.{first, second, put_first, reference, boxed_is_negative, simple_is_positive, high_is_negative}
 use Rattle.dg_rt.proofs.Showing.{node_word, variable_word, all_low, letters_low}
 use Rattle.dg_rt.proofs.Depth.{below_smaller, below_walk, parts_smaller, levels}
 use Rattle.dg_rt.proofs.Walking.{walk_works}
-use Rattle.dg_rt.proofs.Containing.{looked_found}
-use Rattle.dg_rt.proofs.Looks.{then_on, links_some}
+use Rattle.dg_rt.proofs.Looks.{links_some}
 use Rattle.dg_rt.proofs.UnifySteps.{steps_are}
-use Rattle.dg_rt.proofs.CopySteps.{CopyingOut, copies_map, behind, Spot, chars_are, labelled, lim, at, Run, Out, longer, first_less, fourth_less, fourth_zero, first_fifth, first_fourth, read_1, read_4, read_5, next_1, sum_5, end_5, end_4, half_4, own_5, set_5, field, emits, ends_here, called, seen, row, rows, price_of, price_all, Absent, AllAbsent, rows_more, seen_more, resolved_walked, seen_node, resolved_as}
+use Rattle.dg_rt.proofs.CopySteps.{CopyingOut, copies_map, Spot, chars_are, labelled, lim, at, Run, Out, longer, first_less, fourth_less, fourth_zero, first_fifth, first_fourth, read_1, read_4, read_5, next_1, sum_5, end_5, end_4, half_4, own_5, set_5, field, emits, ends_here, called, seen, row, rows, price_of, price_all, Absent, AllAbsent, rows_more, seen_more, resolved_walked, seen_node, resolved_as}
 
 module _ (io : CopyingOut) where
   open io use {p, has, sh, is, typed, output, drawn, S, s, n, end, room, small}

@@ -1,20 +1,20 @@
 -- The routine that drops choices does so.
 use Rattle.std.proofs.Common.{◌≡◌, ◌≢◌, ℕ, suc, ◌+◌, ◌*◌, ◌<◌, ◌≤◌, inl, inr, true, false, List, [], ◌∷◌, drop, refl, sym, ap, ◌∙◌, subst, arith}
-use Rattle.std.specs.Prelude.{◌==◌, nat_lt}
+use Rattle.std.specs.Prelude.{nat_lt}
 use Rattle.std.proofs.lemmas.Bool.{ne_eqb, cases_lt, lt-ltb, le-ltb, cond-true, cond-false}
-use Rattle.z_lang.specs.declared.act.Act.{Act}
 use Rattle.z_lang.specs.declared.act.Atom.TheVariants as atoms
 use Rattle.z_lang.specs.declared.act.Function.TheVariants as functions
 use Rattle.z_lang.specs.declared.act.Comparison.TheVariants as comparisons
-use Rattle.z_lang.specs.State.{State, Program}
-use Rattle.z_lang.specs.Runs.{ActsRun as Runs, Returns, at_label, goes, taken, passed, done, returns, behind_label}
+use Rattle.z_lang.specs.State.{State, Program, value}
+use Rattle.z_lang.specs.Runs.{ActsRun as Runs, Returns, at_label, goes, taken, passed, done, calls, returns, behind_label}
 use Rattle.dg_rt.specs.declared.choices.TheConstants.{CUT_ACTS}
 use Rattle.dg_rt.specs.Cells.{with_cell, replaced, Holds}
-use Rattle.dg_rt.specs.Areas.{heap_at, choice_reg, IsMapped, state}
+use Rattle.dg_rt.specs.Areas.{heap_at, IsMapped, state}
 use Rattle.dg_rt.specs.Back.{at_place}
-use Rattle.dg_rt.specs.Choices.{Chain, left_of, dropped_of, Cuts, CutWorks}
+use Rattle.dg_rt.specs.Choices.{Chain, left_of, dropped_of, CutWorks, CommitWorks}
 use Rattle.dg_rt.proofs.Cells.{reads_cell, other_cell, same_cell}
-use Rattle.dg_rt.proofs.Rules.{word, tested, computes, register, puts, local_1}
+use Rattle.dg_rt.proofs.Following.{word, tested, computes, copies, register, puts, local_1, put_1}
+use Rattle.dg_rt.proofs.Standing.{cut_at}
 use Rattle.dg_rt.proofs.Locals.{older, not_older}
 
 -- choices stay where the heap does
@@ -100,3 +100,34 @@ pub cut_works : CutWorks
 cut_works p map f w memory typed output drawn at small cells h ks chain =
     let r = loops p map f w typed output drawn at small ks memory cells h chain in
     record { memory' = r.memory'; cells' = r.cells'; holds = r.holds; chain = r.chain; others = r.others; count = r.count; few = r.few; runs = at_label r.runs }
+
+-- ## Inner constructs
+
+pub commit_works : CommitWorks
+commit_works p has f w some enough memory typed output drawn at fits cells h here ks chain =
+    let room = has.mapped.room in
+    let st : List ℕ → ℕ → State = λ m x. state m (x ∷ []) typed drawn output in
+    let v = at_place at in
+    let around = cells (heap_at + (at + 3)) in
+    let inner_is : (x : ℕ) → value p (st memory x) (atoms.Var 22) ≡ word v = λ x. register p (st memory x) cells 22 h (omega arith) (omega arith) (omega arith) ∙ ap word here in
+    let put = puts p (st memory v) cells 22 around h (omega arith) (omega arith) (omega arith) (h.words (heap_at + (at + 3))) in
+    let m1 = with_cell memory 6 around in
+    let c1 = replaced cells 6 around in
+    let apart : (j : ℕ) → j ≢ 6 → c1 j ≡ cells j = λ j ne. other_cell cells 6 around j ne in
+    let chain1 = subst (λ (x : ℕ). Chain c1 x ks) (sym (apart 5 (λ e. (omega arith)))) (chain_same cells c1 (cells 5) ks (λ j. apart (heap_at + j) (λ e. (omega arith))) chain) in
+    let r = cut_works p has.mapped 0 0 m1 typed output drawn at (omega arith) c1 put.holds ks chain1 in
+    let few' = r.few in
+    record {
+      memory' = r.memory';
+      cells' = r.cells';
+      holds = r.holds;
+      inner = r.others 6 (λ e. (omega arith)) ∙ same_cell cells 6 around;
+      chain = r.chain;
+      others = λ j no5 no6. r.others j no5 ∙ apart j no6;
+      count = suc (suc (suc r.count + 1));
+      few = omega arith;
+      runs = done (copies p (st memory 0) (st memory v) 1 (atoms.Var 22) v (inner_is 0) (put_1 p memory 0 v [] typed drawn output))
+          (done (computes p (st memory v) (st m1 v) 22 functions.Word (atoms.Num 676) (atoms.Var 1) 676 v around refl (local_1 p memory v [] typed drawn output) (reads_cell p.world.layout memory cells 676 v (heap_at + (at + 3)) h (omega arith) (omega arith)) put.put_is)
+          (calls {f' = 0} {w' = 0} {n = r.count} {n' = 1} {xs = (v, 0, 0)} refl (rw (local_1 p m1 v [] typed drawn output) refl) (cut_at p has) some (omega arith) r.runs refl
+          (returns refl)));
+    }

@@ -1,26 +1,23 @@
 -- A rule is entered: its frame is made, with its variables.
-use Rattle.std.proofs.Common.{◌≡◌, ◌≢◌, ℕ, zero, suc, ◌+◌, ◌-◌, ◌*◌, ◌%◌, ◌<◌, ◌≤◌, true, false, List, [], ◌∷◌, ◌++◌, drop, refl, sym, ap, ◌∙◌, subst, arith}
+use Rattle.std.proofs.Common.{◌≡◌, ◌≢◌, ℕ, zero, suc, ◌+◌, ◌-◌, ◌*◌, ◌%◌, ◌<◌, ◌≤◌, true, false, List, [], ◌∷◌, drop, refl, sym, ap, ◌∙◌, subst, arith}
 use Rattle.std.proofs.lemmas.Bool.{eq-eqb, ne_eqb}
-use Rattle.dg_base.specs.declared.run.Ending.TheVariants.{HeapLimit}
-use Rattle.z_model.specs.declared.end.Halt.TheVariants.{AtQuit}
 use Rattle.z_lang.specs.declared.act.Act.TheVariants as acts
 use Rattle.z_lang.specs.declared.act.Atom.TheVariants as atoms
 use Rattle.z_lang.specs.declared.act.Function.TheVariants as functions
 use Rattle.z_lang.specs.declared.act.Comparison.TheVariants as comparisons
 use Rattle.z_lang.specs.declared.act.Width.TheVariants as widths
 use Rattle.z_lang.specs.State.{State, Program, value}
-use Rattle.z_lang.specs.Runs.{ActsRun as Runs, Returns, Stops, at_label, goes, taken, passed, done, returns, behind_label}
+use Rattle.z_lang.specs.Runs.{ActsRun as Runs, Returns, at_label, goes, taken, passed, done, returns, behind_label}
 use Rattle.dg_rt.specs.declared.frames.TheConstants.{ENTER_ACTS}
 use Rattle.dg_rt.specs.Cells.{at_cell, with_cell, replaced, Holds}
 use Rattle.dg_rt.specs.Areas.{heap_at, trail_at, last_reg, state}
 use Rattle.dg_rt.specs.Back.{at_place}
 use Rattle.dg_rt.specs.RunTime.{HasRunTime}
-use Rattle.dg_rt.specs.Closings.{closing}
 use Rattle.dg_rt.specs.Charges.{MeetsLimit}
 use Rattle.dg_rt.specs.Frames.{Enters, EnterWorks}
 use Rattle.dg_rt.specs.inside.Walks.{steps}
 use Rattle.dg_rt.proofs.Cells.{holds_with, writes_cell, other_cell, same_cell}
-use Rattle.dg_rt.proofs.Rules.{word as word_is, tested, computes, copies, writes, register, puts}
+use Rattle.dg_rt.proofs.Following.{word as word_is, tested, computes, copies, writes, register, puts}
 use Rattle.dg_rt.proofs.Locals.{get_1, get_2, get_3, set_1, set_2, set_3, adds, more_by, not_more_by}
 use Rattle.dg_rt.proofs.Charging.{quits_full}
 use Rattle.dg_rt.proofs.Rows.{put_row}

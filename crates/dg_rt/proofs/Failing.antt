@@ -1,27 +1,27 @@
 -- The routine that goes back to the newest choice does so.
-use Rattle.std.proofs.Common.{◌≡◌, ◌≢◌, ℕ, zero, suc, ◌+◌, ◌-◌, ◌*◌, ◌<◌, ◌≤◌, true, false, List, [], ◌∷◌, ◌++◌, drop, length, refl, sym, ap, ◌∙◌, subst, arith, length-append}
+use Rattle.std.proofs.Common.{◌≡◌, ◌≢◌, ℕ, zero, suc, ◌+◌, ◌-◌, ◌<◌, ◌≤◌, true, false, List, [], ◌∷◌, ◌++◌, drop, length, refl, ap, ◌∙◌, subst, arith, length-append}
 use Rattle.std.proofs.lemmas.Bool.{ne_eqb}
 use Rattle.z_lang.specs.declared.act.Atom.TheVariants as atoms
 use Rattle.z_lang.specs.declared.act.Function.TheVariants as functions
 use Rattle.z_lang.specs.declared.act.Comparison.TheVariants as comparisons
 use Rattle.z_lang.specs.State.{State, Program, value}
-use Rattle.z_lang.specs.Runs.{ActsRun as Runs, ActsOutcome, Returns, taken, passed, done, calls, returns, behind_label}
+use Rattle.z_lang.specs.Runs.{ActsRun as Runs, Returns, taken, passed, done, calls, returns, behind_label}
 use Rattle.dg_rt.specs.declared.numbers.TheConstants.{FAILED}
 use Rattle.dg_rt.specs.declared.choices.TheConstants.{FAIL_ACTS}
-use Rattle.dg_rt.specs.Cells.{at_cell, with_cell, replaced, Holds}
+use Rattle.dg_rt.specs.Cells.{with_cell, replaced, Holds}
 use Rattle.dg_rt.specs.Areas.{heap_at, trail_at, args_reg, IsMapped, state}
-use Rattle.dg_rt.specs.Back.{at_place, undone, OnTrail}
+use Rattle.dg_rt.specs.Back.{at_place, OnTrail}
 use Rattle.dg_rt.specs.RunTime.{HasRunTime}
 use Rattle.dg_rt.specs.Undoes.{InHeap}
 use Rattle.dg_rt.specs.Choices.{GoesBack, FailWorks}
 use Rattle.dg_rt.specs.inside.Walks.{steps}
 use Rattle.dg_rt.proofs.Backs.{undone_same, trail_stays}
 use Rattle.dg_rt.proofs.Cells.{reads_cell, other_cell, same_cell}
-use Rattle.dg_rt.proofs.Rules.{word, tested, computes, copies, register, puts}
+use Rattle.dg_rt.proofs.Following.{word, tested, computes, copies, register, puts}
 use Rattle.dg_rt.proofs.Locals.{get_1, get_2, get_3, set_1, set_2, set_3, subtracts}
 use Rattle.dg_rt.proofs.Standing.{undo_at}
 use Rattle.dg_rt.proofs.Unwinding.{undo_works}
-use Rattle.dg_rt.proofs.Loading.{Ascend, AreLoaded, loaded_same, loaded_behind, loads}
+use Rattle.dg_rt.proofs.Loading.{Ascend, AreLoaded, loaded_same, loads}
 
 in_heap : (cells : ℕ → ℕ) (xs ys : List ℕ) → OnTrail cells (xs ++ ys) → InHeap xs
 in_heap cells [] ys h = tt

@@ -1,42 +1,30 @@
 -- Laying a copy of a pair and of a closure on the heap.
-use Rattle.std.proofs.Common.{◌≡◌, ◌≢◌, ℕ, zero, suc, ◌+◌, ◌*◌, ◌%◌, ◌<◌, ◌≤◌, Bool, true, false, List, [], ◌∷◌, ◌++◌, drop, map, length, Some, None, refl, sym, ap, ◌∙◌, subst, arith, length-append, append-nil}
-use Rattle.std.specs.Prelude.{◌==◌, slice_set, ◌/◌}
-use Rattle.std.proofs.lemmas.Bool.{eq-eqb, ne_eqb, cond-true, cond-false}
+use Rattle.std.proofs.Common.{◌≡◌, ◌≢◌, ℕ, suc, ◌+◌, ◌*◌, ◌%◌, ◌<◌, ◌≤◌, Bool, true, false, List, [], ◌∷◌, ◌++◌, drop, map, length, Some, refl, sym, ap, ◌∙◌, subst, arith, length-append, append-nil}
+use Rattle.std.specs.Prelude.{◌==◌}
+use Rattle.std.proofs.lemmas.Bool.{eq-eqb, ne_eqb}
 use Rattle.std.proofs.lemmas.List.{map-append}
-use Rattle.z_lang.specs.declared.act.Act.{Act}
 use Rattle.z_lang.specs.declared.act.Act.TheVariants as acts
-use Rattle.z_lang.specs.declared.act.Atom.{Atom}
 use Rattle.z_lang.specs.declared.act.Atom.TheVariants as atoms
 use Rattle.z_lang.specs.declared.act.Function.TheVariants as functions
 use Rattle.z_lang.specs.declared.act.Comparison.TheVariants as comparisons
-use Rattle.z_lang.specs.declared.act.Width.TheVariants as widths
-use Rattle.z_lang.specs.State.{State, Program, value}
-use Rattle.z_lang.specs.Acts.{answer_of, computed, does}
-use Rattle.z_lang.specs.Runs.{ActsRun as Runs, Returns, at_label, goes, taken, passed, done, calls, returns, behind_label}
-use Rattle.z_lang.specs.Standing.{IsKept}
-use Rattle.dg_base.specs.declared.cells.Cell.TheVariants as cell
-use Rattle.dg_meaning.specs.Values.{Label, Num, Word, Object, Nil, Pair, Closure, Unknown, Value, Var, Node, Values, NoMore, More, pair, leaf}
+use Rattle.z_lang.specs.State.{State}
+use Rattle.z_lang.specs.Acts.{answer_of, does}
+use Rattle.z_lang.specs.Runs.{at_label, goes, taken, passed, done, calls, returns, behind_label}
+use Rattle.dg_meaning.specs.Values.{Closure, Value, Node, Values, NoMore, More, pair}
 use Rattle.dg_meaning.specs.ValueCells.{count_of, cells_of, cells_of_all}
 use Rattle.dg_meaning.specs.Copies.{copy_cells, all_copy_cells}
-use Rattle.dg_meaning.specs.Letters.{letters_in, letters_in_all}
-use Rattle.dg_meaning.specs.Unify.{size, sizes}
+use Rattle.dg_meaning.specs.Letters.{letters_in_all}
+use Rattle.dg_meaning.specs.Unify.{sizes}
 use Rattle.dg_rt.proofs.Standing.{copy_in_at}
 use Rattle.dg_rt.specs.declared.copies.TheConstants.{COPY_IN_ACTS}
-use Rattle.dg_rt.specs.Cells.{compared, at_cell, with_cell, replaced, Holds}
-use Rattle.dg_rt.specs.Areas.{heap_at, state}
-use Rattle.dg_rt.specs.Shapes.{Shape, IsShape, Stands}
-use Rattle.dg_rt.specs.Laying.{FormedAs, Formed, AllFormed, copy_word, WordsLie, LettersLie, BoxLies, Lies, AllLie}
-use Rattle.dg_rt.specs.Copies.{cell_word, words_of, Row}
-use Rattle.dg_rt.specs.CopiesIn.{HasCaptures, Reading, CopiesIn, CopiedIn}
+use Rattle.dg_rt.specs.Cells.{at_cell}
+use Rattle.dg_rt.specs.Areas.{heap_at}
+use Rattle.dg_rt.specs.Laying.{Formed, copy_word, WordsLie, AllLie}
+use Rattle.dg_rt.specs.Copies.{cell_word, words_of}
+use Rattle.dg_rt.specs.CopiesIn.{CopiesIn}
 use Rattle.dg_rt.specs.inside.Walks.{steps}
-use Rattle.dg_meaning.specs.Substitutions.{Substitution}
-use Rattle.dg_meaning.specs.inside.Unifiers.{binding_of}
-use Rattle.dg_rt.proofs.Rules.{word, some_state, tested, computes, copies, writes, register, put_register}
-use Rattle.dg_rt.proofs.Locals.{first, second, third, fourth, fifth, put_first, put_second, put_third, put_fourth, put_fifth, reference, reference_is_negative, boxed_no_reference, boxed_is_negative, simple_is_positive, added}
-use Rattle.dg_rt.proofs.Cells.{holds_with, reads_cell, writes_cell}
-use Rattle.std.proofs.lemmas.List.{drop-set-lt}
-use Rattle.dg_rt.proofs.CopySteps.{chars_are}
-use Rattle.dg_rt.proofs.Laying.{copied, copied_grown, copied_low, copied_shape, copied_stands, copied_shows}
+use Rattle.dg_rt.proofs.Following.{word, some_state, tested, computes, copies}
+use Rattle.dg_rt.proofs.Locals.{first, second, third, fourth, fifth, put_first, put_third, put_fourth, put_fifth, boxed_no_reference, boxed_is_negative, added}
 use Rattle.dg_rt.proofs.UnifySteps.{steps_are}
 use Rattle.dg_rt.proofs.LaySteps.{Laid, lies_keep, copy_word_small, M, in_m, Run, five, word_2, read_1, first_less, first_is, InArea, area_front, area_back, price, Copy, Did, Down, On, Store, did_down, did_on, did_store}
 

@@ -1,5 +1,5 @@
 pub mod Cells
-pub mod Rules
+pub mod Following
 pub mod Locals
 pub mod Standing
 pub mod Closing
@@ -38,3 +38,7 @@ pub mod Failing
 pub mod CaptureSteps
 pub mod Capturing
 pub mod Puts
+pub mod Keying
+pub mod Finding
+pub mod Matching
+pub mod Fitting

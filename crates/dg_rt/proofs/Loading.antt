@@ -10,7 +10,7 @@ use Rattle.dg_rt.specs.Cells.{at_cell, with_cell, replaced, Holds}
 use Rattle.dg_rt.specs.Areas.{heap_at, IsMapped, state}
 use Rattle.dg_rt.specs.Back.{at_place}
 use Rattle.dg_rt.proofs.Cells.{reads_cell, other_cell, same_cell}
-use Rattle.dg_rt.proofs.Rules.{word as word_is, computes, puts}
+use Rattle.dg_rt.proofs.Following.{word as word_is, computes, puts}
 use Rattle.dg_rt.specs.inside.Walks.{steps}
 
 -- Acts that put fields of what local 1 names into registers.

@@ -12,7 +12,7 @@ use Rattle.z_lang.specs.State.{Program, variable, value, put, with_local}
 use Rattle.z_lang.specs.Acts.{computed}
 use Rattle.dg_rt.specs.Cells.{compared}
 use Rattle.dg_rt.specs.Areas.{state}
-use Rattle.dg_rt.proofs.Rules.{word, some_state}
+use Rattle.dg_rt.proofs.Following.{word, some_state}
 
 -- ---- words as signed numbers
 

@@ -1,5 +1,5 @@
 -- The test of containment answers what it means.
-use Rattle.std.proofs.Common.{◌≡◌, ℕ, zero, suc, ◌+◌, ◌*◌, ◌<◌, ◌≤◌, inl, inr, Bool, true, false, List, [], ◌∷◌, drop, length, Option, Some, None, refl, sym, ap, ◌∙◌, subst, arith}
+use Rattle.std.proofs.Common.{◌≡◌, ℕ, zero, suc, ◌+◌, ◌*◌, ◌<◌, ◌≤◌, inl, inr, Bool, true, false, List, [], ◌∷◌, drop, length, Some, refl, sym, ap, ◌∙◌, subst, arith}
 use Rattle.std.specs.Prelude.{◌==◌, eqb}
 use Rattle.std.proofs.lemmas.Bool.{eq-eqb, ne_eqb, cases_eq}
 use Rattle.z_lang.specs.declared.act.Act.{Act}
@@ -14,11 +14,10 @@ use Rattle.z_lang.specs.Runs.{ActsRun as Runs, ActsOutcome as Outcome, Returns, 
 use Rattle.dg_meaning.specs.Values.{Label, Pair, Closure, Value, Var, Node, Values, NoMore, More, pair}
 use Rattle.dg_meaning.specs.ValueCells.{count_of}
 use Rattle.dg_meaning.specs.Substitutions.{Substitution, walk, links, resolved}
-use Rattle.dg_meaning.specs.inside.Substitutions.{all_resolved, IsSubstitution}
-use Rattle.dg_meaning.specs.inside.Unifiers.{binding_of}
-use Rattle.dg_meaning.specs.Unify.{then_look, looked, all_looked, size}
+use Rattle.dg_meaning.specs.inside.Substitutions.{all_resolved}
+use Rattle.dg_meaning.specs.Unify.{looked, all_looked, size}
 use Rattle.dg_meaning.proofs.Walks.{walked, resolved_node}
-use Rattle.dg_meaning.proofs.LookUps.{looks_up, walk_node, walk_free, none_unbound}
+use Rattle.dg_meaning.proofs.LookUps.{walk_node}
 use Rattle.dg_rt.proofs.Standing.{walk_at, occurs_at}
 use Rattle.dg_rt.specs.declared.numbers.TheConstants.{OCCURS}
 use Rattle.dg_rt.specs.declared.unify.TheConstants.{WALK_ACTS, OCCURS_ACTS}
@@ -28,7 +27,7 @@ use Rattle.dg_rt.specs.Shapes.{Shape, IsShape, Cell, Shows, number, dict, object
 use Rattle.dg_rt.specs.RunTime.{HasRunTime}
 use Rattle.dg_rt.specs.inside.Walks.{ending, Walks, Occurs}
 use Rattle.dg_rt.specs.inside.Depth.{Smaller, AllSmaller, Below, under}
-use Rattle.dg_rt.proofs.Rules.{word, tested, computes}
+use Rattle.dg_rt.proofs.Following.{word, tested, computes}
 use Rattle.dg_rt.proofs.Locals.{get_1, get_2, get_3, get_4, set_2, set_3, set_4, reference, simple_is_positive, boxed_is_negative, high_is_negative, added}
 use Rattle.dg_rt.proofs.Cells.{reads_cell}
 use Rattle.dg_rt.proofs.Showing.{same_place, node_word, variable_word, all_low, letters_low}

@@ -1,5 +1,5 @@
 -- The routine that opens a choice does so.
-use Rattle.std.proofs.Common.{◌≡◌, ◌≢◌, ℕ, suc, ◌+◌, ◌-◌, ◌*◌, ◌<◌, ◌≤◌, true, false, List, [], ◌∷◌, ◌++◌, drop, refl, ap, ◌∙◌, arith}
+use Rattle.std.proofs.Common.{◌≡◌, ◌≢◌, ℕ, suc, ◌+◌, ◌-◌, ◌<◌, ◌≤◌, true, false, List, [], ◌∷◌, ◌++◌, drop, refl, ap, ◌∙◌, arith}
 use Rattle.dg_base.specs.declared.run.Ending.TheVariants.{HeapLimit}
 use Rattle.z_model.specs.declared.end.Halt.TheVariants.{AtQuit}
 use Rattle.z_lang.specs.declared.act.Act.TheVariants as acts
@@ -15,13 +15,12 @@ use Rattle.dg_rt.specs.Back.{at_place}
 use Rattle.dg_rt.specs.RunTime.{HasRunTime}
 use Rattle.dg_rt.specs.Closings.{closing}
 use Rattle.dg_rt.specs.Charges.{MeetsLimit}
-use Rattle.dg_rt.specs.Frames.{RowIs}
 use Rattle.dg_rt.specs.Choices.{Opens, OpenWorks}
 use Rattle.dg_rt.proofs.Cells.{other_cell, same_cell}
-use Rattle.dg_rt.proofs.Rules.{word, tested, computes, copies, register, puts}
+use Rattle.dg_rt.proofs.Following.{word, tested, computes, copies, register, puts}
 use Rattle.dg_rt.proofs.Locals.{first, second, third, fourth, fifth, put_second, put_fourth, put_fifth, adds, more_by, not_more_by}
 use Rattle.dg_rt.proofs.Charging.{quits_full}
-use Rattle.dg_rt.proofs.Rows.{row_same, Row, put_row}
+use Rattle.dg_rt.proofs.Rows.{row_same, put_row}
 
 module _ (p : Program) (has : HasRunTime p) (f w : ℕ) (memory typed output : List ℕ) (drawn routine eighth ninth : ℕ) (c : ℕ → ℕ) (top : ℕ) (h : Holds p.world.layout memory c) (at : c 3 ≡ top) (low : top ≤ 10000) where
   abbrev st : List ℕ → ℕ → ℕ → ℕ → State

@@ -11,7 +11,7 @@ use Rattle.dg_rt.specs.Cells.{at_cell, with_cell, replaced, Holds}
 use Rattle.dg_rt.specs.Areas.{heap_at, IsMapped, state}
 use Rattle.dg_rt.specs.Back.{at_place}
 use Rattle.dg_rt.proofs.Cells.{holds_with, writes_cell, other_cell, same_cell}
-use Rattle.dg_rt.proofs.Rules.{word as word_is, writes}
+use Rattle.dg_rt.proofs.Following.{word as word_is, writes}
 use Rattle.dg_rt.specs.inside.Walks.{steps}
 use Rattle.dg_rt.specs.Frames.{RowIs}
 

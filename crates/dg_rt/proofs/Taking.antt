@@ -22,7 +22,7 @@ use Rattle.dg_rt.specs.Shapes.{Shape, IsShape, Shows}
 use Rattle.dg_rt.specs.Back.{Begun}
 use Rattle.dg_rt.specs.Moments.{trail_for, trail_of, Entries, IsAt}
 use Rattle.dg_rt.specs.Undoes.{OldStand, Undoes}
-use Rattle.dg_rt.proofs.Rules.{tested, computes, writes, trail_register, put_trail, local_1, local_2, put_2}
+use Rattle.dg_rt.proofs.Following.{tested, computes, writes, trail_register, put_trail, local_1, local_2, put_2}
 use Rattle.dg_rt.proofs.Cells.{holds_with, reads_cell, writes_cell}
 use Rattle.dg_rt.proofs.Showing.{same_place}
 use Rattle.dg_rt.proofs.Binding.{entries_stay}

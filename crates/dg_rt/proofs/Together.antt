@@ -1,46 +1,38 @@
 -- The routine that unifies, where it goes on with parts: two pairs, two closures of a place, and two unknown words.
-use Rattle.std.proofs.Common.{◌≡◌, ◌≢◌, ℕ, zero, suc, ◌+◌, ◌*◌, ◌<◌, ◌≤◌, inl, inr, Bool, true, false, List, [], ◌∷◌, ◌++◌, drop, length, Some, refl, sym, ap, ◌∙◌, subst, arith}
-use Rattle.std.specs.Prelude.{◌==◌, if◌then◌else◌, eqb}
-use Rattle.std.proofs.lemmas.Bool.{eq-eqb, ne_eqb, cases_eq, cases_lt, cases_order, lt-ltb, le-ltb}
+use Rattle.std.proofs.Common.{◌≡◌, ℕ, suc, ◌+◌, ◌*◌, ◌<◌, ◌≤◌, Bool, true, false, List, [], ◌∷◌, drop, length, Some, refl, sym, ap, ◌∙◌, subst, arith}
+use Rattle.std.specs.Prelude.{◌==◌, eqb}
+use Rattle.std.proofs.lemmas.Bool.{eq-eqb, ne_eqb}
 use Rattle.z_lang.specs.declared.act.Atom.TheVariants as atoms
 use Rattle.z_lang.specs.declared.act.Args.TheVariants as args
 use Rattle.z_lang.specs.declared.act.Comparison.TheVariants as comparisons
 use Rattle.z_lang.specs.declared.act.Act.{Act}
 use Rattle.z_lang.specs.declared.act.Act.TheVariants as acts
-use Rattle.z_model.specs.declared.end.Halt.TheVariants.{AtQuit}
 use Rattle.z_lang.specs.State.{State}
-use Rattle.z_lang.specs.Runs.{ActsRun as Runs, ActsOutcome as Outcome, Returns, Stops, at_label, goes, taken, passed, done, calls, calls_last, returns, behind_label}
-use Rattle.dg_meaning.specs.Values.{Label, Closure, Unknown, Value, Var, Node, Values, NoMore, More, leaf, pair}
+use Rattle.z_lang.specs.Runs.{ActsRun as Runs, ActsOutcome as Outcome, Returns, at_label, goes, taken, passed, done, calls, calls_last, returns, behind_label}
+use Rattle.dg_meaning.specs.Values.{Closure, Unknown, Value, Node, Values, NoMore, More, leaf, pair}
 use Rattle.dg_meaning.specs.ValueCells.{count_of}
-use Rattle.dg_meaning.specs.Substitutions.{Substitution, walk, links, resolved}
-use Rattle.dg_meaning.specs.inside.Substitutions.{FitsFront, Extends}
-use Rattle.dg_meaning.specs.Unify.{same_spelling, same_label, Equations, as_many, side_by_side, Goes, Binds, Clashes, binds, turn, looked, looks, cost, Unified, solve}
+use Rattle.dg_meaning.specs.Substitutions.{Substitution, walk}
+use Rattle.dg_meaning.specs.inside.Substitutions.{Extends}
+use Rattle.dg_meaning.specs.Unify.{same_spelling, Equations, as_many, side_by_side, Goes, Clashes, turn, cost, Unified, solve}
 use Rattle.dg_meaning.specs.inside.Unify.{unify}
 use Rattle.dg_meaning.specs.Letters.{values_compared, compared as letters_compared}
 use Rattle.dg_meaning.proofs.Solving.{solve_extends}
 use Rattle.dg_meaning.proofs.UnifyLaws.{solve_nothing}
-use Rattle.dg_rt.proofs.Standing.{walk_at, bind_at, occurs_at, unify_at}
-use Rattle.dg_rt.specs.Closings.{closing_most}
+use Rattle.dg_rt.proofs.Standing.{unify_at}
 use Rattle.dg_rt.specs.declared.numbers.TheConstants.{UNIFY}
-use Rattle.dg_rt.specs.declared.unify.TheConstants.{BIND_ACTS, OCCURS_ACTS, UNIFY_ACTS}
-use Rattle.dg_rt.specs.Cells.{compared, bit}
-use Rattle.dg_rt.specs.Areas.{state}
-use Rattle.dg_rt.specs.Shapes.{Shape, Cell, Letters, Shows, number, dict, object, nil, variable, boxed, Filled, pair_in, closure_in, word_in, AllShow, one_more}
-use Rattle.dg_rt.specs.Moments.{trail_of, Setting, Fits, Passes, Moment, in_state}
-use Rattle.dg_rt.specs.Unifies.{closed, Ends, answers, is_full, Unifies, price, UnifyWorks}
-use Rattle.dg_rt.specs.inside.Walks.{ending, Occurs, steps}
-use Rattle.dg_rt.specs.inside.Binds.{IsFull}
-use Rattle.dg_rt.specs.inside.Depth.{AllSmaller, Below, on_top, under}
-use Rattle.dg_rt.proofs.Locals.{first, second, third, fourth, put_first, put_second, put_third, reference, simple_no_reference, boxed_no_reference, simple_is_positive, boxed_is_negative, high_is_negative, older, not_older}
-use Rattle.dg_rt.proofs.Showing.{same_place, node_word, all_low, letters_low}
-use Rattle.dg_rt.proofs.Depth.{below_walk, below_later, below_smaller, parts_smaller, all_smaller_later, levels}
-use Rattle.dg_rt.proofs.Walking.{walk_works}
-use Rattle.dg_rt.proofs.Occurring.{occurs_works}
-use Rattle.dg_rt.proofs.Containing.{looked_found}
-use Rattle.dg_rt.proofs.Binding.{bind_works, bind_passes}
-use Rattle.dg_rt.proofs.Ways.{bound, clashing, nothing, Simple, a_number, a_word, an_object, a_nil, simple_small, same_words, simple_no_box, other_length, many_are, goes_on, letters_on, letters_clash, first_yes, first_no, price_yes, takes_less}
-use Rattle.dg_rt.proofs.UnifySteps.{steps_are, ends_map, ends_into, ends_counted, first_less, second_less, third_less, first_below, same_words_test, third_zero, same_fields, at_end, read_1, read_2, read_3, read_4, next_1, next_2, end_5, half_5, field}
-use Rattle.dg_rt.proofs.Alone.{Run, Meant, Below_it, Again, longer, stays, at_most, base, Done, as_meant, to_headers, other_headers}
+use Rattle.dg_rt.specs.declared.unify.TheConstants.{UNIFY_ACTS}
+use Rattle.dg_rt.specs.Cells.{bit}
+use Rattle.dg_rt.specs.Shapes.{Shape, Cell, Letters, Shows, AllShow, one_more}
+use Rattle.dg_rt.specs.Moments.{Setting, Moment, in_state}
+use Rattle.dg_rt.specs.Unifies.{answers, is_full, Unifies, price}
+use Rattle.dg_rt.specs.inside.Walks.{steps}
+use Rattle.dg_rt.specs.inside.Depth.{AllSmaller, Below, under}
+use Rattle.dg_rt.proofs.Locals.{third, fourth, put_third, simple_is_positive, high_is_negative}
+use Rattle.dg_rt.proofs.Showing.{all_low, letters_low}
+use Rattle.dg_rt.proofs.Depth.{below_later, below_smaller, all_smaller_later}
+use Rattle.dg_rt.proofs.Ways.{clashing, nothing, many_are, goes_on, letters_on, letters_clash, first_yes, first_no, price_yes, takes_less}
+use Rattle.dg_rt.proofs.UnifySteps.{steps_are, ends_map, ends_into, ends_counted, third_less, third_zero, same_fields, at_end, read_1, read_2, read_3, read_4, next_1, next_2, end_5, half_5, field}
+use Rattle.dg_rt.proofs.Alone.{Run, Meant, Below_it, Again, longer, stays, at_most, base, Done, as_meant, to_headers}
 
 -- ---- parts
 

@@ -4,7 +4,6 @@ use Rattle.std.specs.Prelude.{◌==◌}
 use Rattle.z_lang.specs.declared.act.Atom.TheVariants as atoms
 use Rattle.z_lang.specs.declared.act.Function.TheVariants as functions
 use Rattle.z_lang.specs.declared.act.Comparison.TheVariants as comparisons
-use Rattle.z_lang.specs.declared.act.Act.{Act}
 use Rattle.z_lang.specs.declared.act.Act.TheVariants as acts
 use Rattle.z_lang.specs.State.{State}
 use Rattle.z_lang.specs.Acts.{answer_of, computed, does}
@@ -15,10 +14,10 @@ use Rattle.dg_rt.specs.Cells.{compared, at_cell}
 use Rattle.dg_rt.specs.Areas.{heap_at}
 use Rattle.dg_rt.specs.Shapes.{Cell}
 use Rattle.dg_rt.specs.Closings.{closing_most}
-use Rattle.dg_rt.specs.Moments.{trail_of, Setting, Moment, in_state}
+use Rattle.dg_rt.specs.Moments.{Setting, Moment, in_state}
 use Rattle.dg_rt.specs.Unifies.{Ends, answers, is_full}
 use Rattle.dg_rt.specs.inside.Walks.{steps}
-use Rattle.dg_rt.proofs.Rules.{word, some_state, tested, computes}
+use Rattle.dg_rt.proofs.Following.{word, some_state, tested, computes}
 use Rattle.dg_rt.proofs.Locals.{first, second, third, fourth, fifth, put_first, put_second, put_third, put_fourth, put_fifth, added}
 use Rattle.dg_rt.proofs.Cells.{reads_cell}
 

@@ -1,21 +1,20 @@
 -- The routine that undoes bindings leaves the words of undoing.
-use Rattle.std.proofs.Common.{◌≡◌, ◌≢◌, ℕ, suc, ◌+◌, ◌*◌, ◌<◌, ◌≤◌, true, false, List, [], ◌∷◌, ◌++◌, drop, length, refl, ap, ◌∙◌, arith, length-append}
+use Rattle.std.proofs.Common.{◌≡◌, ◌≢◌, ℕ, suc, ◌+◌, ◌≤◌, true, false, List, [], ◌∷◌, ◌++◌, drop, length, refl, ap, ◌∙◌, arith, length-append}
 use Rattle.std.specs.Prelude.{◌==◌, if◌then◌else◌}
 use Rattle.std.proofs.lemmas.Bool.{eq-eqb, ne_eqb, cond-false}
-use Rattle.z_lang.specs.declared.act.Act.{Act}
 use Rattle.z_lang.specs.declared.act.Atom.TheVariants as atoms
 use Rattle.z_lang.specs.declared.act.Function.TheVariants as functions
 use Rattle.z_lang.specs.declared.act.Comparison.TheVariants as comparisons
 use Rattle.z_lang.specs.declared.act.Width.TheVariants as widths
 use Rattle.z_lang.specs.State.{State, Program}
-use Rattle.z_lang.specs.Runs.{ActsRun, Returns, at_label, goes, taken, passed, done, returns, behind_label}
+use Rattle.z_lang.specs.Runs.{at_label, goes, taken, passed, done, returns, behind_label}
 use Rattle.dg_rt.specs.declared.unify.TheConstants.{UNDO_ACTS}
 use Rattle.dg_rt.specs.Cells.{with_cell, replaced, Holds}
 use Rattle.dg_rt.specs.Areas.{heap_at, trail_at, IsMapped, state}
-use Rattle.dg_rt.specs.Back.{at_place, undone, OnTrail}
+use Rattle.dg_rt.specs.Back.{at_place, OnTrail}
 use Rattle.dg_rt.specs.Undoes.{InHeap, Unwinds}
 use Rattle.dg_rt.proofs.Cells.{holds_with, reads_cell, writes_cell}
-use Rattle.dg_rt.proofs.Rules.{word, tested, computes, writes, trail_register, put_trail, local_1, local_2, put_2}
+use Rattle.dg_rt.proofs.Following.{word, tested, computes, writes, trail_register, put_trail, local_1, local_2, put_2}
 use Rattle.dg_rt.proofs.Backs.{one_first, undone_same, trail_stays}
 use Rattle.dg_rt.proofs.Taking.{less_one}
 

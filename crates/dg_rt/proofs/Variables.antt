@@ -1,7 +1,7 @@
 -- The routine that finds a variable does so.
 use Rattle.std.proofs.Common.{◌≡◌, ℕ, zero, suc, ◌+◌, ◌-◌, ◌*◌, ◌<◌, ◌≤◌, inl, inr, Bool, true, false, List, [], ◌∷◌, ◌++◌, drop, length, Some, refl, sym, ap, ◌∙◌, subst, arith}
-use Rattle.std.specs.Prelude.{get_or, nat_lt}
-use Rattle.std.proofs.lemmas.Bool.{ne_eqb, cases_lt, lt-ltb, le-ltb}
+use Rattle.std.specs.Prelude.{get_or}
+use Rattle.std.proofs.lemmas.Bool.{ne_eqb, cases_lt}
 use Rattle.z_lang.specs.declared.act.Atom.TheVariants as atoms
 use Rattle.z_lang.specs.declared.act.Function.TheVariants as functions
 use Rattle.z_lang.specs.declared.act.Comparison.TheVariants as comparisons
@@ -13,11 +13,10 @@ use Rattle.dg_rt.specs.Cells.{at_cell, Holds, compared}
 use Rattle.dg_rt.specs.Areas.{heap_at, IsMapped, state}
 use Rattle.dg_rt.specs.Shapes.{Shape, IsFixed, Shows, nil, Cell}
 use Rattle.dg_rt.proofs.Cells.{reads_cell}
-use Rattle.dg_rt.proofs.Rules.{word, tested, computes, register}
+use Rattle.dg_rt.proofs.Following.{word, tested, computes, register}
 use Rattle.dg_rt.proofs.Locals.{get_1, get_2, get_3, set_1, set_2, set_3, less_by, not_less_by, adds, subtracts}
 use Rattle.dg_rt.specs.declared.frames.TheConstants.{VAR_ACTS}
 use Rattle.dg_rt.specs.Back.{at_place}
-use Rattle.dg_rt.specs.RunTime.{HasRunTime}
 use Rattle.dg_rt.specs.Frames.{InRow, InCells, Captured, HasVars, VarsAt, Finds, VarWorks}
 
 -- ## Values in rows

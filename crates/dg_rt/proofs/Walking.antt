@@ -17,7 +17,7 @@ use Rattle.dg_rt.specs.Areas.{heap_at, state}
 use Rattle.dg_rt.specs.Shapes.{Shape, IsShape, Shows, variable, Stands}
 use Rattle.dg_rt.specs.RunTime.{HasRunTime}
 use Rattle.dg_rt.specs.inside.Walks.{Walks}
-use Rattle.dg_rt.proofs.Rules.{tested, computes, copies}
+use Rattle.dg_rt.proofs.Following.{tested, computes, copies}
 use Rattle.dg_rt.proofs.Locals.{get_1, get_2, set_1, set_2, reference}
 use Rattle.dg_rt.proofs.Cells.{reads_cell}
 use Rattle.dg_rt.proofs.Showing.{variable_word, node_word, reference_value}

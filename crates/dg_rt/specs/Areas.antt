@@ -77,6 +77,10 @@ last_reg = 28
 abbrev pub word_reg : ℕ
 word_reg = 36
 
+-- How many parameters the rules of the query at hand have.
+abbrev pub parameters_reg : ℕ
+parameters_reg = 37
+
 -- The address of the next cell of a value that is copied in, and the place in front of which the copy is laid.
 abbrev pub from_reg : ℕ
 from_reg = 38

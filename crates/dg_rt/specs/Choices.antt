@@ -4,7 +4,7 @@ use Rattle.std.specs.Prelude.{◌≡◌, ◌≢◌, ℕ, ◌+◌, ◌*◌, ◌<�
 use Rattle.z_lang.specs.State.{Program}
 use Rattle.z_lang.specs.Runs.{ActsRun as Runs, Returns}
 use Rattle.dg_rt.specs.declared.numbers.TheConstants.{FAILED}
-use Rattle.dg_rt.specs.declared.choices.TheConstants.{CUT_ACTS, OPEN_ACTS, FAIL_ACTS}
+use Rattle.dg_rt.specs.declared.choices.TheConstants.{CUT_ACTS, OPEN_ACTS, FAIL_ACTS, COMMIT_ACTS}
 use Rattle.dg_rt.specs.Cells.{Holds}
 use Rattle.dg_rt.specs.Areas.{heap_at, trail_at, trail_reg, mark_reg, heap_reg, frame_reg, choice_reg, inner_reg, stop_reg, back_reg, cut_reg, many_reg, key_reg, begin_reg, args_reg, IsMapped, state}
 use Rattle.dg_rt.specs.Back.{at_place, undone, OnTrail}
@@ -70,6 +70,25 @@ pub record Cuts (p : Program) (f w : ℕ) (memory typed output : List ℕ) (draw
 abbrev pub CutWorks : Type 0
 CutWorks = (p : Program) → IsMapped p → (f w : ℕ) (memory typed output : List ℕ) (drawn at : ℕ) → at < 16384 → (cells : ℕ → ℕ) →
     Holds p.world.layout memory cells → (ks : List ℕ) → Chain cells (cells choice_reg) ks → Cuts p f w memory typed output drawn at cells ks
+
+-- The newest inner construct was left: the one around it is the newest, and the choices inside it are dropped, in 4 instructions each and 8.
+pub record Commits (p : Program) (f w : ℕ) (memory typed output : List ℕ) (drawn at : ℕ) (cells : ℕ → ℕ) (ks : List ℕ) : Type 0 where
+  pub memory' : List ℕ
+  pub cells' : ℕ → ℕ
+  pub holds : Holds p.world.layout memory' cells'
+  pub inner : cells' inner_reg ≡ cells (heap_at + (at + 3))
+  pub chain : Chain cells' (cells' choice_reg) (left_of at ks)
+  pub others : (k : ℕ) → k ≢ choice_reg → k ≢ inner_reg → cells' k ≡ cells k
+  pub count : ℕ
+  pub few : count ≤ 4 * dropped_of at ks + 8
+  pub runs : Runs p f w COMMIT_ACTS COMMIT_ACTS (state memory (0 ∷ []) typed drawn output) (Returns 0)
+      (state memory' (at_place at ∷ []) typed drawn output) count
+
+-- So it is wherever there is one.
+abbrev pub CommitWorks : Type 0
+CommitWorks = (p : Program) → HasRunTime p → (f w : ℕ) → 1 ≤ f → 1 ≤ w → (memory typed output : List ℕ) (drawn at : ℕ) → at + 10 ≤ 10000 →
+    (cells : ℕ → ℕ) → Holds p.world.layout memory cells → cells inner_reg ≡ at_place at → (ks : List ℕ) → Chain cells (cells choice_reg) ks →
+    Commits p f w memory typed output drawn at cells ks
 
 -- ## Going back
 

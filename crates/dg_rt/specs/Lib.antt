@@ -13,4 +13,6 @@ pub mod CopiesIn
 pub mod Charges
 pub mod Frames
 pub mod Choices
+pub mod Rules
+pub mod Fits
 pub mod inside

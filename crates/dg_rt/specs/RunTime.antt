@@ -9,7 +9,8 @@ use Rattle.dg_rt.specs.declared.copies.TheConstants.{COPY_OUT_ACTS, COPY_IN_ACTS
 use Rattle.dg_rt.specs.declared.closings.TheConstants.{NEWLINE_ACTS, DONE_ACTS, FAILED_ACTS, STOPPED_ACTS, HEAP_LIMIT_ACTS, TRAIL_LIMIT_ACTS, AUX_LIMIT_ACTS, KEEP_LIMIT_ACTS}
 use Rattle.dg_rt.specs.declared.heap.TheConstants.{CHARGE_ACTS}
 use Rattle.dg_rt.specs.declared.frames.TheConstants.{VAR_ACTS, CAPTURE_ACTS, ENTER_ACTS}
-use Rattle.dg_rt.specs.declared.choices.TheConstants.{CUT_ACTS, OPEN_ACTS, FAIL_ACTS}
+use Rattle.dg_rt.specs.declared.choices.TheConstants.{CUT_ACTS, OPEN_ACTS, FAIL_ACTS, COMMIT_ACTS}
+use Rattle.dg_rt.specs.declared.rules.TheConstants.{KEY_OF_ACTS, FOUND_ACTS, NONE_ACTS, MATCH_ACTS, MATCHED_ACTS}
 use Rattle.dg_rt.specs.Areas.{IsMapped}
 
 -- A routine of so many locals.
@@ -34,9 +35,15 @@ frame_routines =
     routine_of 1 CHARGE_ACTS ∷ routine_of 4 VAR_ACTS ∷ routine_of 4 ENTER_ACTS ∷ routine_of 1 CUT_ACTS
     ∷ routine_of 5 OPEN_ACTS ∷ routine_of 4 FAIL_ACTS ∷ routine_of 8 CAPTURE_ACTS ∷ []
 
+-- Those of inner constructs and of rules.
+abbrev pub rule_routines : List Routine
+rule_routines =
+    routine_of 1 COMMIT_ACTS ∷ routine_of 4 KEY_OF_ACTS ∷ routine_of 4 FOUND_ACTS ∷ routine_of 0 NONE_ACTS ∷ routine_of 4 MATCH_ACTS
+    ∷ routine_of 1 MATCHED_ACTS ∷ []
+
 -- All of them. The first has number 1, since a story begins with routine 0.
 abbrev pub runtime : List Routine
-runtime = value_routines ++ (closing_routines ++ frame_routines)
+runtime = value_routines ++ (closing_routines ++ (frame_routines ++ rule_routines))
 
 -- The run-time stands in a program: its areas may be written, and each routine has its number.
 pub record HasRunTime (p : Program) : Type 0 where

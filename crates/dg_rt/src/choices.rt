@@ -1,6 +1,6 @@
-// Choices: opening and dropping them, and going back.
+// Choices: opening and dropping them, going back, and inner constructs.
 use crate::acts::{add, call, put, read, sub, when};
-use crate::numbers::{FAILED, HEAP_LIMIT, UNDO};
+use crate::numbers::{CUT, FAILED, HEAP_LIMIT, UNDO};
 use crate::registers::{
     ARGS, BACK, BEGIN, CHOICE, CUT_TO, FRAME, HEAP, INNER, KEY, MANY, MARK, STOP, TRAIL,
 };
@@ -82,4 +82,12 @@ pub const FAIL_ACTS: [Act; 31] = [
     Act::Return(Atom::Var(3)),
     Act::Label(0),
     Act::Return(Atom::Routine(FAILED)),
+];
+
+/// Leaves the newest inner construct, and drops the choices inside it.
+pub const COMMIT_ACTS: [Act; 4] = [
+    Act::Copy(1, Atom::Var(INNER)),
+    read!(INNER, CHOICE_INNER, 1),
+    Act::Call(None, Atom::Routine(CUT), Args::One(Atom::Var(1))),
+    Act::Return(Atom::Num(0)),
 ];

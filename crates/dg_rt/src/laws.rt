@@ -3,8 +3,10 @@ ghost use Rattle.dg_rt.specs.Charges.{ChargeWorks};
 ghost use Rattle.dg_rt.specs.Closings.{ClosingsWork};
 ghost use Rattle.dg_rt.specs.Copies.{CopyWorks};
 ghost use Rattle.dg_rt.specs.CopiesIn.{CopyInWorks};
-ghost use Rattle.dg_rt.specs.Choices.{CutWorks, FailWorks, OpenWorks};
+ghost use Rattle.dg_rt.specs.Choices.{CommitWorks, CutWorks, FailWorks, OpenWorks};
 ghost use Rattle.dg_rt.specs.Frames.{CaptureWorks, EnterWorks, VarWorks};
+ghost use Rattle.dg_rt.specs.Fits.{RuntimeFits};
+ghost use Rattle.dg_rt.specs.Rules.{FoundWorks, KeyWorks, MatchWorks, MatchedWorks, NoneWorks};
 ghost use Rattle.dg_rt.specs.Undoes.{UndoGivesBack, UndoUnwinds};
 ghost use Rattle.dg_rt.specs.Unifies.{UnifyWorks};
 
@@ -71,4 +73,39 @@ pub fn open_works()
 /// The routine that goes back to the newest choice does so.
 pub fn fail_works()
     ensures { FailWorks }
+{}
+
+/// The routine that leaves an inner construct does so.
+pub fn commit_works()
+    ensures { CommitWorks }
+{}
+
+/// The routine that says what a value is at its top does so.
+pub fn key_works()
+    ensures { KeyWorks }
+{}
+
+/// The routine of a rule that is found keeps it, or opens a choice, or meets the heap's limit.
+pub fn found_works()
+    ensures { FoundWorks }
+{}
+
+/// The routine behind the last rule answers what comes next.
+pub fn none_works()
+    ensures { NoneWorks }
+{}
+
+/// The routine that unifies an argument does so.
+pub fn match_works()
+    ensures { MatchWorks }
+{}
+
+/// The routine behind the last argument answers what comes next.
+pub fn matched_works()
+    ensures { MatchedWorks }
+{}
+
+/// The routines can be assembled.
+pub fn runtime_fits()
+    ensures { RuntimeFits }
 {}

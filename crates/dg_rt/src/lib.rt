@@ -11,10 +11,11 @@ mod laws;
 mod numbers;
 mod registers;
 mod routines;
+mod rules;
 mod unify;
 mod words;
 
-pub use choices::{CUT_ACTS, FAIL_ACTS, OPEN_ACTS};
+pub use choices::{COMMIT_ACTS, CUT_ACTS, FAIL_ACTS, OPEN_ACTS};
 pub use closings::{
     AUX_LIMIT_ACTS, DONE_ACTS, FAILED_ACTS, HEAP_LIMIT_ACTS, KEEP_LIMIT_ACTS, NEWLINE_ACTS,
     STOPPED_ACTS, TRAIL_LIMIT_ACTS,
@@ -23,16 +24,19 @@ pub use copies::{COPY_IN_ACTS, COPY_OUT_ACTS};
 pub use frames::{CAPTURE_ACTS, ENTER_ACTS, VAR_ACTS};
 pub use heap::CHARGE_ACTS;
 pub use laws::{
-    capture_works, charge_works, closings_work, copy_in_works, copy_works, cut_works, enter_works,
-    fail_works, open_works, undo_gives_back, undo_unwinds, unify_works, var_works,
+    capture_works, charge_works, closings_work, commit_works, copy_in_works, copy_works, cut_works,
+    enter_works, fail_works, found_works, key_works, match_works, matched_works, none_works,
+    open_works, runtime_fits, undo_gives_back, undo_unwinds, unify_works, var_works,
 };
 pub use numbers::{
-    AUX_LIMIT, BIND, CAPTURE, CHARGE, COPY_IN, COPY_OUT, CUT, DONE, ENTER, FAIL, FAILED,
-    HEAP_LIMIT, KEEP_LIMIT, NEWLINE, OCCURS, OPEN, STOPPED, TRAIL_LIMIT, UNDO, UNIFY, VAR, WALK,
+    AUX_LIMIT, BIND, CAPTURE, CHARGE, COMMIT, COPY_IN, COPY_OUT, CUT, DONE, ENTER, FAIL, FAILED,
+    FOUND, HEAP_LIMIT, KEEP_LIMIT, KEY_OF, MATCH, MATCHED, NEWLINE, NONE, OCCURS, OPEN, STOPPED,
+    TRAIL_LIMIT, UNDO, UNIFY, VAR, WALK,
 };
 pub use registers::{
     ARGS, BACK, BEGIN, CHOICE, CLASH, CUT_TO, FILL, FRAME, FROM, HEAP, INNER, KEY, LAST, MANY,
-    MARK, STOP, TERM, TRAIL, WORD,
+    MARK, PARAMETERS, STOP, TERM, TRAIL, WORD,
 };
 pub use routines::runtime;
+pub use rules::{FOUND_ACTS, KEY_OF_ACTS, MATCH_ACTS, MATCHED_ACTS, NONE_ACTS};
 pub use unify::{BIND_ACTS, OCCURS_ACTS, UNDO_ACTS, UNIFY_ACTS, WALK_ACTS};

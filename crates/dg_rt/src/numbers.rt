@@ -65,3 +65,21 @@ pub const FAIL: u16 = 21;
 
 /// Writes captured values into the box of a closure.
 pub const CAPTURE: u16 = 22;
+
+/// Leaves an inner construct.
+pub const COMMIT: u16 = 23;
+
+/// What a value is at its top.
+pub const KEY_OF: u16 = 24;
+
+/// A rule is found.
+pub const FOUND: u16 = 25;
+
+/// Behind the last rule.
+pub const NONE: u16 = 26;
+
+/// Unifies an argument with a term of a rule's head.
+pub const MATCH: u16 = 27;
+
+/// Behind the last argument.
+pub const MATCHED: u16 = 28;

@@ -51,6 +51,9 @@ pub const LAST: u8 = 44;
 /// The word of the box that is being filled.
 pub const WORD: u8 = 52;
 
+/// How many parameters the rules of the query at hand have.
+pub const PARAMETERS: u8 = 53;
+
 /// The address of the next cell of a value that is copied in.
 pub const FROM: u8 = 54;
 

@@ -2,7 +2,7 @@
 ghost use Rattle.std.specs.Prelude.{◌≡◌, ◌∷◌, ◌++◌, [], IfOk, OnOk};
 ghost use Rattle.dg_rt.specs.RunTime as spec;
 
-use crate::choices::{CUT_ACTS, FAIL_ACTS, OPEN_ACTS};
+use crate::choices::{COMMIT_ACTS, CUT_ACTS, FAIL_ACTS, OPEN_ACTS};
 use crate::closings::{
     AUX_LIMIT_ACTS, DONE_ACTS, FAILED_ACTS, HEAP_LIMIT_ACTS, KEEP_LIMIT_ACTS, NEWLINE_ACTS,
     STOPPED_ACTS, TRAIL_LIMIT_ACTS,
@@ -10,6 +10,7 @@ use crate::closings::{
 use crate::copies::{COPY_IN_ACTS, COPY_OUT_ACTS};
 use crate::frames::{CAPTURE_ACTS, ENTER_ACTS, VAR_ACTS};
 use crate::heap::CHARGE_ACTS;
+use crate::rules::{FOUND_ACTS, KEY_OF_ACTS, MATCH_ACTS, MATCHED_ACTS, NONE_ACTS};
 use crate::unify::{BIND_ACTS, OCCURS_ACTS, UNDO_ACTS, UNIFY_ACTS, WALK_ACTS};
 use sqlite_items::Items;
 use std::alloc::{AllocError, Global};
@@ -73,6 +74,19 @@ impl Writer {
         self.put(8, &CAPTURE_ACTS)?;
         Ok(())
     }
+
+    // Those of inner constructs and of rules.
+    fn put_rules(&mut self) -> Result<(), AllocError>
+        ensures { OnOk result (self.new.all ≡ self.old.all ++ spec.rule_routines) }
+    {
+        self.put(1, &COMMIT_ACTS)?;
+        self.put(4, &KEY_OF_ACTS)?;
+        self.put(4, &FOUND_ACTS)?;
+        self.put(0, &NONE_ACTS)?;
+        self.put(4, &MATCH_ACTS)?;
+        self.put(1, &MATCHED_ACTS)?;
+        Ok(())
+    }
 }
 
 /// All of them, in the order of their numbers, the first of which is 1: a story begins with routine 0.
@@ -86,5 +100,6 @@ pub fn runtime(alloc: Global) -> Result<Items<Routine>, AllocError>
     writer.put_values()?;
     writer.put_closings()?;
     writer.put_frames()?;
+    writer.put_rules()?;
     Ok(writer.all)
 }

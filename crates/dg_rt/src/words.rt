@@ -34,6 +34,12 @@ pub const HEAP_CELLS: u16 = 10_000;
 /// The empty list.
 pub const NIL: u16 = 28_672;
 
+/// What a pair is at its top.
+pub const PAIR_KEY: u16 = 28_673;
+
+/// What an unknown word is at its top.
+pub const UNKNOWN_KEY: u16 = 28_674;
+
 /// The frame behind a frame.
 pub const FRAME_BEHIND: u16 = 670;
 
