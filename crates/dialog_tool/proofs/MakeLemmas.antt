@@ -14,7 +14,7 @@ use Rattle.dg_meaning.specs.Engines.{game, HasShown}
 use Rattle.dg_make.specs.Made.{made_source}
 use Rattle.dg_meaning.specs.Shows.{MayBegin, Shows}
 use Rattle.dg_meaning.specs.Transcript.{run, text_of, ending_line, line_of, transcript, no_memory_line}
-use Rattle.dg_meaning.specs.World.{Game, prints}
+use Rattle.dg_meaning.specs.World.{Game, prints as all_prints}
 use Rattle.dg_meaning.proofs.Limits.{later_run}
 use Rattle.dg_meaning.proofs.Search.{run_within}
 use Rattle.dg_story.proofs.Happened.{text_grows}
@@ -82,7 +82,7 @@ whole_longer : (g : Game) (typed : List ℕ) (m n : ℕ) → m ≤ n → length 
 whole_longer g typed m n le =
     let r = run g typed n in
     let b = text_grows (run g typed m).world.events r.world.events (later_run g typed m n le).events in
-    omega (arith, ap length b.is, length-append (text_of (run g typed m).world.events) b.behind, length-append (text_of r.world.events) (ending_line (prints r.world.events) (line_of r.ending)))
+    omega (arith, ap length b.is, length-append (text_of (run g typed m).world.events) b.behind, length-append (text_of r.world.events) (ending_line (all_prints r.world.events) (line_of r.ending)))
 
 -- a run that its sink broke off writes more than there is room for
 pub made_long : (n : ℕ) (p : Core) (dice before text left left' : List ℕ) (room faults status : ℕ) (new : SinkView) → Compiles (made_source n) (Ok p) → room ≡ most_output

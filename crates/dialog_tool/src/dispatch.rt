@@ -89,14 +89,14 @@ pub fn tool<F: Shelf, S: Source, K: Sink>(
 ) -> u8
     requires { 0 < length dice.now }
     ensures answers { Answers (record {
-        command = command_of (texts words.now);
-        dice = dice.now;
-        shelf = F.view shelf.old;
-        shelf_after = F.view shelf.new;
-        input = S.view input.old;
-        input_after = S.view input.new;
-        out = K.view out.old;
-        out_after = K.view out.new;
+      command = command_of (texts words.now);
+      dice = dice.now;
+      shelf = F.view shelf.old;
+      shelf_after = F.view shelf.new;
+      input = S.view input.old;
+      input_after = S.view input.new;
+      out = K.view out.old;
+      out_after = K.view out.new;
     }) result }
 {
     match command_of(alloc, words) {
