@@ -12,7 +12,8 @@ use Rattle.dg_rt.specs.RunTime.{HasRunTime}
 use Rattle.dg_rt.specs.Closings.{closing, closing_most}
 
 -- A routine meets the heap's limit: its closing ends the run, in so many instructions and those of the closing.
-pub record MeetsLimit (p : Program) (f w : ℕ) (acts : List Act) (memory locals typed output : List ℕ) (drawn : ℕ) (cells : ℕ → ℕ) (most : ℕ) : Type 0 where
+pub record MeetsLimit (p : Program) (f w : ℕ) (acts : List Act) (memory locals typed output : List ℕ) (drawn : ℕ) (cells : ℕ → ℕ)
+    (most : ℕ) : Type 0 where
   pub memory' : List ℕ
   pub count : ℕ
   pub runs : Runs p f w acts acts (state memory locals typed drawn output) (Stops AtQuit)
@@ -32,7 +33,8 @@ pub record Charged (p : Program) (f w : ℕ) (memory typed output : List ℕ) (d
 
 -- So it is where there is room for them; else the limit is met.
 pub record ChargeWorks : Type 0 where
-  pub takes : (p : Program) → HasRunTime p → (f w : ℕ) (memory typed output : List ℕ) (drawn n : ℕ) (cells : ℕ → ℕ) → Holds p.world.layout memory cells →
+  pub takes : (p : Program) → HasRunTime p → (f w : ℕ) (memory typed output : List ℕ) (drawn n : ℕ) (cells : ℕ → ℕ) →
+      Holds p.world.layout memory cells →
       cells heap_reg + n ≤ 10000 → Charged p f w memory typed output drawn n cells
   pub meets : (p : Program) → HasRunTime p → (f w : ℕ) → 2 ≤ f → (memory typed output : List ℕ) (drawn n : ℕ) (cells : ℕ → ℕ) →
       Holds p.world.layout memory cells → cells heap_reg ≤ 10000 → n ≤ 10001 → 10000 < cells heap_reg + n →

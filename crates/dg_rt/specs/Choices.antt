@@ -23,18 +23,22 @@ pub record Opens (p : Program) (f w : ℕ) (memory typed output : List ℕ) (dra
   pub heap : cells' heap_reg ≡ top + 10
   pub choice : cells' choice_reg ≡ at_place top
   pub mark : cells' mark_reg ≡ at_place top
-  pub row : RowIs cells' (top + 0) (cells choice_reg ∷ routine ∷ cells frame_reg ∷ cells inner_reg ∷ cells stop_reg ∷ cells trail_reg ∷ 0 ∷ eighth ∷ ninth
+  pub row : RowIs cells' (top + 0) (cells choice_reg ∷ routine ∷ cells frame_reg ∷ cells inner_reg ∷ cells stop_reg ∷ cells trail_reg ∷ 0
+      ∷ eighth ∷ ninth
       ∷ 0 ∷ [])
-  pub others : (k : ℕ) → k ≢ heap_reg → k ≢ choice_reg → k ≢ mark_reg → (heap_at + top ≤ k → heap_at + (top + 10) ≤ k) → cells' k ≡ cells k
+  pub others : (k : ℕ) → k ≢ heap_reg → k ≢ choice_reg → k ≢ mark_reg → (heap_at + top ≤ k → heap_at + (top + 10) ≤ k) →
+      cells' k ≡ cells k
   pub runs : Runs p f w OPEN_ACTS OPEN_ACTS (state memory (routine ∷ eighth ∷ ninth ∷ 0 ∷ 0 ∷ []) typed drawn output) (Returns (at_place top))
       (state memory' locals' typed drawn output) 18
 
 -- So it is where there is room for it; else the heap's limit is met.
 pub record OpenWorks : Type 0 where
-  pub opens : (p : Program) → HasRunTime p → (f w : ℕ) (memory typed output : List ℕ) (drawn routine eighth ninth : ℕ) (cells : ℕ → ℕ) (top : ℕ) →
+  pub opens : (p : Program) → HasRunTime p →
+      (f w : ℕ) (memory typed output : List ℕ) (drawn routine eighth ninth : ℕ) (cells : ℕ → ℕ) (top : ℕ) →
       Holds p.world.layout memory cells → cells heap_reg ≡ top → top + 10 ≤ 10000 → routine < 65536 → eighth < 65536 → ninth < 65536 →
       Opens p f w memory typed output drawn routine eighth ninth cells top
-  pub meets : (p : Program) → HasRunTime p → (f w : ℕ) → 2 ≤ f → (memory typed output : List ℕ) (drawn routine eighth ninth : ℕ) (cells : ℕ → ℕ)
+  pub meets : (p : Program) → HasRunTime p → (f w : ℕ) → 2 ≤ f →
+      (memory typed output : List ℕ) (drawn routine eighth ninth : ℕ) (cells : ℕ → ℕ)
       (top : ℕ) → Holds p.world.layout memory cells → cells heap_reg ≡ top → top ≤ 10000 → 10000 < top + 10 →
       MeetsLimit p f w OPEN_ACTS memory (routine ∷ eighth ∷ ninth ∷ 0 ∷ 0 ∷ []) typed output drawn cells 4
 
@@ -86,8 +90,10 @@ pub record Commits (p : Program) (f w : ℕ) (memory typed output : List ℕ) (d
 
 -- So it is wherever there is one.
 abbrev pub CommitWorks : Type 0
-CommitWorks = (p : Program) → HasRunTime p → (f w : ℕ) → 1 ≤ f → 1 ≤ w → (memory typed output : List ℕ) (drawn at : ℕ) → at + 10 ≤ 10000 →
-    (cells : ℕ → ℕ) → Holds p.world.layout memory cells → cells inner_reg ≡ at_place at → (ks : List ℕ) → Chain cells (cells choice_reg) ks →
+CommitWorks = (p : Program) → HasRunTime p → (f w : ℕ) → 1 ≤ f → 1 ≤ w → (memory typed output : List ℕ) (drawn at : ℕ) →
+    at + 10 ≤ 10000 →
+    (cells : ℕ → ℕ) → Holds p.world.layout memory cells → cells inner_reg ≡ at_place at → (ks : List ℕ) →
+    Chain cells (cells choice_reg) ks →
     Commits p f w memory typed output drawn at cells ks
 
 -- ## Going back
@@ -124,8 +130,11 @@ pub record GoesBack (p : Program) (f w : ℕ) (memory typed output : List ℕ) (
 pub record FailWorks : Type 0 where
   pub goes : (p : Program) → HasRunTime p → (f w : ℕ) → 0 < f → 2 ≤ w → (memory typed output : List ℕ) (drawn at : ℕ) (cells : ℕ → ℕ)
       (old newer : List ℕ) → Holds p.world.layout memory cells → cells choice_reg ≡ at_place at → at + 10 ≤ 10000 →
-      cells (heap_at + (at + 5)) ≡ length old → cells trail_reg ≡ length (newer ++ old) → length (newer ++ old) ≤ 2000 → OnTrail cells (newer ++ old) →
+      cells (heap_at + (at + 5)) ≡ length old → cells trail_reg ≡ length (newer ++ old) → length (newer ++ old) ≤ 2000 →
+      OnTrail cells (newer ++ old) →
       GoesBack p f w memory typed output drawn at cells old newer
-  pub has_none : (p : Program) → IsMapped p → (f w : ℕ) (memory typed output : List ℕ) (drawn : ℕ) (cells : ℕ → ℕ) → Holds p.world.layout memory cells →
-      cells choice_reg ≡ 0 → Runs p f w FAIL_ACTS FAIL_ACTS (state memory (0 ∷ 0 ∷ 0 ∷ 0 ∷ []) typed drawn output) (Returns (p.names.routine FAILED))
+  pub has_none : (p : Program) → IsMapped p → (f w : ℕ) (memory typed output : List ℕ) (drawn : ℕ) (cells : ℕ → ℕ) →
+      Holds p.world.layout memory cells →
+      cells choice_reg ≡ 0 →
+      Runs p f w FAIL_ACTS FAIL_ACTS (state memory (0 ∷ 0 ∷ 0 ∷ 0 ∷ []) typed drawn output) (Returns (p.names.routine FAILED))
       (state memory (0 ∷ 0 ∷ 0 ∷ 0 ∷ []) typed drawn output) 2

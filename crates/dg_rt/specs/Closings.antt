@@ -29,7 +29,8 @@ pub record Closes (p : Program) (acts : List Act) (s : State) (last : ℕ) (endi
 
 -- So they do wherever they are called.
 abbrev pub EndsRuns : List Act → Ending → Type 0
-EndsRuns acts ending = (p : Program) → HasRunTime p → (memory typed output : List ℕ) (drawn : ℕ) (cells : ℕ → ℕ) → Holds p.world.layout memory cells →
+EndsRuns acts ending = (p : Program) → HasRunTime p → (memory typed output : List ℕ) (drawn : ℕ) (cells : ℕ → ℕ) →
+    Holds p.world.layout memory cells →
     Closes p acts (state memory [] typed drawn output) (cells last_reg) ending
 
 -- The routine of each ending ends the run with its line.

@@ -47,12 +47,14 @@ Row cells j (x ∷ xs) = (cells j ≡ x) × Row cells (suc j) xs
 -- written.
 pub data Copies (layout : Layout) (cells : ℕ → ℕ) (j end : ℕ) (row : List ℕ) (leads : ℕ → List ℕ → List ℕ → Type 0) : Type 0 where
   in_area : (memory locals : List ℕ) (cells' : ℕ → ℕ) → Holds layout memory cells' → j + length row ≤ end → Row cells' j row →
-      ((k : ℕ) → (j ≤ k → j + length row ≤ k) → cells' k ≡ cells k) → leads (at_cell (j + length row)) memory locals → Copies layout cells j end row leads
+      ((k : ℕ) → (j ≤ k → j + length row ≤ k) → cells' k ≡ cells k) → leads (at_cell (j + length row)) memory locals →
+      Copies layout cells j end row leads
   past_it : (memory locals : List ℕ) (cells' : ℕ → ℕ) → Holds layout memory cells' → end < j + length row →
       ((k : ℕ) → (j ≤ k → end ≤ k) → cells' k ≡ cells k) → leads 0 memory locals → Copies layout cells j end row leads
 
 -- Acts of the routine do so within so many instructions, what was spent before included, and with a frame and 5 words a level.
-pub record CopiesOut (p : Program) (f : ℕ) (acts : List Act) (typed output : List ℕ) (drawn : ℕ) (memory locals : List ℕ) (cells : ℕ → ℕ) (j end : ℕ)
+pub record CopiesOut (p : Program) (f : ℕ) (acts : List Act) (typed output : List ℕ) (drawn : ℕ) (memory locals : List ℕ) (cells : ℕ → ℕ)
+    (j end : ℕ)
     (row : List ℕ) (spent most : ℕ) : Type 0 where
   pub count : ℕ
   pub ends : Copies p.world.layout cells j end row (λ x memory' locals'.
@@ -64,6 +66,7 @@ pub record CopiesOut (p : Program) (f : ℕ) (acts : List Act) (typed output : L
 abbrev pub CopyWorks : Type 0
 CopyWorks = (p : Program) → HasRunTime p → (sh : Shape) → IsShape sh → (typed output : List ℕ) (drawn : ℕ) (S : Substitution) (memory : List ℕ)
     (cells : ℕ → ℕ) → Holds p.world.layout memory cells → Stands sh cells S → (j end : ℕ) → areas_end ≤ j → j ≤ end →
-    at_cell end ≤ p.world.layout.base → at_cell end < 65536 → (x : ℕ) (v : Value) → Shows sh x v → (n : ℕ) → contains n (resolved S v) ≡ false →
+    at_cell end ≤ p.world.layout.base → at_cell end < 65536 → (x : ℕ) (v : Value) → Shows sh x v → (n : ℕ) →
+    contains n (resolved S v) ≡ false →
     CopiesOut p 3335 COPY_OUT_ACTS typed output drawn memory (x ∷ at_cell j ∷ at_cell end ∷ 0 ∷ 0 ∷ []) cells j end (words_of (resolved S v)) 0
     (20 * looks S n v + 8 * letters_in (resolved S v))

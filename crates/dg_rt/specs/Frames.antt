@@ -72,7 +72,8 @@ pub record Finds (p : Program) (f w : ℕ) (sh : Shape) (memory typed output : L
 abbrev pub VarWorks : Type 0
 VarWorks = (p : Program) → HasRunTime p → (f w : ℕ) (sh : Shape) (memory typed output : List ℕ) (drawn : ℕ) (cells : ℕ → ℕ) →
     Holds p.world.layout memory cells → sh.top ≤ 10000 → ((k : ℕ) → k < 10000 → IsFixed sh k → cells (heap_at + k) ≡ sh.fixed k) →
-    (vars : List Value) → VarsAt sh (cells frame_reg) vars → (n : ℕ) → n ≤ 16000 → Finds p f w sh memory typed output drawn n (get_or vars n (leaf Nil))
+    (vars : List Value) → VarsAt sh (cells frame_reg) vars → (n : ℕ) → n ≤ 16000 →
+    Finds p f w sh memory typed output drawn n (get_or vars n (leaf Nil))
 
 -- ## Captured values
 
@@ -86,7 +87,8 @@ HoldVars sh cells k vars [] = Unit {0}
 HoldVars sh cells k vars (n ∷ ns) = Shows sh (cells (heap_at + k)) (get_or vars n (leaf Nil)) × HoldVars sh cells (suc k) vars ns
 
 -- The words of six variables were written into the box of a closure, in 53 instructions at most, and the register of the box is six more.
-pub record Captures (p : Program) (f w : ℕ) (sh : Shape) (memory typed output : List ℕ) (drawn x y z : ℕ) (cells : ℕ → ℕ) (at : ℕ) (vars : List Value) :
+pub record Captures (p : Program) (f w : ℕ) (sh : Shape) (memory typed output : List ℕ) (drawn x y z : ℕ) (cells : ℕ → ℕ) (at : ℕ)
+    (vars : List Value) :
     Type 0 where
   pub memory' : List ℕ
   pub cells' : ℕ → ℕ
@@ -128,7 +130,8 @@ pub record Enters (p : Program) (f w : ℕ) (memory typed output : List ℕ) (dr
   pub row : RowIs cells' (top + 0)
       (cells frame_reg ∷ cells back_reg ∷ cells cut_reg ∷ cells inner_reg ∷ (n + n + cells many_reg) ∷ 0 ∷ [])
   pub vars : (i : ℕ) → i < n → cells' (heap_at + (top + 6 + i)) ≡ at_place (top + 6 + i)
-  pub others : (k : ℕ) → k ≢ heap_reg → k ≢ frame_reg → k ≢ inner_reg → k ≢ clash_reg → (heap_at + top ≤ k → trail_at ≤ k) → cells' k ≡ cells k
+  pub others : (k : ℕ) → k ≢ heap_reg → k ≢ frame_reg → k ≢ inner_reg → k ≢ clash_reg → (heap_at + top ≤ k → trail_at ≤ k) →
+      cells' k ≡ cells k
   pub count : ℕ
   pub few : count ≤ 4 * n + 22
   pub runs : Runs p f w ENTER_ACTS ENTER_ACTS (state memory (n ∷ more ∷ 0 ∷ 0 ∷ []) typed drawn output) (Returns 0)
@@ -139,6 +142,7 @@ pub record EnterWorks : Type 0 where
   pub enters : (p : Program) → HasRunTime p → (f w : ℕ) (memory typed output : List ℕ) (drawn n more : ℕ) (cells : ℕ → ℕ) (top : ℕ) →
       Holds p.world.layout memory cells → cells heap_reg ≡ top → top + (6 + n + more) ≤ 10000 → cells many_reg ≤ 1 →
       Enters p f w memory typed output drawn n more cells top
-  pub meets : (p : Program) → HasRunTime p → (f w : ℕ) → 2 ≤ f → (memory typed output : List ℕ) (drawn n more : ℕ) (cells : ℕ → ℕ) (top : ℕ) →
+  pub meets : (p : Program) → HasRunTime p → (f w : ℕ) → 2 ≤ f →
+      (memory typed output : List ℕ) (drawn n more : ℕ) (cells : ℕ → ℕ) (top : ℕ) →
       Holds p.world.layout memory cells → cells heap_reg ≡ top → top ≤ 10000 → n ≤ 300 → more ≤ 10001 → 10000 < top + (6 + n + more) →
       MeetsLimit p f w ENTER_ACTS memory (n ∷ more ∷ 0 ∷ 0 ∷ []) typed output drawn cells 5

@@ -59,7 +59,8 @@ pub record Keyed (p : Program) (f w : ℕ) (memory typed output : List ℕ) (dra
 
 -- So it is of every value.
 abbrev pub KeyWorks : Type 0
-KeyWorks = (p : Program) → HasRunTime p → (f w : ℕ) → 1 ≤ f → 4 ≤ w → (memory typed output : List ℕ) (drawn : ℕ) (sh : Shape) → IsShape sh →
+KeyWorks = (p : Program) → HasRunTime p → (f w : ℕ) → 1 ≤ f → 4 ≤ w → (memory typed output : List ℕ) (drawn : ℕ) (sh : Shape) →
+    IsShape sh →
     (cells : ℕ → ℕ) → Holds p.world.layout memory cells → (S : Substitution) → Stands sh cells S → (x : ℕ) (v : Value) → Shows sh x v →
     Keyed p f w memory typed output drawn x S v
 
@@ -77,7 +78,8 @@ pub record KeepsFirst (p : Program) (f w : ℕ) (memory typed output : List ℕ)
 
 -- Behind a rule that was kept a choice is opened that goes on with this rule, in 32 instructions: its cells have what the registers say of the query,
 -- and behind them twelve arguments; those that the query has are taken. The rule that was kept comes.
-pub record OpensFurther (p : Program) (f w : ℕ) (memory typed output : List ℕ) (drawn enter self next : ℕ) (cells : ℕ → ℕ) (top : ℕ) : Type 0 where
+pub record OpensFurther (p : Program) (f w : ℕ) (memory typed output : List ℕ) (drawn enter self next : ℕ) (cells : ℕ → ℕ)
+    (top : ℕ) : Type 0 where
   pub memory' : List ℕ
   pub cells' : ℕ → ℕ
   pub locals' : List ℕ
@@ -85,10 +87,13 @@ pub record OpensFurther (p : Program) (f w : ℕ) (memory typed output : List �
   pub heap : cells' heap_reg ≡ top + 10 + cells parameters_reg
   pub choice : cells' choice_reg ≡ at_place top
   pub mark : cells' mark_reg ≡ at_place top
-  pub row : RowIs cells' (top + 0) (cells choice_reg ∷ self ∷ cells frame_reg ∷ cells inner_reg ∷ cells stop_reg ∷ cells trail_reg ∷ 0 ∷ cells back_reg
-      ∷ cells many_reg ∷ cells key_reg ∷ cells 16 ∷ cells 17 ∷ cells 18 ∷ cells 19 ∷ cells 20 ∷ cells 21 ∷ cells 22 ∷ cells 23 ∷ cells 24 ∷ cells 25
+  pub row : RowIs cells' (top + 0) (cells choice_reg ∷ self ∷ cells frame_reg ∷ cells inner_reg ∷ cells stop_reg ∷ cells trail_reg ∷ 0
+      ∷ cells back_reg
+      ∷ cells many_reg ∷ cells key_reg ∷ cells 16 ∷ cells 17 ∷ cells 18 ∷ cells 19 ∷ cells 20 ∷ cells 21 ∷ cells 22 ∷ cells 23
+      ∷ cells 24 ∷ cells 25
       ∷ cells 26 ∷ cells 27 ∷ [])
-  pub others : (k : ℕ) → k ≢ heap_reg → k ≢ choice_reg → k ≢ mark_reg → (heap_at + top ≤ k → heap_at + (top + 22) ≤ k) → cells' k ≡ cells k
+  pub others : (k : ℕ) → k ≢ heap_reg → k ≢ choice_reg → k ≢ mark_reg → (heap_at + top ≤ k → heap_at + (top + 22) ≤ k) →
+      cells' k ≡ cells k
   pub runs : Runs p f w FOUND_ACTS FOUND_ACTS (state memory (enter ∷ self ∷ next ∷ 0 ∷ []) typed drawn output) (Returns (cells begin_reg))
       (state memory' locals' typed drawn output) 32
 
@@ -96,19 +101,23 @@ pub record OpensFurther (p : Program) (f w : ℕ) (memory typed output : List �
 pub record FoundWorks : Type 0 where
   pub keeps : (p : Program) → HasRunTime p → (f w : ℕ) (memory typed output : List ℕ) (drawn enter self next : ℕ) (cells : ℕ → ℕ) →
       Holds p.world.layout memory cells → cells begin_reg ≡ 0 → enter < 65536 → KeepsFirst p f w memory typed output drawn enter self next cells
-  pub opens : (p : Program) → HasRunTime p → (f w : ℕ) (memory typed output : List ℕ) (drawn enter self next : ℕ) (cells : ℕ → ℕ) (top : ℕ) →
+  pub opens : (p : Program) → HasRunTime p →
+      (f w : ℕ) (memory typed output : List ℕ) (drawn enter self next : ℕ) (cells : ℕ → ℕ) (top : ℕ) →
       Holds p.world.layout memory cells → cells begin_reg ≢ 0 → cells heap_reg ≡ top → top + 10 + cells parameters_reg ≤ 10000 → self < 65536 →
       OpensFurther p f w memory typed output drawn enter self next cells top
-  pub meets : (p : Program) → HasRunTime p → (f w : ℕ) → 2 ≤ f → (memory typed output : List ℕ) (drawn enter self next : ℕ) (cells : ℕ → ℕ) (top : ℕ) →
+  pub meets : (p : Program) → HasRunTime p → (f w : ℕ) → 2 ≤ f →
+      (memory typed output : List ℕ) (drawn enter self next : ℕ) (cells : ℕ → ℕ) (top : ℕ) →
       Holds p.world.layout memory cells → cells begin_reg ≢ 0 → cells heap_reg ≡ top → top ≤ 10000 → cells parameters_reg ≤ 12 →
       10000 < top + 10 + cells parameters_reg → MeetsLimit p f w FOUND_ACTS memory (enter ∷ self ∷ next ∷ 0 ∷ []) typed output drawn cells 5
 
 -- Behind the last rule the one that was kept comes next, or the routine that fails, in 2 instructions, and nothing is changed.
 pub record NoneWorks : Type 0 where
-  pub begins : (p : Program) → IsMapped p → (f w : ℕ) (memory typed output : List ℕ) (drawn : ℕ) (cells : ℕ → ℕ) → Holds p.world.layout memory cells →
+  pub begins : (p : Program) → IsMapped p → (f w : ℕ) (memory typed output : List ℕ) (drawn : ℕ) (cells : ℕ → ℕ) →
+      Holds p.world.layout memory cells →
       cells begin_reg ≢ 0 → Runs p f w NONE_ACTS NONE_ACTS (state memory [] typed drawn output) (Returns (cells begin_reg))
       (state memory [] typed drawn output) 2
-  pub fails : (p : Program) → IsMapped p → (f w : ℕ) (memory typed output : List ℕ) (drawn : ℕ) (cells : ℕ → ℕ) → Holds p.world.layout memory cells →
+  pub fails : (p : Program) → IsMapped p → (f w : ℕ) (memory typed output : List ℕ) (drawn : ℕ) (cells : ℕ → ℕ) →
+      Holds p.world.layout memory cells →
       cells begin_reg ≡ 0 → Runs p f w NONE_ACTS NONE_ACTS (state memory [] typed drawn output) (Returns (p.names.routine FAIL))
       (state memory [] typed drawn output) 2
 
@@ -127,17 +136,21 @@ pub data Matches (g : Setting) (memory : List ℕ) (x y most : ℕ) (u : Unified
 
 -- So they are as long as none has clashed; else nothing is done.
 pub record MatchWorks : Type 0 where
-  pub matches : (g : Setting) (S : Substitution) (m : Moment g S) (x y : ℕ) (a b : Value) → Shows g.sh x a → Shows g.sh y b → m.cells clash_reg ≡ 0 →
+  pub matches : (g : Setting) (S : Substitution) (m : Moment g S) (x y : ℕ) (a b : Value) → Shows g.sh x a → Shows g.sh y b →
+      m.cells clash_reg ≡ 0 →
       Matches g m.memory x y (price S ((a, b) ∷ [])) (unify S a b)
-  pub skips : (p : Program) → IsMapped p → (f w : ℕ) (memory typed output : List ℕ) (drawn x y : ℕ) (cells : ℕ → ℕ) → Holds p.world.layout memory cells →
+  pub skips : (p : Program) → IsMapped p → (f w : ℕ) (memory typed output : List ℕ) (drawn x y : ℕ) (cells : ℕ → ℕ) →
+      Holds p.world.layout memory cells →
       cells clash_reg ≢ 0 → Runs p f w MATCH_ACTS MATCH_ACTS (state memory (x ∷ y ∷ 0 ∷ 0 ∷ []) typed drawn output) (Returns 0)
       (state memory (x ∷ y ∷ 0 ∷ 0 ∷ []) typed drawn output) 2
 
 -- Behind the last argument a routine comes next, or the one that fails, in 2 instructions, and nothing is changed.
 pub record MatchedWorks : Type 0 where
-  pub goes : (p : Program) → IsMapped p → (f w : ℕ) (memory typed output : List ℕ) (drawn x : ℕ) (cells : ℕ → ℕ) → Holds p.world.layout memory cells →
+  pub goes : (p : Program) → IsMapped p → (f w : ℕ) (memory typed output : List ℕ) (drawn x : ℕ) (cells : ℕ → ℕ) →
+      Holds p.world.layout memory cells →
       cells clash_reg ≡ 0 → Runs p f w MATCHED_ACTS MATCHED_ACTS (state memory (x ∷ []) typed drawn output) (Returns x)
       (state memory (x ∷ []) typed drawn output) 2
-  pub fails : (p : Program) → IsMapped p → (f w : ℕ) (memory typed output : List ℕ) (drawn x : ℕ) (cells : ℕ → ℕ) → Holds p.world.layout memory cells →
+  pub fails : (p : Program) → IsMapped p → (f w : ℕ) (memory typed output : List ℕ) (drawn x : ℕ) (cells : ℕ → ℕ) →
+      Holds p.world.layout memory cells →
       cells clash_reg ≢ 0 → Runs p f w MATCHED_ACTS MATCHED_ACTS (state memory (x ∷ []) typed drawn output) (Returns (p.names.routine FAIL))
       (state memory (x ∷ []) typed drawn output) 2

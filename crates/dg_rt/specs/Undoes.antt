@@ -36,8 +36,10 @@ pub record Unwinds (p : Program) (f w : ℕ) (acts : List Act) (memory typed out
 
 -- So it does wherever it is called with the height of a trail that the trail at hand has grown from.
 abbrev pub UndoUnwinds : Type 0
-UndoUnwinds = (p : Program) → IsMapped p → (f w : ℕ) (typed output : List ℕ) (drawn : ℕ) (old newer memory : List ℕ) (cells : ℕ → ℕ) (x : ℕ) →
-    Holds p.world.layout memory cells → cells trail_reg ≡ length (newer ++ old) → length (newer ++ old) ≤ 2000 → OnTrail cells (newer ++ old) → InHeap newer →
+UndoUnwinds = (p : Program) → IsMapped p →
+    (f w : ℕ) (typed output : List ℕ) (drawn : ℕ) (old newer memory : List ℕ) (cells : ℕ → ℕ) (x : ℕ) →
+    Holds p.world.layout memory cells → cells trail_reg ≡ length (newer ++ old) → length (newer ++ old) ≤ 2000 → OnTrail cells (newer ++ old) →
+    InHeap newer →
     Unwinds p f w UNDO_ACTS memory typed output drawn (length old) x cells newer
 
 -- ## By the substitution

@@ -17,4 +17,5 @@ AllSmaller S (More v vs) w = Smaller S v w × AllSmaller S vs w
 -- A value stands inside the boxes at these places, each inside the next.
 pub data Below (sh : Shape) (S : Substitution) : List ℕ → Value → Type 0 where
   on_top : (v : Value) → Below sh S [] v
-  under : (ks : List ℕ) (v : Value) (k : ℕ) (w : Value) → k + 2 < 10000 → sh.box k ≡ Some w → Smaller S v w → Below sh S ks w → Below sh S (k ∷ ks) v
+  under : (ks : List ℕ) (v : Value) (k : ℕ) (w : Value) → k + 2 < 10000 → sh.box k ≡ Some w → Smaller S v w → Below sh S ks w →
+      Below sh S (k ∷ ks) v
