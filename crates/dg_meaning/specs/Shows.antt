@@ -33,7 +33,8 @@ IsLeft (Some left) typed = left ≡ typed
 
 -- The whole run whose budget is the step limit, closed with the line of its ending, that ending and the goals that it took; the input has left what that
 -- run has left.
-pub record ShowsRunBy (form : Form) (g : Game) (typed : List ℕ) (limits : Limits) (bytes : List ℕ) (outcome : Outcome) (left : Option (List ℕ)) : Type 0 where
+pub record ShowsRunBy (form : Form) (g : Game) (typed : List ℕ) (limits : Limits) (bytes : List ℕ) (outcome : Outcome)
+    (left : Option (List ℕ)) : Type 0 where
   pub begins : MayBegin g limits
   pub text : bytes ≡ form (run g typed limits.steps).world.events (Some (line_of (run g typed limits.steps).ending))
   pub ending : outcome.ending ≡ (run g typed limits.steps).ending
@@ -49,7 +50,8 @@ pub record LeftBetween (g : Game) (typed : List ℕ) (few many : ℕ) (left : Op
 
 -- A limit was met while a goal was done, or before the first: the run up to that goal passes the limit, and what has happened before is closed with
 -- the limit's line. Of the input no less is left than that goal leaves, and no more than those before it.
-pub record ShowsLimitBy (form : Form) (g : Game) (typed : List ℕ) (limits : Limits) (bytes : List ℕ) (outcome : Outcome) (left : Option (List ℕ)) : Type 0 where
+pub record ShowsLimitBy (form : Form) (g : Game) (typed : List ℕ) (limits : Limits) (bytes : List ℕ) (outcome : Outcome)
+    (left : Option (List ℕ)) : Type 0 where
   pub begins : 0 < outcome.goals → MayBegin g limits
   pub area : Area
   pub ending : outcome.ending ≡ limit_ending area

@@ -29,7 +29,8 @@ RunsAsSearched = (g : Game) (code : Code) (limits : Limits) → Codes g.program 
 
 -- Where code stands for the program of a game that may begin, what it prints shows the game.
 abbrev pub CodeShows : Type 0
-CodeShows = (g : Game) (code : Code) (limits : Limits) → Codes g.program code → MayBegin g limits → (typed : List ℕ) → ShowsAll (setting g code limits) g typed
+CodeShows = (g : Game) (code : Code) (limits : Limits) → Codes g.program code → MayBegin g limits → (typed : List ℕ) →
+    ShowsAll (setting g code limits) g typed
 
 -- The same where its input fails.
 abbrev pub CodeShowsFaults : Type 0
