@@ -1,41 +1,29 @@
--- What is left in items where plain heads replace it: hold it against docs/LANGUAGE.md, "Plain heads".
-use Rattle.std.specs.Prelude.{◌≡◌, ◌&&◌, ℕ, List, [], ◌∷◌, Bool, true, false, not, Option, None}
+-- What is left to put in: hold it against docs/LANGUAGE.md, "Access rules".
+use Rattle.std.specs.Prelude.{◌≡◌, List, Bool, false}
 use Rattle.std.specs.List.{All}
 use Rattle.std.specs.Option.{is_some}
-use Rattle.dg_base.specs.Tree.{Said, topic, rule, deny, access, global_variable, Item}
-use Rattle.dg_base.specs.Mentions.{Thing, query, current_topic, unnamed, word_choice, things_in}
-use Rattle.dg_base.specs.declared.mentions.Role.{Role}
+use Rattle.dg_base.specs.Tree.{Said, topic, rule, deny, access, global_variable}
+use Rattle.dg_base.specs.Mentions.{Thing, query, things_in}
 use Rattle.dg_base.specs.declared.mentions.Role.TheVariants as role
-use Rattle.dg_access.specs.Items.{topic_behind}
+use Rattle.dg_access.specs.Put.{Access, rule_for}
 
-abbrev pub is_nested : Role → Bool
-is_nested role.Nested = true
-is_nested r = false
+-- A query, a change or a head of an access rule's predicate.
+abbrev pub is_left : List Access → Thing → Bool
+is_left rules (query role.Asked ps) = is_some (rule_for rules ps)
+is_left rules (query role.AskedAll ps) = is_some (rule_for rules ps)
+is_left rules (query role.AskedNot ps) = is_some (rule_for rules ps)
+is_left rules (query (role.Changed set) ps) = is_some (rule_for rules ps)
+is_left rules (query role.Rule ps) = is_some (rule_for rules ps)
+is_left rules t = false
 
--- A query as a value, a choice of words, an anonymous variable, or a `*` behind a topic. A declaration keeps its query and its anonymous variables.
-abbrev pub is_left : Bool → Bool → Thing → Bool
-is_left declares behind (query r ps) = is_nested r && not declares
-is_left declares behind current_topic = behind
-is_left declares behind (unnamed twice) = not declares
-is_left declares behind (word_choice ws) = true
-is_left declares behind t = false
+-- Nothing is left to put in here.
+abbrev pub NoneIsLeft : List Access → List Thing → Type 0
+NoneIsLeft rules ts = All (λ (t : Thing). is_left rules t ≡ false) ts
 
-abbrev pub is_declaration : Said → Bool
-is_declaration (global_variable ps) = true
-is_declaration (topic n) = false
-is_declaration (rule ps b) = false
-is_declaration (deny ps b) = false
-is_declaration (access ps b) = false
-
--- Nothing is left in what an item says, behind this topic.
-abbrev pub IsPlainSaid : Option (List ℕ) → Said → Type 0
-IsPlainSaid t said = All (λ (x : Thing). is_left (is_declaration said) (is_some t) x ≡ false) (things_in said)
-
--- Nothing is left in these items, from this topic on.
-abbrev pub ArePlain : Option (List ℕ) → List Item → Type 0
-ArePlain t [] = Unit {0}
-ArePlain t (i ∷ is) = IsPlainSaid t i.said × ArePlain (topic_behind t i.said) is
-
--- Nothing is left to replace.
-abbrev pub IsPlain : List Item → Type 0
-IsPlain = ArePlain None
+-- Nothing is left to put in in what an item says. A declaration stays as it stands.
+abbrev pub IsPutIn : List Access → Said → Type 0
+IsPutIn rules (global_variable ps) = Unit {0}
+IsPutIn rules (topic n) = NoneIsLeft rules (things_in (topic n))
+IsPutIn rules (rule ps b) = NoneIsLeft rules (things_in (rule ps b))
+IsPutIn rules (deny ps b) = NoneIsLeft rules (things_in (deny ps b))
+IsPutIn rules (access ps b) = NoneIsLeft rules (things_in (access ps b))

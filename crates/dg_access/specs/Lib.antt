@@ -1,10 +1,7 @@
-pub mod Plain
-pub mod Items
-pub mod Left
+pub mod Put
+pub mod Expanded
+pub mod Loops
+pub mod Answer
 pub mod Comes
-pub mod Counts
-pub mod Rewritten
-pub mod Few
-pub mod Scopes
-pub mod State
-pub mod Building
+pub mod Left
+pub mod inside

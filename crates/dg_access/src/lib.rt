@@ -1,34 +1,26 @@
-//! Items with plain heads: every variable has a name, and no choice of words and no query stands in a head. What is then counted of them
-//! stays within its numbers.
+//! Access rules that are put in: queries, heads and changes of their predicates stand no more in the tree.
 #![tactic(auto)]
 
-mod built;
-mod counts;
-mod fresh;
+mod access;
+mod answer;
+mod chains;
+mod closed;
+mod expanding;
+mod finding;
 mod laws;
-mod lists;
-mod numbers;
-mod plain;
-mod puts;
+mod loops;
+mod marks;
+mod names;
+mod place;
+mod reached;
+mod release;
 mod rules;
-mod setting;
-mod standing;
 mod steps;
-mod totals;
-mod variables;
+mod weighed;
 mod work;
 
-pub use built::{Built, close, let_go, pop_body, unbuilt};
-pub use counts::{Counts, add_items, uncounted};
-pub use fresh::{copied, take_number};
+pub use answer::{expand, rewrite};
 pub use laws::{
-    choices_differ, mentions_come_from_the_source, nothing_is_left, plain_heads_keep_names,
-    small_items_have_few_variables, unnamed_variables_differ,
+    closures_are_few, declared_heads_keep_names, mentions_are_put, none_is_closed, nothing_is_left,
+    one_answer, variables_are_few,
 };
-pub use lists::put;
-pub use numbers::free_number;
-pub use rules::plain_tree;
-pub use setting::Setting;
-pub use totals::totals_among;
-pub use variables::{Entry, add_places, merge, stays};
-pub use work::{Asking, Close, Wrap};

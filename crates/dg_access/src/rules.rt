@@ -1,171 +1,257 @@
-// Rules with plain heads.
-ghost use Rattle.std.specs.Prelude.{◌≡◌, true, map, IfOk, Option};
-ghost use Rattle.std.specs.Option.{option_map};
+// Items with access rules put in.
+ghost use Rattle.std.specs.Prelude.{◌≡◌, ◌<◌, ◌*◌, ◌++◌, ◌∷◌, [], None, true, false, length, map, IfOk, IfSome, IfNone, OnOk};
+ghost use Rattle.std.specs.Option.{option_to_list};
+ghost use Rattle.dg_base.specs.Heads.{name_of};
 ghost use Rattle.dg_base.specs.Tree as tree;
-ghost use Rattle.dg_base.specs.Tree.{stmts_of};
-ghost use Rattle.dg_base.specs.TreeView.{stmt_view, body_view, head_view, said_view, tree_view};
-ghost use Rattle.dg_access.specs.Plain as spec;
-ghost use Rattle.dg_access.specs.Items as items;
-ghost use Rattle.dg_access.specs.State.{setting_view};
+ghost use Rattle.dg_base.specs.Tree.{changes_of};
+ghost use Rattle.dg_base.specs.TreeView.{body_view, head_view, change_view, said_view, item_view};
+ghost use Rattle.dg_access.specs.Expanded as spec;
+ghost use Rattle.dg_access.specs.Put.{level, in_item, put_body};
+ghost use Rattle.dg_access.specs.inside.Putting.{access_view, around, standing_in};
+ghost use Rattle.dg_access.specs.inside.Weights.{body_load, IsOver};
 
-use crate::fresh::copied;
-use crate::lists::put;
-use crate::numbers::free_number;
-use crate::plain::{Plain, plain_head, plain_parts_of};
-use crate::puts::{body_of, one_stmt};
-use crate::setting::Setting;
-use dg_base::{Body, Head, Item, ItemBody, Items, Stmt, Tree};
+use crate::access::Access;
+use crate::chains::Rules;
+use crate::expanding::{BuiltBody, Heads, MOST, RULES, body_of, head_of, heads_of};
+use crate::place::{Outer, Place, Uses, placed};
+use crate::release::{let_go_body, let_go_head, let_go_heads};
+use bumpalo::Bump;
+use dg_base::{Body, Head, Item, ItemBody, NowChange, name_of};
+use dg_plain::{copied, free_number};
 use std::alloc::{AllocError, Global};
 
-fn is_single(body: &Body) -> bool
-    ensures { result ≡ spec.is_single (body_view body.now) }
-{
-    let [_, others @ ..] = body.branches.as_slice() else {
-        return false;
-    };
-    match others {
-        [] => true,
-        [_, ..] => false,
-    }
-}
-
-fn only_branch(alloc: Global, mut body: Body) -> Result<Items<Stmt>, AllocError>
-    requires { spec.is_single (body_view body) ≡ true }
-    ensures { IfOk result (λ new. stmts_of (map stmt_view new) ≡ spec.whole_body (body_view body)) }
-{
-    match body.branches.pop() {
-        Some(stmts) => Ok(stmts),
-        None => Ok(Items::new(alloc)),
-    }
-}
-
-// The statements of a body's only branch, or else the body as a group.
-#[tactic(auto, using(std::proofs::lemmas::Grind::common_steps, crate::proofs::BranchLemmas::whole_else))]
-fn whole_body(alloc: Global, body: Body) -> Result<Items<Stmt>, AllocError>
-    ensures { IfOk result (λ new. stmts_of (map stmt_view new) ≡ spec.whole_body (body_view body)) }
-{
-    if is_single(&body) {
-        return only_branch(alloc, body);
-    }
-    one_stmt(alloc, Stmt::Group(body))
-}
-
-fn in_front(puts: Vec<Stmt>, stmts: Items<Stmt>) -> Result<Items<Stmt>, AllocError>
-    ensures { IfOk result (λ new. stmts_of (map stmt_view new) ≡ spec.in_front (map stmt_view puts.items) (stmts_of (map stmt_view stmts))) }
-{
-    let mut all = Items::from_vec(puts);
-    all.append(stmts)?;
-    Ok(all)
-}
-
-fn one_branch(alloc: Global, stmts: Items<Stmt>) -> Result<Body, AllocError>
-    ensures { IfOk result (λ new. body_view new ≡ tree.branch (stmts_of (map stmt_view stmts)) tree.no_branches) }
-{
-    let mut branches = Vec::new(alloc);
-    put(&mut branches, stmts)?;
-    Ok(body_of(branches))
-}
-
-fn is_none(puts: &[Stmt]) -> bool
-    ensures { result ≡ spec.is_none (map stmt_view puts.now) }
-{
-    match puts {
-        [] => true,
-        [_, ..] => false,
-    }
-}
-
-fn put_before(alloc: Global, puts: Vec<Stmt>, body: Body) -> Result<Body, AllocError>
-    ensures { IfOk result (λ new. body_view new ≡ spec.put_before (map stmt_view puts.items) (body_view body)) }
-{
-    if is_none(puts.as_slice()) {
-        return Ok(body);
-    }
-    let stmts = in_front(puts, whole_body(alloc, body)?)?;
-    one_branch(alloc, stmts)
-}
-
-fn plain_rule(
+fn access_of<'a>(
     alloc: Global,
-    setting: Setting<'_>,
-    head: &Head,
-    body: &Body,
-) -> Result<(Head, Body), AllocError>
-    ensures head { IfOk result (λ new. head_view new.0 ≡ spec.plain_parts (setting_view setting.entry) 0 (head_view head.now)) }
-    ensures body { IfOk result (λ new. body_view new.1 ≡ spec.rule_body (setting_view setting.entry) (head_view head.now) (body_view body.now)) }
+    bump: &'a Bump,
+    head: &'a Head,
+    body: &'a Body,
+) -> Result<Access<'a>, AllocError>
+    ensures { IfOk result (λ new. access_view new ≡ record { name = name_of (head_view head.now); head = head_view head.now; body = body_view body.now }) }
 {
-    let Plain { head, puts, body } = plain_parts_of(alloc, setting, head, body)?;
-    Ok((head, put_before(alloc, puts, body)?))
+    let name = name_of(alloc, head)?;
+    let name = bump.try_alloc_slice_copy(name.as_slice())?;
+    Ok(Access {
+        name,
+        head: head.parts.as_slice(),
+        body,
+    })
 }
 
-fn as_rule(rule: (Head, Body)) -> ItemBody
-    ensures { said_view result ≡ tree.rule (head_view rule.0) (body_view rule.1) }
+fn add_access<'a>(
+    alloc: Global,
+    bump: &'a Bump,
+    rules: &mut Vec<Access<'a>>,
+    said: &'a ItemBody,
+) -> Result<(), AllocError>
+    ensures { OnOk result (map access_view rules.new.items ≡ map access_view rules.old.items ++ spec.access_in (said_view said.now)) }
 {
-    let (head, body) = rule;
-    ItemBody::Rule(head, body)
+    if let ItemBody::Access(head, body) = said {
+        rules.push(access_of(alloc, bump, head, body)?)?;
+    }
+    Ok(())
 }
 
-fn as_deny(rule: (Head, Body)) -> ItemBody
-    ensures { said_view result ≡ tree.deny (head_view rule.0) (body_view rule.1) }
+/// The access rules of items, in order.
+pub fn access_rules<'a>(
+    alloc: Global,
+    bump: &'a Bump,
+    items: &'a [Item],
+) -> Result<Vec<Access<'a>>, AllocError>
+    ensures { IfOk result (λ rules. map access_view rules.items ≡ spec.access_rules (map item_view items.now)) }
 {
-    let (head, body) = rule;
-    ItemBody::Deny(head, body)
+    let mut rules = Vec::new(alloc);
+    for item in items {
+        add_access(alloc, bump, &mut rules, &item.body)?;
+    }
+    Ok(rules)
 }
 
-fn as_access(rule: (Head, Body)) -> ItemBody
-    ensures { said_view result ≡ tree.access (head_view rule.0) (body_view rule.1) }
+// In an item, with so many access rules one in the other.
+fn standing_in<'a>(uses: Uses<'a>, depth: usize) -> Result<&'a Place<'a>, AllocError>
+    ensures { IfOk result (λ new. around uses.entry new.now ≡ standing_in uses.entry depth) }
 {
-    let (head, body) = rule;
-    ItemBody::Access(head, body)
+    placed(
+        uses.bump,
+        Place {
+            outer: Outer::Item,
+            params: &[],
+            args: &[],
+            depth,
+            use_number: None,
+            copy_number: None,
+            moved: false,
+            closed: false,
+        },
+    )
 }
 
-fn plain_said(alloc: Global, topic: Option<&[u8]>, said: &ItemBody) -> Result<ItemBody, AllocError>
-    ensures { IfOk result (λ new. said_view new ≡ items.plain_said (option_map (λ name. name.now) topic.entry) (said_view said.now)) }
+fn take_first(heads: &mut Vec<NowChange>) -> Option<NowChange>
+    ensures first { heads.old.items ≡ option_to_list result ++ heads.new.items }
+    ensures none { result ≡ None → heads.old.items ≡ [] }
 {
-    let number = free_number(alloc, said)?;
-    let rule = Setting {
-        topic,
-        number,
-        declares: false,
-    };
-    match said {
-        ItemBody::Topic(name) => copied(alloc, name.as_slice()).map(ItemBody::Topic),
-        ItemBody::Rule(head, body) => plain_rule(alloc, rule, head, body).map(as_rule),
-        ItemBody::Deny(head, body) => plain_rule(alloc, rule, head, body).map(as_deny),
-        ItemBody::Access(head, body) => plain_rule(alloc, rule, head, body).map(as_access),
-        ItemBody::Variable(head) => {
-            let declaration = Setting {
-                topic,
-                number,
-                declares: true,
-            };
-            plain_head(alloc, declaration, head).map(ItemBody::Variable)
+    if heads.is_empty() {
+        return None;
+    }
+    Some(heads.remove(0))
+}
+
+fn signed(head: NowChange, body: Body) -> ItemBody
+    ensures { said_view result ≡ spec.signed_rule head.set (head_view head.head) (body_view body) }
+{
+    let NowChange { head, set } = head;
+    if set {
+        ItemBody::Rule(head, body)
+    } else {
+        ItemBody::Deny(head, body)
+    }
+}
+
+// The body of each of so many rules, unless all these weigh too much.
+fn next_body<'a>(
+    alloc: Global,
+    uses: Uses<'a>,
+    at: &'a Place<'a>,
+    number: usize,
+    count: usize,
+    body: &'a Body,
+) -> Result<Option<Body>, AllocError>
+    requires { 0 < count }
+    ensures body { IfOk result (λ all. IfSome all (λ new. body_view new
+        ≡ (put_body (around uses.entry at.now).at (around uses.entry at.now).place number (body_view body.now)).0)) }
+    ensures large { IfOk result (λ all. IfNone all (2500000
+        < count * body_load (put_body (around uses.entry at.now).at (around uses.entry at.now).place number (body_view body.now)).0)) }
+{
+    match body_of(alloc, uses, at, number, body)? {
+        Some(BuiltBody { body, tally }) => {
+            if count.saturating_mul(tally) > MOST {
+                let_go_body(body);
+                return Ok(None);
+            }
+            Ok(Some(body))
+        }
+        None => Ok(None),
+    }
+}
+
+// Adds a rule for each head, all of one body: whether this could be done.
+fn add_rules<'a>(
+    alloc: Global,
+    uses: Uses<'a>,
+    at: &'a Place<'a>,
+    out: &mut Vec<Item>,
+    line: u32,
+    heads: Heads,
+    body: &'a Body,
+) -> Result<bool, AllocError>
+    ensures added { IfOk result (λ done. done ≡ true → map item_view out.new.items
+        ≡ map item_view out.old.items ++ spec.on_line line (spec.head_rules (changes_of (map change_view heads.heads.items))
+        (put_body (around uses.entry at.now).at (around uses.entry at.now).place heads.number (body_view body.now)).0)) }
+    ensures large { IfOk result (λ done. done ≡ false → IsOver (spec.on_line line (spec.head_rules (changes_of (map change_view heads.heads.items))
+        (put_body (around uses.entry at.now).at (around uses.entry at.now).place heads.number (body_view body.now)).0))) }
+{
+    let Heads { mut heads, number } = heads;
+    let count = heads.len();
+    if count > RULES {
+        let_go_heads(heads);
+        return Ok(false);
+    }
+    for turn in 0..u64::MAX {
+        match take_first(&mut heads) {
+            Some(head) => match next_body(alloc, uses, at, number, count, body)? {
+                Some(body) => out.push(Item {
+                    line,
+                    body: signed(head, body),
+                })?,
+                None => {
+                    let_go_head(head, heads);
+                    return Ok(false);
+                }
+            },
+            None => return Ok(true),
         }
     }
+    Err(AllocError)
 }
 
-fn topic_behind<'a>(topic: Option<&'a [u8]>, said: &'a ItemBody) -> Option<&'a [u8]>
-    ensures { option_map (λ name. name.now) result ≡ items.topic_behind (option_map (λ name. name.now) topic.entry) (said_view said.now) }
+fn put_rule<'a>(
+    alloc: Global,
+    uses: Uses<'a>,
+    out: &mut Vec<Item>,
+    line: u32,
+    set: bool,
+    head: &'a Head,
+    body: &'a Body,
+) -> Result<bool, AllocError>
+    ensures added { IfOk result (λ done. done ≡ true → map item_view out.new.items ≡ map item_view out.old.items ++ spec.on_line line
+        (spec.put_rule (level (map access_view uses.entry.rules.all.now) uses.entry.mark (length uses.entry.rules.all.now)) set
+        (head_view head.now) (body_view body.now))) }
+    ensures large { IfOk result (λ done. done ≡ false → IsOver (spec.on_line line
+        (spec.put_rule (level (map access_view uses.entry.rules.all.now) uses.entry.mark (length uses.entry.rules.all.now)) set
+        (head_view head.now) (body_view body.now)))) }
 {
-    match said {
-        ItemBody::Topic(name) => Some(name.as_slice()),
-        _ => topic,
+    let at = standing_in(uses, uses.rules.all.len())?;
+    match heads_of(alloc, uses, at, set, head)? {
+        Some(heads) => add_rules(alloc, uses, at, out, line, heads, body),
+        None => Ok(false),
     }
 }
 
-/// The items with plain heads and with names for what has none.
-pub fn plain_tree(alloc: Global, tree: &Tree) -> Result<Tree, AllocError>
-    ensures { IfOk result (λ new. tree_view new ≡ items.plain_items Option.None (tree_view tree.now)) }
+// A declaration stays as it stands.
+fn put_declaration<'a>(
+    alloc: Global,
+    uses: Uses<'a>,
+    out: &mut Vec<Item>,
+    line: u32,
+    head: &'a Head,
+) -> Result<bool, AllocError>
+    ensures added { IfOk result (λ done. done ≡ true → map item_view out.new.items ≡ map item_view out.old.items ++ spec.on_line line
+        (tree.global_variable (spec.stay (head_view head.now)) ∷ [])) }
+    ensures large { IfOk result (λ done. done ≡ false → IsOver (spec.on_line line (tree.global_variable (spec.stay (head_view head.now)) ∷ []))) }
 {
-    let mut new = Vec::new(alloc);
-    let mut topic: Option<&[u8]> = None;
-    for item in tree.items.as_slice() {
-        let line = item.line;
-        let body = plain_said(alloc, topic, &item.body)?;
-        topic = topic_behind(topic, &item.body);
-        put(&mut new, Item { line, body })?;
+    let unmarked = Uses { mark: 0, ..uses };
+    let at = standing_in(unmarked, 0)?;
+    match head_of(alloc, unmarked, at, head)? {
+        Some(head) => {
+            out.push(Item {
+                line,
+                body: ItemBody::Variable(head),
+            })?;
+            Ok(true)
+        }
+        None => Ok(false),
     }
-    Ok(Tree {
-        items: Items::from_vec(new),
-    })
+}
+
+fn put_topic(alloc: Global, out: &mut Vec<Item>, line: u32, name: &[u8]) -> Result<bool, AllocError>
+    ensures added { OnOk result (map item_view out.new.items ≡ map item_view out.old.items ++ spec.on_line line (tree.topic name.now ∷ [])) }
+    ensures done { IfOk result (λ done. done ≡ true) }
+{
+    out.push(Item {
+        line,
+        body: ItemBody::Topic(copied(alloc, name)?),
+    })?;
+    Ok(true)
+}
+
+/// Adds what becomes of an item, or answers no, since it is too much by itself.
+pub fn put_item<'a>(
+    alloc: Global,
+    bump: &'a Bump,
+    rules: Rules<'a>,
+    out: &mut Vec<Item>,
+    item: &'a Item,
+) -> Result<bool, AllocError>
+    ensures added { IfOk result (λ done. done ≡ true → map item_view out.new.items
+        ≡ map item_view out.old.items ++ spec.put_item (map access_view rules.entry.all.now) (item_view item.now)) }
+    ensures large { IfOk result (λ done. done ≡ false → IsOver (spec.put_item (map access_view rules.entry.all.now) (item_view item.now))) }
+{
+    let mark = free_number(alloc, &item.body)?;
+    let uses = Uses { bump, rules, mark };
+    match &item.body {
+        ItemBody::Topic(name) => put_topic(alloc, out, item.line, name.as_slice()),
+        ItemBody::Rule(head, body) => put_rule(alloc, uses, out, item.line, true, head, body),
+        ItemBody::Deny(head, body) => put_rule(alloc, uses, out, item.line, false, head, body),
+        ItemBody::Access(_, _) => Ok(true),
+        ItemBody::Variable(head) => put_declaration(alloc, uses, out, item.line, head),
+    }
 }

@@ -8,3 +8,5 @@ pub mod Views
 pub mod MentionLemmas
 pub mod PassingLemmas
 mod WalkLemmas
+pub mod LineLemmas
+pub mod Meant

@@ -5,20 +5,20 @@ use Rattle.dg_base.specs.declared.program.Goal.{Goal, out-Goal, out-roll-Goal, R
 use Rattle.dg_base.specs.declared.program.Goal.{Either', Once', Not', If', Exhaust', Collect', Accumulate', Stoppable', Select'}
 use Rattle.dg_base.specs.declared.program.Goal.TheVariants as goal
 use Rattle.dg_base.specs.declared.program.Goal.TheOpen as part
-use Rattle.dg_base.specs.Goals.{goals_within, within_goals, within_lists, goals_of}
+use Rattle.dg_base.specs.Goals.{goals_within, within_goals, within_lists, all_goals_of}
 use denote.Hole.Carrier.{out}
 
 -- the goals in what a goal is made of
 abbrev pub inside : part.Goal-F Goal → List Goal
-inside (part.Either lists) = flat_map goals_of lists
-inside (part.Once goals) = goals_of goals
-inside (part.Not goals) = goals_of goals
-inside (part.If a b c) = goals_of a ++ goals_of b ++ goals_of c
-inside (part.Exhaust goals) = goals_of goals
-inside (part.Collect x goals y) = goals_of goals
-inside (part.Accumulate x goals y) = goals_of goals
-inside (part.Stoppable goals) = goals_of goals
-inside (part.Select site mode lists) = flat_map goals_of lists
+inside (part.Either lists) = flat_map all_goals_of lists
+inside (part.Once goals) = all_goals_of goals
+inside (part.Not goals) = all_goals_of goals
+inside (part.If a b c) = all_goals_of a ++ all_goals_of b ++ all_goals_of c
+inside (part.Exhaust goals) = all_goals_of goals
+inside (part.Collect x goals y) = all_goals_of goals
+inside (part.Accumulate x goals y) = all_goals_of goals
+inside (part.Stoppable goals) = all_goals_of goals
+inside (part.Select site mode lists) = flat_map all_goals_of lists
 inside g = []
 
 within_row : {n : _} (k : Row_of-Goal n) → within_goals k ≡ flat_map goals_within (items-the_row-Goal n k)
@@ -28,7 +28,7 @@ within_row (more_of-Goal g others) = ap (λ (l : List Goal). goals_within g ++ l
 both : {a b c d : List Goal} → a ≡ b → c ≡ d → a ++ c ≡ b ++ d
 both {a = a} {d = d} e f = ap (λ (l : List Goal). a ++ l) f ∙ ap (λ (l : List Goal). l ++ d) e
 
-within_lists_row : {n : _} (k : Row_of-Goal-Either-0-1 n) → within_lists k ≡ flat_map goals_of (items-the_row-Goal-Either-0-1 n k)
+within_lists_row : {n : _} (k : Row_of-Goal-Either-0-1 n) → within_lists k ≡ flat_map all_goals_of (items-the_row-Goal-Either-0-1 n k)
 within_lists_row end_of-Goal-Either-0-1 = refl
 within_lists_row (more_of-Goal-Either-0-1 s goals others) =
     both (within_row goals ∙ ap (flat_map goals_within) (sym (items_shown-the_row-Goal-0 s goals))) (within_lists_row others)
@@ -46,11 +46,11 @@ within_out (If' s a t b u c) =
     (both
     (both (within_row a ∙ ap (flat_map goals_within) (sym (items_shown-the_row-Goal-0 s a))) (within_row b ∙ ap (flat_map goals_within) (sym (items_shown-the_row-Goal-0 t b))))
     (within_row c ∙ ap (flat_map goals_within) (sym (items_shown-the_row-Goal-0 u c))))
-within_out (Either' s k) = ap (λ (l : List Goal). Either' s k ∷ l) (within_lists_row k ∙ ap (flat_map goals_of) (sym (items_shown-the_row-Goal-Either-0-1-1 s k)))
-within_out (Select' site mode s k) = ap (λ (l : List Goal). Select' site mode s k ∷ l) (within_lists_row k ∙ ap (flat_map goals_of) (sym (items_shown-the_row-Goal-Either-0-1-1 s k)))
+within_out (Either' s k) = ap (λ (l : List Goal). Either' s k ∷ l) (within_lists_row k ∙ ap (flat_map all_goals_of) (sym (items_shown-the_row-Goal-Either-0-1-1 s k)))
+within_out (Select' site mode s k) = ap (λ (l : List Goal). Select' site mode s k ∷ l) (within_lists_row k ∙ ap (flat_map all_goals_of) (sym (items_shown-the_row-Goal-Either-0-1-1 s k)))
 within_out g = refl
 
-pub either_within : (lists : List (List Goal)) → goals_within (goal.Either lists) ≡ goal.Either lists ∷ flat_map goals_of lists
+pub either_within : (lists : List (List Goal)) → goals_within (goal.Either lists) ≡ goal.Either lists ∷ flat_map all_goals_of lists
 either_within lists =
     within_out (goal.Either lists)
     ∙ ap (λ (layer : part.Goal-F Goal). goal.Either lists ∷ inside layer) (ap out-Goal (sym (goal.rolls-Either lists)) ∙ out-roll-Goal (part.Either lists))

@@ -34,8 +34,8 @@ abbrev mutual
   within_lists (more_of-Goal-Either-0-1 s goals others) = within_goals goals ++ within_lists others
 
 -- the goals of a body at every depth
-abbrev pub goals_of : List Goal → List Goal
-goals_of body = flat_map goals_within body
+abbrev pub all_goals_of : List Goal → List Goal
+all_goals_of body = flat_map goals_within body
 
 -- the term, where there is one
 abbrev pub option_terms : Option Term → List Term

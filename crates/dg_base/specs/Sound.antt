@@ -15,7 +15,7 @@ use Rattle.dg_base.specs.declared.program.PlaceKind.{PlaceKind}
 use Rattle.dg_base.specs.declared.program.PlaceKind.TheVariants.{Flag, ObjectFlag, ObjectVar, Parent, Global}
 use Rattle.dg_base.specs.declared.program.CoreProgram.{CoreProgram as Core}
 use Rattle.dg_base.specs.Terms.{nodes}
-use Rattle.dg_base.specs.Goals.{goals_of, terms_held}
+use Rattle.dg_base.specs.Goals.{all_goals_of, terms_held}
 
 -- ---- names
 
@@ -99,13 +99,13 @@ pub record IsGoalOf (program : Core) (vars : ℕ) (goal : Goal) : Type 0 where
 pub record IsRuleOf (program : Core) (rule : Rule) : Type 0 where
   pub few : rule.vars ≤ 65
   pub head : All (IsTermOf program rule.vars) rule.head
-  pub body : All (IsGoalOf program rule.vars) (goals_of rule.body)
+  pub body : All (IsGoalOf program rule.vars) (all_goals_of rule.body)
 
 -- a closure has its parameter among its own variables
 pub record IsClosureOf (program : Core) (closure : ClosureBody) : Type 0 where
   pub few : closure_vars closure ≤ 65
   pub parameter : 1 ≤ closure.own
-  pub body : All (IsGoalOf program (closure_vars closure)) (goals_of closure.body)
+  pub body : All (IsGoalOf program (closure_vars closure)) (all_goals_of closure.body)
 
 -- a predicate has a name and sound rules
 pub record IsPredOf (program : Core) (pred : Pred) : Type 0 where
@@ -157,8 +157,8 @@ pub record IsPlaceOf (program : Core) (place : Place) : Type 0 where
 
 -- the goals of all rules and closures, at every depth
 abbrev pub all_goals : Core → List Goal
-all_goals program = flat_map (λ pred. flat_map (λ rule. goals_of rule.body) pred.rules) program.preds ++
-    flat_map (λ closure. goals_of closure.body) program.closures
+all_goals program = flat_map (λ pred. flat_map (λ rule. all_goals_of rule.body) pred.rules) program.preds ++
+    flat_map (λ closure. all_goals_of closure.body) program.closures
 
 -- two selects of one site have the same mode and as many lists
 abbrev pub SameSite : Goal-F Goal → Goal-F Goal → Type 0

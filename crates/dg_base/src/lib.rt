@@ -5,11 +5,13 @@
 mod cells;
 mod heads;
 mod laws;
+mod lines;
+mod lists;
 mod mentions;
 mod names;
-mod pieces;
 mod program;
 mod refusal;
+mod release;
 mod run;
 mod shelves;
 mod sinks;
@@ -24,17 +26,19 @@ mod writing;
 pub use cells::{Cell, Simple};
 pub use heads::{is_named, name_of, name_of_parts};
 pub use laws::faults_last;
+pub use lines::take_line;
+pub use lists::put;
 pub use mentions::{Form, Mention, Role};
 pub use names::{
     BUILTINS, Builtin, KEYWORDS, PRELUDE_NAMES, REFUSED_NAMES, builtin_of, is_keyword,
     is_prelude_name, is_refused_name,
 };
-pub use pieces::Pieces;
 pub use program::{
     ArithOp, ClosureBody, CompareOp, CoreProgram, GapKind, Goal, Mode, Name, Place, PlaceKind,
     Pred, Rule, Term, TestKind,
 };
 pub use refusal::{Kind, ReadFault, Refusal, text_of};
+pub use release::Scraps;
 pub use run::{Ending, Fault, Limits, Outcome, RunFault};
 pub use shelves::{MapShelf, SureShelf};
 pub use sinks::{ByteSink, SureSink};

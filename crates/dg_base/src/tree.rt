@@ -1,7 +1,7 @@
 // The tree of a source.
 
-use crate::pieces::Pieces;
 use crate::program::{Mode, Name};
+use crate::release::Scraps;
 use sqlite_items::{Boxed, Items};
 
 /// The name of a predicate with what stands in its places: the parts between the parentheses.
@@ -119,7 +119,7 @@ fn let_go_items(mut items: Items<Item>) {
 }
 
 fn let_go_item(item: Item) {
-    let mut pieces = Pieces::new();
-    pieces.add_item(item);
-    pieces.let_go();
+    let mut scraps = Scraps::new();
+    scraps.add_item(item);
+    scraps.let_go();
 }

@@ -2,7 +2,7 @@
 use Rattle.std.specs.Prelude.{ℕ, ◌≡◌, ◌+◌, ◌%◌, List, min}
 use Rattle.dg_base.specs.declared.program.Mode.{Mode}
 use Rattle.dg_base.specs.declared.program.Mode.TheVariants.{Cycling}
-use Rattle.dg_meaning.specs.Choosing.{die, Picks, picked, choice}
+use Rattle.dg_meaning.specs.Choosing.{die, Picks, picked, choice_by}
 use Rattle.dg_choose.specs.declared.dice.Dice.{Dice}
 use Rattle.dg_choose.specs.declared.site.Site.{Site}
 use Rattle.dg_choose.specs.Dice.{HasDrawn}
@@ -23,6 +23,6 @@ pub record HasPicked (site : Site) (mode : Mode) (branches : ℕ) (picks : Picks
 
 -- A branch was picked after these picks, with n words drawn before: it is the one that is chosen, and the site and the dice stand behind it.
 pub record Chose (mode : Mode) (branches : ℕ) (picks : Picks) (words : List ℕ) (n : ℕ) (result : ℕ) (site : Site) (dice : Dice) : Type 0 where
-  pub branch : result ≡ (choice mode branches picks (die words n)).branch
+  pub branch : result ≡ (choice_by mode branches picks (die words n)).branch
   pub kept : HasPicked site mode branches (picked result picks)
-  pub left : HasDrawn dice words (n + (choice mode branches picks (die words n)).drawn)
+  pub left : HasDrawn dice words (n + (choice_by mode branches picks (die words n)).drawn)

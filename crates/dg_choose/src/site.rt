@@ -1,7 +1,7 @@
 // The sites of selects, and how they pick a branch.
 ghost use Rattle.std.specs.Prelude.{◌≡◌, ℕ, ◌+◌, ◌-◌, ◌%◌, ◌^◌, ◌<◌, List};
 ghost use Rattle.dg_base.specs.declared.program.Mode.{Mode};
-ghost use Rattle.dg_meaning.specs.Choosing.{Picks, no_picks, picked, choice, other_at, die};
+ghost use Rattle.dg_meaning.specs.Choosing.{Picks, no_picks, picked, choice_by, other_at, die};
 ghost use Rattle.dg_choose.specs.Dice.{HasDrawn};
 ghost use Rattle.dg_choose.specs.Site.{turn_of, picks_of, HasPicked, Chose};
 
@@ -61,7 +61,7 @@ fn turn(mode: Mode, branches: u16, count: u64) -> u16
 fn choose(mode: Mode, branches: u16, site: Site, dice: &mut Dice<'_>) -> u16
     requires { 0 < branches }
     ensures branch { (picks : Picks) → (words : List ℕ) → (n : ℕ) → HasPicked site mode branches picks → HasDrawn dice.old words n →
-        result ≡ (choice mode branches picks (die words n)).branch }
+        result ≡ (choice_by mode branches picks (die words n)).branch }
     ensures drawn { (picks : Picks) → (words : List ℕ) → (n : ℕ) → HasPicked site mode branches picks → HasDrawn dice.old words n →
         HasDrawn dice.new words (n + (choice mode branches picks (die words n)).drawn) }
     ensures within { result < branches }

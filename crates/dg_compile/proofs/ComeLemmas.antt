@@ -2,7 +2,7 @@
 use Rattle.std.proofs.Common.{◌≡◌, ◌≤◌, ℕ, List, true, sym, subst}
 use Rattle.std.specs.List.{All, Contains}
 use Rattle.std.proofs.lemmas.List.Elements.{All-contains}
-use Rattle.dg_access.specs.Comes.{is_free, ComesFrom, free, same, topic, again, asked, left, chosen, equation}
+use Rattle.dg_plain.specs.Comes.{is_free, ComesFrom, free, same, topic, again, asked, left, chosen, equation}
 use Rattle.dg_base.specs.Mentions.{Thing, topic_line, query, variable, word_choice, other, branches, select}
 use Rattle.dg_base.specs.Names.{builtin_named}
 use Rattle.dg_base.specs.Readable.{IsReadable}
@@ -10,8 +10,8 @@ use Rattle.dg_base.specs.Tree.{Parts}
 use Rattle.dg_base.specs.declared.mentions.Role.{Role}
 use Rattle.dg_base.specs.declared.mentions.Role.TheVariants as role
 use Rattle.dg_core.specs.Matches.{IsPlain}
-use Rattle.dg_expand.specs.Comes as put
-use Rattle.dg_expand.specs.Comes.{is_made, PutFrom}
+use Rattle.dg_access.specs.Comes as put
+use Rattle.dg_access.specs.Comes.{is_made, PutFrom}
 use Rattle.dg_names.specs.Among.{HasPred, IsAmong, IsSmall}
 use Rattle.dg_names.specs.Named.{Named}
 use Rattle.dg_compile.proofs.Never.{never}

@@ -5,9 +5,9 @@ use Rattle.std.specs.List.{All}
 use Rattle.std.specs.Option.{is_some}
 use Rattle.std.proofs.lemmas.Bool.{and_parts}
 use Rattle.std.proofs.lemmas.List.Elements.{All-nil, All-cons, All-append}
-use Rattle.dg_access.specs.Items.{in_declaration, plain_said, topic_behind, plain_items}
-use Rattle.dg_access.specs.Left as heads
-use Rattle.dg_access.specs.Plain.{Setting, topic_value, new_in_value, plain_value, plain_values, plain_parts}
+use Rattle.dg_plain.specs.Items.{in_declaration, plain_said, topic_behind, plain_items}
+use Rattle.dg_plain.specs.Left as heads
+use Rattle.dg_plain.specs.Plain.{Setting, topic_value, new_in_value, plain_value, plain_values, plain_parts}
 use Rattle.dg_base.specs.Heads.{name_of}
 use Rattle.dg_base.specs.Mentions.{Thing, query, closure, Mentions, nothing, thing, closed, join, of_value, of_values, of_parts, of_said, things, things_in, mentioned}
 use Rattle.dg_base.specs.Names.{builtin_named}
@@ -19,8 +19,8 @@ use Rattle.dg_core.specs.Core.{is_unset}
 use Rattle.dg_core.specs.Given.{IsSet, AreSet, MayStart}
 use Rattle.dg_core.specs.Matches.{IsPlain, ArePlain}
 use Rattle.dg_core.specs.Places.{head_values}
-use Rattle.dg_expand.specs.Expanded.{signed_rule, head_rules, stay, put_said, on_line, put_item, put_items}
-use Rattle.dg_expand.specs.Put.{Access, Level, in_item, level, put_value, put_values, put_parts}
+use Rattle.dg_access.specs.Expanded.{signed_rule, head_rules, stay, put_said, on_line, put_item, put_items}
+use Rattle.dg_access.specs.Put.{Access, Level, in_item, level, put_value, put_values, put_parts}
 use Rattle.dg_reader.specs.Declarations.{is_star, begins_with_topic, IsDeclaration, AreDeclarations}
 use Rattle.dg_reader.specs.Heads.{has_value, is_constant, are_constants, is_start, has_one_start}
 use Rattle.dg_reader.specs.Read.{is_topic}

@@ -10,7 +10,7 @@ use Rattle.std.proofs.lemmas.Bool.{and_parts, or_parts}
 use Rattle.std.proofs.lemmas.Bool.Decides.{nat_tests}
 use Rattle.std.proofs.lemmas.List.{map-append}
 use Rattle.std.proofs.lemmas.List.Elements.{All-nil, All-cons, All-head, All-tail, Contains-append_left, Contains-append_right, Contains-append_cases}
-use Rattle.dg_access.specs.Few.{HasFewVariables}
+use Rattle.dg_scopes.specs.Few.{HasFewVariables}
 use Rattle.dg_base.specs.Heads.{name_of}
 use Rattle.dg_base.specs.Mentions.{Thing, query, select, closure, Mentions, nothing, thing, closed, closures, of_rule, of_said, things, things_in, mentioned, names_in, weight_of}
 use Rattle.dg_base.specs.Names.{prelude_names, name_among, builtins, builtin_among, builtin_named}
@@ -22,9 +22,9 @@ use Rattle.dg_base.specs.declared.names.Builtin.TheVariants as built_in
 use Rattle.dg_core.specs.Given.{IsFit, IsFitItem, closures_among}
 use Rattle.dg_core.specs.Matches.{IsPlain, ArePlain}
 use Rattle.dg_core.specs.Places.{parent_name, declaration_in, declarations, changed_in, place_names, head_values}
-use Rattle.dg_expand.specs.Expanded as expanded
-use Rattle.dg_expand.specs.Expanded.{is_kept_builtin, is_closed, is_misplaced}
-use Rattle.dg_expand.specs.Put.{Access, rule_for}
+use Rattle.dg_access.specs.Expanded as expanded
+use Rattle.dg_access.specs.Expanded.{is_kept_builtin, is_closed, is_misplaced}
+use Rattle.dg_access.specs.Put.{Access, rule_for}
 use Rattle.dg_names.specs.Among.{AreFirsts, HasPred, IsAmong}
 use Rattle.dg_names.specs.Counts.{closures_at}
 use Rattle.dg_names.specs.Named.{Named, firsts}

@@ -10,16 +10,16 @@ use Rattle.dg_base.specs.declared.names.Builtin.{Builtin}
 use Rattle.dg_base.specs.Heads.{name_of}
 use Rattle.dg_base.specs.Tree.{Item}
 use Rattle.dg_base.specs.declared.program.CoreProgram.{CoreProgram as Core}
-use Rattle.dg_access.specs.Comes.{MentionsComeFrom}
-use Rattle.dg_access.specs.Few.{HasFewVariables, SmallAreFew}
-use Rattle.dg_access.specs.Items.{plain_items}
-use Rattle.dg_access.specs.Left.{IsPlain}
+use Rattle.dg_plain.specs.Comes.{MentionsComeFrom}
+use Rattle.dg_scopes.specs.Few.{HasFewVariables, SmallAreFew}
+use Rattle.dg_plain.specs.Items.{plain_items}
+use Rattle.dg_plain.specs.Left.{IsPlain}
 use Rattle.dg_core.specs.Core.{core_of, core_refusal}
 use Rattle.dg_core.specs.Given.{IsGiven}
 use Rattle.dg_core.specs.Places.{placed_of, first_bad_start}
-use Rattle.dg_expand.specs.Answer.{IsRewritten}
-use Rattle.dg_expand.specs.Comes.{MentionsArePut}
-use Rattle.dg_expand.specs.Expanded.{access_rules, is_misplaced, put_items}
+use Rattle.dg_access.specs.Answer.{IsRewritten}
+use Rattle.dg_access.specs.Comes.{MentionsArePut}
+use Rattle.dg_access.specs.Expanded.{access_rules, is_misplaced, put_items}
 use Rattle.dg_lex.specs.Bad as lexing
 use Rattle.dg_lex.specs.Spelled.{IsSpelledToken}
 use Rattle.dg_lex.specs.Tokens.{IsLexed, Seen, seen}

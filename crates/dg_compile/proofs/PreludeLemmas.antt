@@ -8,8 +8,8 @@ use Rattle.std.specs.Cmp.Lexicographic.{bytes_decides}
 use Rattle.std.proofs.lemmas.Bool.{and_parts}
 use Rattle.std.proofs.lemmas.List.{drop_more, length-map}
 use Rattle.std.proofs.lemmas.List.Elements.{All-nil, All-cons, All-append, Contains-append_right}
-use Rattle.dg_access.specs.Few.{HasFewVariables, SmallAreFew}
-use Rattle.dg_access.specs.Items.{plain_items}
+use Rattle.dg_scopes.specs.Few.{HasFewVariables, SmallAreFew}
+use Rattle.dg_plain.specs.Items.{plain_items}
 use Rattle.dg_base.specs.Heads.{name_of}
 use Rattle.dg_base.specs.Mentions.{Thing, query, variable, other, branches, things_in, mentioned, names_in}
 use Rattle.dg_base.specs.Names.{prelude_names, name_among, builtin_named}

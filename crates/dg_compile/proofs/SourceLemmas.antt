@@ -15,7 +15,7 @@ use Rattle.dg_lex.specs.declared.token.Token.{Token}
 use Rattle.dg_reader.specs.Read.{IsRead}
 use Rattle.dg_names.specs.Named.{Named}
 use Rattle.dg_names.specs.Counts.{IsNamed}
-use Rattle.dg_expand.specs.Answer.{IsRewritten}
+use Rattle.dg_access.specs.Answer.{IsRewritten}
 use Rattle.dg_core.specs.Core.{IsLowered}
 use Rattle.dg_compile.specs.Source.{Then, refused, given, refusal_at, Lexes, all_names, with_prelude, Compiles, Meets}
 

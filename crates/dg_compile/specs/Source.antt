@@ -14,8 +14,8 @@ use Rattle.dg_lex.specs.declared.token.Token.{Token}
 use Rattle.dg_reader.specs.Read.{IsRead}
 use Rattle.dg_names.specs.Counts.{IsNamed}
 use Rattle.dg_names.specs.Named.{Named, firsts, predicate_in, names_of}
-use Rattle.dg_access.specs.Items.{plain_items}
-use Rattle.dg_expand.specs.Answer.{IsRewritten}
+use Rattle.dg_plain.specs.Items.{plain_items}
+use Rattle.dg_access.specs.Answer.{IsRewritten}
 use Rattle.dg_core.specs.Core.{IsLowered}
 use Rattle.dg_prelude.specs.Rules.{prelude_rules}
 

@@ -6,10 +6,10 @@ ghost use Rattle.dg_names.specs.Scopes.{with_names};
 ghost use Rattle.dg_names.specs.State.{listed, names_view};
 ghost use Rattle.dg_compile.specs.Source.{with_prelude};
 
-use dg_access::plain_tree;
 use dg_base::{Items, PRELUDE_NAMES, Tree};
 use dg_core::add_name;
 use dg_names::Names;
+use dg_plain::plain_tree;
 use dg_prelude::prelude;
 use indexmap::IndexSet;
 use std::alloc::{AllocError, Global};

@@ -7,16 +7,16 @@ ghost use Rattle.dg_base.specs.declared.refusal.Kind.TheVariants as kind;
 ghost use Rattle.dg_base.specs.declared.refusal.Refusal.{Refusal};
 ghost use Rattle.dg_base.specs.Tree.{Item};
 ghost use Rattle.dg_core.specs.Core.{IsLowered};
-ghost use Rattle.dg_expand.specs.Answer.{IsRewritten};
+ghost use Rattle.dg_access.specs.Answer.{IsRewritten};
 ghost use Rattle.dg_names.specs.Counts.{IsNamed};
 ghost use Rattle.dg_names.specs.Named.{names_of};
 ghost use Rattle.dg_names.specs.State.{names_view};
 ghost use Rattle.dg_compile.specs.Source.{Then, all_names, with_prelude, Becomes, Compiles, Meets, refusal_at};
 
 use crate::behind::{add_prelude, with_prelude_names};
+use dg_access::rewrite;
 use dg_base::{CoreProgram, ReadFault, Tree};
 use dg_core::lower;
-use dg_expand::rewrite;
 use dg_lex::{lex, tokens_are_one, tokens_are_spelled};
 use dg_names::{Names, firsts_go_on, names_are_few};
 use dg_reader::{declarations_are_kept, items_are_one, items_are_readable, read};
@@ -95,15 +95,15 @@ pub fn programs_are_sound()
     dg_names::names_are_few();
     dg_names::mentions_are_small();
     dg_names::firsts_are_names();
-    dg_access::mentions_come_from_the_source();
-    dg_access::nothing_is_left();
-    dg_access::plain_heads_keep_names();
-    dg_access::small_items_have_few_variables();
-    dg_expand::mentions_are_put();
-    dg_expand::declared_heads_keep_names();
-    dg_expand::none_is_closed();
-    dg_expand::variables_are_few();
-    dg_expand::closures_are_few();
+    dg_plain::mentions_come_from_the_source();
+    dg_plain::nothing_is_left();
+    dg_plain::plain_heads_keep_names();
+    dg_scopes::small_items_have_few_variables();
+    dg_access::mentions_are_put();
+    dg_access::declared_heads_keep_names();
+    dg_access::none_is_closed();
+    dg_access::variables_are_few();
+    dg_access::closures_are_few();
     dg_core::core_is_sound();
     dg_prelude::prelude_names_are_printable();
 }
@@ -115,7 +115,7 @@ pub fn sources_have_one_answer()
     tokens_are_one();
     items_are_one();
     dg_names::one_answer();
-    dg_expand::one_answer();
+    dg_access::one_answer();
 }
 
 /// A source that is refused has no program.

@@ -6,7 +6,7 @@ use Rattle.std.proofs.lemmas.List.{length-map}
 use Rattle.std.proofs.lemmas.List.Concat.{flat_map-append}
 use Rattle.std.proofs.lemmas.List.Elements.{All-nil, All-cons, All-append, All-head, All-tail}
 use Rattle.std.proofs.lemmas.Option.{slice_get_within}
-use Rattle.dg_base.specs.Goals.{goals_of}
+use Rattle.dg_base.specs.Goals.{all_goals_of}
 use Rattle.dg_base.specs.Mentions.{Thing, query, closure, Mentions, nothing, thing, closed, closures, of_said, of_rule, of_body, things, things_in, mentioned, variable, variable_in}
 use Rattle.dg_base.specs.Sound.{Captures, closure_vars, IsGoalOf, IsTermOf, IsClosureOf}
 use Rattle.dg_base.specs.Tree as tree
@@ -19,9 +19,9 @@ use Rattle.dg_base.specs.declared.program.Term.TheOpen as top
 use Rattle.dg_base.specs.declared.program.Term.TheVariants as term
 use Rattle.dg_names.specs.Among.{IsAmong}
 use Rattle.dg_names.specs.Named.{Named}
-use Rattle.dg_closures.specs.Closures.{Layout, variables_in, places_from, behind_closure, layouts_from}
-use Rattle.dg_closures.specs.Held.{Holds, IsSmall}
-use Rattle.dg_closures.proofs.VariableLemmas.{all_held, all_small, rule_small}
+use Rattle.dg_scopes.specs.Closures.{Layout, variables_in, places_from, behind_closure, layouts_from}
+use Rattle.dg_scopes.specs.Held.{Holds, IsSmall}
+use Rattle.dg_scopes.proofs.VariableLemmas.{all_held, all_small, rule_small}
 use Rattle.dg_core.specs.Bodies.{Closed, no_closure, a_closure}
 use Rattle.dg_core.specs.Core.{Before, outer_scope, closures_of, numbered, rows_in, behind_rows, rows_from, all_selects, inner_selects, behind_rules, core_of}
 use Rattle.dg_core.specs.Given.{IsFit, IsFitRule, IsFitItem, closures_among, IsGiven}
@@ -191,7 +191,7 @@ ground names items ls all vars first k ms g few h = record {
 -- ---- rows that are sound, with the numbers of their selects
 
 abbrev pub row_goals : List ClosureBody → List Goal
-row_goals rs = flat_map (λ (r : ClosureBody). goals_of r.body) rs
+row_goals rs = flat_map (λ (r : ClosureBody). all_goals_of r.body) rs
 
 pub record AreRowsMade (p : Core) (n m : ℕ) (rs : List ClosureBody) : Type 0 where
   pub sound : All (IsClosureOf p) rs
@@ -203,7 +203,7 @@ rows_none p n m e = record { sound = All-nil (IsClosureOf p); sited = sited_none
 rows_join : (p : Core) (n k m : ℕ) (xs ys : List ClosureBody) → AreRowsMade p n k xs → AreRowsMade p k m ys → AreRowsMade p n m (xs ++ ys)
 rows_join p n k m xs ys h j = record {
   sound = All-append (IsClosureOf p) xs ys h.sound j.sound;
-  sited = subst (AreSited n m) (sym (flat_map-append (λ (r : ClosureBody). goals_of r.body) xs ys)) (sited_join n k m (row_goals xs) (row_goals ys) h.sited j.sited);
+  sited = subst (AreSited n m) (sym (flat_map-append (λ (r : ClosureBody). all_goals_of r.body) xs ys)) (sited_join n k m (row_goals xs) (row_goals ys) h.sited j.sited);
 }
 
 rows_to : (p : Core) (n m k : ℕ) (rs : List ClosureBody) → m ≡ k → AreRowsMade p n m rs → AreRowsMade p n k rs
@@ -269,8 +269,8 @@ one_made names items ls all vars first n k within ms b inner cs g h e =
     let both = length-append l.captured l.own in
     let same : length own ≡ closure_vars r = omega (arith, both, at_most (length l.own) (omega (arith, both, small)), length-map l.captured (number_in vars)) in
     record {
-      sound = All-cons (IsClosureOf p) r [] (record { few = row.few; parameter = row.parameter; body = subst (λ (v : ℕ). All (IsGoalOf p v) (goals_of r.body)) same made.sound }) (All-nil (IsClosureOf p));
-      sited = sited_join n m m (goals_of r.body) [] made.sited (sited_none m m (omega arith));
+      sound = All-cons (IsClosureOf p) r [] (record { few = row.few; parameter = row.parameter; body = subst (λ (v : ℕ). All (IsGoalOf p v) (all_goals_of r.body)) same made.sound }) (All-nil (IsClosureOf p));
+      sited = sited_join n m m (all_goals_of r.body) [] made.sited (sited_none m m (omega arith));
     }
 
 laid_made : (names : Named) (items : List Item) (ls : List Layout) (all vars : List (List ℕ)) (first n k : ℕ) (ms : Mentions) (cs : Closed) → IsGiven names items → AreKnown names items all vars first k ms cs → n + selects_within cs ≤ (core_of names items).sites → AreRowsMade (core_of names items) n (n + selects_within cs) (laid (home_at names items ls first) all vars n k ms cs)

@@ -5,7 +5,7 @@ use Rattle.std.specs.Str.{bytes_eq}
 use Rattle.std.proofs.lemmas.List.{append-nil}
 use Rattle.std.proofs.lemmas.List.Concat.{flat_map-append}
 use Rattle.std.proofs.lemmas.List.Elements.{All-nil, All-cons, All-append}
-use Rattle.dg_base.specs.Goals.{goals_within, goals_of, terms_held}
+use Rattle.dg_base.specs.Goals.{goals_within, all_goals_of, terms_held}
 use Rattle.dg_base.specs.Heads.{name_of}
 use Rattle.dg_base.specs.Mentions.{join, branches_in, of_value, of_parts, of_stmt, of_stmts, of_branches, of_body, of_arms, of_changes}
 use Rattle.dg_base.specs.Names.{builtin_named}
@@ -35,13 +35,13 @@ use Rattle.dg_core.proofs.TermLemmas.{IsGround, ground_past, IsKnown, term_sound
 -- ---- goals that are sound, with the numbers of their selects
 
 pub record AreMade (p : Core) (vars n m : ℕ) (gs : List Goal) : Type 0 where
-  pub sound : All (IsGoalOf p vars) (goals_of gs)
-  pub sited : AreSited n m (goals_of gs)
+  pub sound : All (IsGoalOf p vars) (all_goals_of gs)
+  pub sited : AreSited n m (all_goals_of gs)
 
 -- the same of lists
 record AreListed (p : Core) (vars n m : ℕ) (ls : List (List Goal)) : Type 0 where
-  sound : All (IsGoalOf p vars) (flat_map goals_of ls)
-  sited : AreSited n m (flat_map goals_of ls)
+  sound : All (IsGoalOf p vars) (flat_map all_goals_of ls)
+  sited : AreSited n m (flat_map all_goals_of ls)
 
 none : (p : Core) (vars : ℕ) → All (IsGoalOf p vars) []
 none p vars = All-nil (IsGoalOf p vars)
@@ -54,8 +54,8 @@ made_none p vars n m e = record { sound = none p vars; sited = sited_none n m e 
 
 pub made_join : (p : Core) (vars n k m : ℕ) (xs ys : List Goal) → AreMade p vars n k xs → AreMade p vars k m ys → AreMade p vars n m (xs ++ ys)
 made_join p vars n k m xs ys h j = record {
-  sound = subst (All (IsGoalOf p vars)) (sym (flat_map-append goals_within xs ys)) (All-append (IsGoalOf p vars) (goals_of xs) (goals_of ys) h.sound j.sound);
-  sited = subst (AreSited n m) (sym (flat_map-append goals_within xs ys)) (sited_join n k m (goals_of xs) (goals_of ys) h.sited j.sited);
+  sound = subst (All (IsGoalOf p vars)) (sym (flat_map-append goals_within xs ys)) (All-append (IsGoalOf p vars) (all_goals_of xs) (all_goals_of ys) h.sound j.sound);
+  sited = subst (AreSited n m) (sym (flat_map-append goals_within xs ys)) (sited_join n k m (all_goals_of xs) (all_goals_of ys) h.sited j.sited);
 }
 
 pub made_to : (p : Core) (vars n m k : ℕ) (gs : List Goal) → m ≡ k → AreMade p vars n m gs → AreMade p vars n k gs
@@ -145,30 +145,30 @@ changes_made p vars n s (tree.change ps set cs) g h =
 unit_made : (p : Core) (vars n m : ℕ) (ls : List (List Goal)) → AreListed p vars n m ls → AreMade p vars n m (unit ls)
 unit_made p vars n m [] h = record { sound = none p vars; sited = h.sited }
 unit_made p vars n m (goals ∷ []) h = record {
-  sound = subst (All (IsGoalOf p vars)) (append-nil (goals_of goals)) h.sound;
-  sited = subst (AreSited n m) (append-nil (goals_of goals)) h.sited;
+  sound = subst (All (IsGoalOf p vars)) (append-nil (all_goals_of goals)) h.sound;
+  sited = subst (AreSited n m) (append-nil (all_goals_of goals)) h.sited;
 }
 unit_made p vars n m (goals ∷ more ∷ ls) h =
     goal_made p vars n m (goal.Either (goals ∷ more ∷ ls)) (form.Either (goals ∷ more ∷ ls)) (goal.outs-Either _) (let some : 1 ≤ length (goals ∷ more ∷ ls) = omega arith in some) (no_terms p vars) tt h.sound h.sited
 
 -- a goal with one list of goals in it
-wrap_made : (p : Core) (vars n m : ℕ) (g : Goal) (layer : form.Goal-F Goal) (goals : List Goal) → out-Goal g ≡ layer → FitsProgram p layer → All (IsTermOf p vars) (terms_held layer) → NoSelect layer → inside layer ≡ goals_of goals → AreMade p vars n m goals → AreMade p vars n m (g ∷ [])
+wrap_made : (p : Core) (vars n m : ℕ) (g : Goal) (layer : form.Goal-F Goal) (goals : List Goal) → out-Goal g ≡ layer → FitsProgram p layer → All (IsTermOf p vars) (terms_held layer) → NoSelect layer → inside layer ≡ all_goals_of goals → AreMade p vars n m goals → AreMade p vars n m (g ∷ [])
 wrap_made p vars n m g layer goals is fits terms plain same h =
     goal_made p vars n m g layer is fits terms plain (subst (All (IsGoalOf p vars)) (sym same) h.sound) (subst (AreSited n m) (sym same) h.sited)
 
 if_made : (p : Core) (vars n k l m : ℕ) (a b c : List Goal) → AreMade p vars n k a → AreMade p vars k l b → AreMade p vars l m c → AreMade p vars n m (goal.If a b c ∷ [])
 if_made p vars n k l m a b c h i j =
     goal_made p vars n m (goal.If a b c) (form.If a b c) (goal.outs-If a b c) tt (no_terms p vars) tt
-    (All-append (IsGoalOf p vars) (goals_of a ++ goals_of b) (goals_of c) (All-append (IsGoalOf p vars) (goals_of a) (goals_of b) h.sound i.sound) j.sound)
-    (sited_join n l m (goals_of a ++ goals_of b) (goals_of c) (sited_join n k l (goals_of a) (goals_of b) h.sited i.sited) j.sited)
+    (All-append (IsGoalOf p vars) (all_goals_of a ++ all_goals_of b) (all_goals_of c) (All-append (IsGoalOf p vars) (all_goals_of a) (all_goals_of b) h.sound i.sound) j.sound)
+    (sited_join n l m (all_goals_of a ++ all_goals_of b) (all_goals_of c) (sited_join n k l (all_goals_of a) (all_goals_of b) h.sited i.sited) j.sited)
 
 select_made : (p : Core) (vars n m : ℕ) (mode : Mode) (ls : List (List Goal)) → n < p.sites → 1 ≤ length ls → length ls ≤ 500 → AreListed p vars (n + 1) m ls → AreMade p vars n m (goal.Select n mode ls ∷ [])
 select_made p vars n m mode ls below some few h =
     let g = goal.Select n mode ls in
     let is : out-Goal g ≡ form.Select n mode ls = goal.outs-Select _ _ _ in
     within_made p vars n m g
-    (subst (All (IsGoalOf p vars)) (sym (inner g (form.Select n mode ls) is)) (All-cons (IsGoalOf p vars) g (flat_map goals_of ls) (here p vars g (form.Select n mode ls) is (below, some, few) (no_terms p vars)) h.sound))
-    (subst (AreSited n m) (sym (inner g (form.Select n mode ls) is)) (select_with n m mode ls g (flat_map goals_of ls) is h.sited))
+    (subst (All (IsGoalOf p vars)) (sym (inner g (form.Select n mode ls) is)) (All-cons (IsGoalOf p vars) g (flat_map all_goals_of ls) (here p vars g (form.Select n mode ls) is (below, some, few) (no_terms p vars)) h.sound))
+    (subst (AreSited n m) (sym (inner g (form.Select n mode ls) is)) (select_with n m mode ls g (flat_map all_goals_of ls) is h.sited))
 
 lists_counted : (s : Scope) (n : ℕ) (b : Body) → length (lists s n b) ≡ branches_in b
 lists_counted s n tree.no_branches = refl
@@ -243,8 +243,8 @@ mutual
       let behind = past s (in_stmts xs) in
       let others = lists_made p vars behind k b (ground_past p vars s (in_stmts xs) g) (back (IsKnown s) (of_stmts false xs) (of_branches false b) h) (omega (arith, all, e)) in
       record {
-        sound = All-append (IsGoalOf p vars) (goals_of (lowered.goals_of s n xs)) (flat_map goals_of (lists behind k b)) first.sound others.sound;
-        sited = sited_wider n (k + count_selects (of_branches false b)) n _ _ (omega arith) (omega (arith, all)) (sited_join n k (k + count_selects (of_branches false b)) (goals_of (lowered.goals_of s n xs)) (flat_map goals_of (lists behind k b)) first.sited others.sited);
+        sound = All-append (IsGoalOf p vars) (all_goals_of (lowered.goals_of s n xs)) (flat_map all_goals_of (lists behind k b)) first.sound others.sound;
+        sited = sited_wider n (k + count_selects (of_branches false b)) n _ _ (omega arith) (omega (arith, all)) (sited_join n k (k + count_selects (of_branches false b)) (all_goals_of (lowered.goals_of s n xs)) (flat_map all_goals_of (lists behind k b)) first.sited others.sited);
       }
 
   arms_made : (p : Core) (vars : ℕ) (s : Scope) (n m : ℕ) (arms : Arms) (other : List Goal) → IsGround p vars s → Hold (IsKnown s) (of_arms false arms) → n + count_selects (of_arms false arms) ≤ p.sites → AreMade p vars (n + count_selects (of_arms false arms)) m other → AreMade p vars n m (arm_goals s n arms other)

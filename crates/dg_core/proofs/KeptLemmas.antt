@@ -4,7 +4,7 @@ use Rattle.std.proofs.lemmas.List.{append-nil}
 use Rattle.dg_base.specs.Tree.{Parts, Body, Said, rule, deny, Item}
 use Rattle.dg_base.specs.declared.program.ClosureBody.{ClosureBody}
 use Rattle.dg_base.specs.declared.program.Goal.{Goal}
-use Rattle.dg_closures.specs.Closures.{Layout, Layouts}
+use Rattle.dg_scopes.specs.Closures.{Layout, Layouts}
 use Rattle.dg_core.specs.Bodies.{direct}
 use Rattle.dg_core.specs.Core.{Before, rows_in, rows_from, rule_of, numbered}
 use Rattle.dg_core.specs.Goals.{Scope}

@@ -10,10 +10,10 @@ use Rattle.dg_base.specs.Tree as tree
 use Rattle.dg_base.specs.Tree.{Parts, Body}
 use Rattle.dg_base.specs.declared.mentions.Role.TheVariants as role
 use Rattle.dg_base.specs.declared.program.ClosureBody.{ClosureBody}
-use Rattle.dg_access.specs.Counts.{names_out}
-use Rattle.dg_access.specs.Few.{HasFewVariables}
-use Rattle.dg_closures.specs.Closures.{Layout, layout_by, variables_in, places_from, behind_closure, layouts_from, layouts_of}
-use Rattle.dg_closures.specs.Held.{Within, Holds, IsSmall, AllAreSmall, RuleIsSmall}
+use Rattle.dg_scopes.specs.Counts.{names_out}
+use Rattle.dg_scopes.specs.Few.{HasFewVariables}
+use Rattle.dg_scopes.specs.Closures.{Layout, layout_by, variables_in, places_from, behind_closure, layouts_from, layouts_of}
+use Rattle.dg_scopes.specs.Held.{Within, Holds, IsSmall, AllAreSmall, RuleIsSmall}
 use Rattle.dg_names.specs.State.{seen}
 use Rattle.dg_core.specs.Bodies.{Closed, no_closure, a_closure}
 use Rattle.dg_core.specs.Goals.{Scope, number_in, count_selects}

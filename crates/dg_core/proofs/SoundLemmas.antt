@@ -16,7 +16,7 @@ use Rattle.dg_core.proofs.FitLemmas.{all_declarable, declared_other}
 use Rattle.dg_core.proofs.StartLemmas.{MayBegin, fact_start, parts_hold, starts_sound, starts_distinct, declared_one_start}
 use Rattle.std.proofs.lemmas.List.Concat.{flat_map-append}
 use Rattle.std.proofs.lemmas.List.Elements.{All-nil, All-cons, All-append, All-head, All-tail, All-weaker, All-contains, Contains-append_left, Contains-append_right}
-use Rattle.dg_base.specs.Goals.{goals_of}
+use Rattle.dg_base.specs.Goals.{all_goals_of}
 use Rattle.dg_base.specs.Heads.{name_of}
 use Rattle.dg_base.specs.Mentions.{query, of_said, of_rule, of_parts, of_body, things_in, mentioned, names_in}
 use Rattle.dg_base.specs.Names.{builtin_named}
@@ -34,7 +34,7 @@ use Rattle.dg_base.specs.declared.program.Rule.{Rule}
 use Rattle.dg_base.specs.declared.refusal.ReadFault.{ReadFault}
 use Rattle.dg_names.specs.Among.{IsAmong, HasPred}
 use Rattle.dg_names.specs.Named.{Named, firsts}
-use Rattle.dg_closures.proofs.VariableLemmas.{all_held, rule_small}
+use Rattle.dg_scopes.proofs.VariableLemmas.{all_held, rule_small}
 use Rattle.dg_core.specs.Core.{Before, outer_scope, scope_of, rule_of, failing, rules_of_item, behind_item, none_before, rules_from, selects_of, all_selects, inner_selects, pred_of, without_facts, entry_name, core_of, is_rule_for, has_entry, with_rules, pred_rules, numbered_rules, rules_named, fact_starts, declared_start, core_refusal, IsLowered}
 use Rattle.dg_core.specs.Given.{IsGiven}
 use Rattle.dg_core.specs.Bodies.{in_parts}
@@ -145,9 +145,9 @@ body_in around n said = []
 
 abbrev goals_from : Scope → Before → List Item → List Goal
 goals_from around n [] = []
-goals_from around n (i ∷ is) = goals_of (body_in around n i.said) ++ goals_from around (behind_item n i.said) is
+goals_from around n (i ∷ is) = all_goals_of (body_in around n i.said) ++ goals_from around (behind_item n i.said) is
 
-item_sited : (names : Named) (items : List Item) (n : Before) (said : Said) → IsGiven names items → IsItemKnown names items n.closures said → n.selects + selects_of said ≤ all_selects items → AreSited n.selects (n.selects + selects_of said) (goals_of (body_in (outer_scope names items) n said))
+item_sited : (names : Named) (items : List Item) (n : Before) (said : Said) → IsGiven names items → IsItemKnown names items n.closures said → n.selects + selects_of said ≤ all_selects items → AreSited n.selects (n.selects + selects_of said) (all_goals_of (body_in (outer_scope names items) n said))
 item_sited names items n (tree.topic w) g h e = sited_none n.selects _ (omega arith)
 item_sited names items n (tree.rule ps b) g h e = (rule_made names items n ps b [] g h e (made_none (core_of names items) (vars_of ps b) _ _ (omega arith))).sited
 item_sited names items n (tree.deny ps b) g h e = (rule_made names items n ps b failing g h e (failing_made (core_of names items) (vars_of ps b) _)).sited
@@ -159,7 +159,7 @@ items_sited names items n [] g h e = sited_none n.selects _ (omega arith)
 items_sited names items n (i ∷ is) g h e =
     let next = behind_item n i.said in
     sited_wider n.selects (next.selects + all_selects is) n.selects _ _ (omega arith) (omega arith)
-    (sited_join n.selects next.selects (next.selects + all_selects is) (goals_of (body_in (outer_scope names items) n i.said)) (goals_from (outer_scope names items) next is)
+    (sited_join n.selects next.selects (next.selects + all_selects is) (all_goals_of (body_in (outer_scope names items) n i.said)) (goals_from (outer_scope names items) next is)
     (item_sited names items n i.said g h.0 (omega (arith, e)))
     (items_sited names items next is g h.1 (omega (arith, e))))
 
@@ -176,13 +176,13 @@ had_behind : (gs hs xs : List Goal) → All (Has hs) xs → All (Has (gs ++ hs))
 had_behind gs hs xs h = All-weaker (Has hs) (Has (gs ++ hs)) (λ a k. Contains-append_right gs hs a k) xs h
 
 abbrev rule_goals : List Rule → List Goal
-rule_goals rs = flat_map (λ (r : Rule). goals_of r.body) rs
+rule_goals rs = flat_map (λ (r : Rule). all_goals_of r.body) rs
 
-one_rule_had : (b : Bool) (r : Rule) (hs : List Goal) → All (Has (goals_of r.body ++ hs)) (rule_goals (if b then r ∷ [] else []))
-one_rule_had true r hs = All-append (Has (goals_of r.body ++ hs)) (goals_of r.body) [] (all_had (goals_of r.body) hs) (All-nil (Has (goals_of r.body ++ hs)))
-one_rule_had false r hs = All-nil (Has (goals_of r.body ++ hs))
+one_rule_had : (b : Bool) (r : Rule) (hs : List Goal) → All (Has (all_goals_of r.body ++ hs)) (rule_goals (if b then r ∷ [] else []))
+one_rule_had true r hs = All-append (Has (all_goals_of r.body ++ hs)) (all_goals_of r.body) [] (all_had (all_goals_of r.body) hs) (All-nil (Has (all_goals_of r.body ++ hs)))
+one_rule_had false r hs = All-nil (Has (all_goals_of r.body ++ hs))
 
-item_had : (around : Scope) (n : Before) (name : List ℕ) (said : Said) (hs : List Goal) → All (Has (goals_of (body_in around n said) ++ hs)) (rule_goals (rules_of_item around n name said))
+item_had : (around : Scope) (n : Before) (name : List ℕ) (said : Said) (hs : List Goal) → All (Has (all_goals_of (body_in around n said) ++ hs)) (rule_goals (rules_of_item around n name said))
 item_had around n name (tree.topic w) hs = All-nil (Has hs)
 item_had around n name (tree.rule ps b) hs = one_rule_had (bytes_eq (name_of ps) name) (rule_of around n ps b []) hs
 item_had around n name (tree.deny ps b) hs = one_rule_had (bytes_eq (name_of ps) name) (rule_of around n ps b failing) hs
@@ -194,9 +194,9 @@ rules_had around n name [] = All-nil (Has [])
 rules_had around n name (i ∷ is) =
     let k = behind_item n i.said in
     let all = goals_from around n (i ∷ is) in
-    subst (All (Has all)) (sym (flat_map-append (λ (r : Rule). goals_of r.body) (rules_of_item around n name i.said) (rules_from around k name is)))
+    subst (All (Has all)) (sym (flat_map-append (λ (r : Rule). all_goals_of r.body) (rules_of_item around n name i.said) (rules_from around k name is)))
     (All-append (Has all) (rule_goals (rules_of_item around n name i.said)) (rule_goals (rules_from around k name is)) (item_had around n name i.said (goals_from around k is))
-    (had_behind (goals_of (body_in around n i.said)) (goals_from around k is) (rule_goals (rules_from around k name is)) (rules_had around k name is)))
+    (had_behind (all_goals_of (body_in around n i.said)) (goals_from around k is) (rule_goals (rules_from around k name is)) (rules_had around k name is)))
 
 kept_had : (gs : List Goal) (b : Bool) (rs : List Rule) → All (Has gs) (rule_goals rs) → All (Has gs) (rule_goals (if b then [] else rs))
 kept_had gs true rs h = All-nil (Has gs)

@@ -8,7 +8,7 @@ use Rattle.dg_base.specs.TreeView.{body_view}
 use Rattle.dg_base.specs.declared.program.ClosureBody.{ClosureBody}
 use Rattle.dg_base.specs.declared.program.Goal.{Goal}
 use Rattle.dg_base.specs.declared.tree.Body.{Body as CodeBody}
-use Rattle.dg_closures.specs.Closures.{Layout, variables_in}
+use Rattle.dg_scopes.specs.Closures.{Layout, variables_in}
 use Rattle.dg_core.specs.Bodies.{Closed, no_closure, a_closure, joined_closures, direct, in_value, in_values, in_parts, in_stmt, in_stmts, in_branches, in_arms, in_changes}
 use Rattle.dg_core.specs.Goals.{Scope, count_selects, body_goals}
 use Rattle.dg_core.specs.inside.Making.{bodies_view}

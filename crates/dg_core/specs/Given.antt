@@ -8,7 +8,7 @@ use Rattle.dg_base.specs.Mentions.{Thing, query, select, closures, of_rule, of_s
 use Rattle.dg_base.specs.Sound.{IsName}
 use Rattle.dg_base.specs.Tree.{Parts, Value, num, dict_word, object_name, plain_list, tailed_list, Values, no_values, value, Body, Said, rule, deny, global_variable, Item}
 use Rattle.dg_base.specs.declared.mentions.Role.TheVariants as role
-use Rattle.dg_access.specs.Few.{HasFewVariables}
+use Rattle.dg_scopes.specs.Few.{HasFewVariables}
 use Rattle.dg_names.specs.Among.{IsAmong}
 use Rattle.dg_names.specs.Named.{Named}
 use Rattle.dg_core.specs.Matches.{ArePlain}

@@ -5,8 +5,8 @@ use Rattle.dg_base.specs.Sound.{Captures, closure_vars}
 use Rattle.dg_base.specs.Tree.{Parts, Body}
 use Rattle.dg_base.specs.declared.mentions.Role.TheVariants as role
 use Rattle.dg_base.specs.declared.program.ClosureBody.{ClosureBody}
-use Rattle.dg_access.specs.Counts.{names_out}
-use Rattle.dg_closures.specs.Closures.{Layout, layout_by, variables_in, behind_closure}
+use Rattle.dg_scopes.specs.Counts.{names_out}
+use Rattle.dg_scopes.specs.Closures.{Layout, layout_by, variables_in, behind_closure}
 use Rattle.dg_core.specs.Bodies.{Closed, no_closure, a_closure, joined_closures, in_parts, in_branches}
 use Rattle.dg_core.specs.Goals.{Scope, number_in, count_selects, body_goals}
 use Rattle.dg_core.specs.Variables.{layouts_in}

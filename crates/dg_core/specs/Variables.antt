@@ -3,7 +3,7 @@ use Rattle.std.specs.Prelude.{List, ℕ}
 use Rattle.dg_base.specs.Mentions.{of_rule, things, names_in, variable_in}
 use Rattle.dg_base.specs.Tree.{Parts, Body}
 use Rattle.dg_base.specs.declared.mentions.Role.TheVariants as role
-use Rattle.dg_closures.specs.Closures.{Layouts, layouts_of}
+use Rattle.dg_scopes.specs.Closures.{Layouts, layouts_of}
 
 -- The layouts of a rule and its closures.
 abbrev pub layouts_in : Parts → Body → Layouts

@@ -5,7 +5,7 @@ ghost use Rattle.dg_base.specs.Mentions.{of_rule, closures};
 ghost use Rattle.dg_base.specs.Sound.{FitsHeads, IsEntry, IsSound};
 ghost use Rattle.dg_base.specs.Tree.{Parts, Body, rule, Item};
 ghost use Rattle.dg_base.specs.declared.mentions.Role.TheVariants as role;
-ghost use Rattle.dg_access.specs.Few.{HasFewVariables};
+ghost use Rattle.dg_scopes.specs.Few.{HasFewVariables};
 ghost use Rattle.dg_names.specs.Named.{Named};
 ghost use Rattle.dg_core.specs.Core.{core_of, entry_name, core_refusal};
 ghost use Rattle.dg_core.specs.Given.{IsGiven};
@@ -48,7 +48,7 @@ pub fn closures_have_rows()
     ensures small { (around : Scope) (first n : ℕ) (ps : Parts) (b : Body) → ArePlain (of_rule role.Rule ps b) → HasFewVariables (rule ps b) →
         All IsSmallRow (closure_rows around first n ps b) }
 {
-    dg_closures::variables_are_held();
-    dg_closures::closures_are_small();
-    dg_closures::rules_are_small();
+    dg_scopes::variables_are_held();
+    dg_scopes::closures_are_small();
+    dg_scopes::rules_are_small();
 }

@@ -4,16 +4,16 @@
 mod facts;
 mod goals;
 mod laws;
-mod letting;
 mod places;
 mod program;
 mod queries;
+mod release;
 mod rows;
 mod scope;
 mod starts;
 mod terms;
 
 pub use laws::{closures_have_rows, closures_match, core_is_sound, entry_fits, queries_fit};
-pub use letting::let_go;
 pub use places::add_name;
 pub use program::lower;
+pub use release::let_go;

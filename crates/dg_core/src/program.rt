@@ -9,7 +9,7 @@ ghost use Rattle.dg_base.specs.Names.{prelude_names, name_among};
 ghost use Rattle.dg_base.specs.Sound.{IsSound};
 ghost use Rattle.dg_base.specs.Tree.{rule};
 ghost use Rattle.dg_base.specs.TreeView.{body_view, head_view, said_view, item_view, tree_view};
-ghost use Rattle.dg_closures.specs.inside.View.{layouts_view};
+ghost use Rattle.dg_scopes.specs.inside.View.{layouts_view};
 ghost use Rattle.dg_names.specs.State.{listed, names_view, seen};
 ghost use Rattle.dg_core.specs.Bodies.{direct};
 ghost use Rattle.dg_core.specs.Core as spec;
@@ -33,8 +33,8 @@ use dg_base::{
     Body, CoreProgram, Goal, Head, Item, ItemBody, Items, Kind, Name, PRELUDE_NAMES, Pred,
     ReadFault, Refusal, Rule, Tree, is_named,
 };
-use dg_closures::{Layouts, layouts_of};
 use dg_names::Names;
+use dg_scopes::{Layouts, layouts_of};
 use indexmap::IndexSet;
 use std::alloc::{AllocError, Global};
 

@@ -1,8 +1,8 @@
 // From the closures of a rule to their rows.
 ghost use Rattle.std.specs.Prelude.{◌≡◌, ◌+◌, ◌++◌, ◌∷◌, [], map, min, length, get_or, IfOk, OnOk};
 ghost use Rattle.dg_base.specs.TreeView.{body_view};
-ghost use Rattle.dg_closures.specs.Closures as closures;
-ghost use Rattle.dg_closures.specs.inside.View.{layout_view};
+ghost use Rattle.dg_scopes.specs.Closures as closures;
+ghost use Rattle.dg_scopes.specs.inside.View.{layout_view};
 ghost use Rattle.dg_names.specs.State.{seen};
 ghost use Rattle.dg_core.specs.Goals.{number_in};
 ghost use Rattle.dg_core.specs.inside.Making.{bodies_view};
@@ -14,7 +14,7 @@ use crate::goals::goals_of;
 use crate::scope::Scope;
 use crate::terms::number_among;
 use dg_base::{Body, ClosureBody, Goal, Items};
-use dg_closures::{Layout, blank};
+use dg_scopes::{Layout, blank};
 use std::alloc::{AllocError, Global};
 
 /// What the closures of a rule are made in: what names stand for outside it, the layouts of its closures, and how many closures stand in the

@@ -1,4 +1,4 @@
--- A goal whose terms are written has done something outside the store.
+-- A goal whose terms are written has done something to what lasts.
 use Rattle.std.proofs.Common.{◌≡◌, ℕ, ◌+◌, List, [], sym, ◌∙◌, subst}
 use Rattle.std.specs.declared.vec.Vec.{Vec}
 use Rattle.std.specs.declared.alloc.Global.{Global}
@@ -16,18 +16,18 @@ use Rattle.dg_unify.specs.Store.{Saved, Kept}
 use Rattle.dg_unify.specs.declared.bindings.Ref.{Ref}
 use Rattle.dg_unify.specs.declared.list.ListBindings.{ListBindings}
 use Rattle.dg_interp.specs.declared.engine.Engine.{Engine}
-use Rattle.dg_outside.specs.declared.outside.Outside.{Outside}
-use Rattle.dg_outside.specs.Outside.{picks_in, InWorld, MayPick}
+use Rattle.dg_lasting.specs.declared.lasting.Lasting.{Lasting}
+use Rattle.dg_lasting.specs.Lasting.{picks_in, InWorld, MayPick}
 use Rattle.dg_interp.specs.inside.Engine.{store_in, KeepsPlaces, steps_of, There, IsReady, TakesAt, StandsAt, FailsAt, Adds, Then, SameLimits}
 use Rattle.dg_interp.proofs.Takes.{behind, taken_in, adds_taken, store_ready}
 use Rattle.dg_interp.proofs.Giving.{steps_kept, written_agrees}
 
-module _ (x : Goal) (ts : List Term) (held : terms_held (out-Goal x) ≡ ts) (old : Engine) (out : Outside) (store : ListBindings) (stack : Vec Ref Global) (ready : IsReady old) (k : Kept (store_in old.store) (store_in store)) (saved : (ms : List Saved) → KeepsPlaces old.store ms → KeepsPlaces store ms)
+module _ (x : Goal) (ts : List Term) (held : terms_held (out-Goal x) ≡ ts) (old : Engine) (out : Lasting) (store : ListBindings) (stack : Vec Ref Global) (ready : IsReady old) (k : Kept (store_in old.store) (store_in store)) (saved : (ms : List Saved) → KeepsPlaces old.store ms → KeepsPlaces store ms)
     (grew : (program : CoreProgram) → old.program.now ≡ program → (store_in store).state ≡ record (store_in old.store).state { heap = (store_in old.store).state.heap + cells program ts }) where
   abbrev pub acted_to : Engine
-  acted_to = record old { outside = out; store = store; made = stack }
+  acted_to = record old { lasting = out; store = store; made = stack }
 
-  pub acted_ready : picks_in out ≡ picks_in old.outside → IsReady acted_to
+  pub acted_ready : picks_in out ≡ picks_in old.lasting → IsReady acted_to
   acted_ready picks =
       let r = store_ready old store stack k saved ready in
       record {
@@ -35,7 +35,7 @@ module _ (x : Goal) (ts : List Term) (held : terms_held (out-Goal x) ≡ ts) (ol
         here = r.here;
       }
 
-  pub acted_limits : out.gathered.aux ≡ old.outside.gathered.aux → out.world.area.keep ≡ old.outside.world.area.keep → SameLimits old acted_to
+  pub acted_limits : out.gathered.aux ≡ old.lasting.gathered.aux → out.world.area.keep ≡ old.lasting.world.area.keep → SameLimits old acted_to
   acted_limits aux keep = record { heap = k.heap_limit; trail = k.trail_limit; aux = aux; keep = keep }
 
   module _ (g : Game) (n : ℕ) (w : World) (run : Run) (st : TakesAt x old g n w run) where

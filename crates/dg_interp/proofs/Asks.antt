@@ -19,7 +19,7 @@ use Rattle.dg_meaning.specs.Moves.{first_looks, rule_branches, rules_of, choice,
 use Rattle.dg_meaning.specs.Cells.{cells, writing}
 use Rattle.dg_meaning.specs.Transcript.{Run}
 use Rattle.dg_meaning.specs.inside.Keeps.{After, Tried}
-use Rattle.dg_built.specs.Built.{IsBuiltRule}
+use Rattle.dg_interp.specs.Runnable.{IsRunnableRule}
 use Rattle.dg_unify.specs.Store.{Store, State, Saved, Holds, Kept, marked, told}
 use Rattle.dg_unify.specs.declared.bindings.Ref.{Ref}
 use Rattle.dg_unify.specs.Laws.{saves_drops}
@@ -47,11 +47,11 @@ use Rattle.dg_interp.proofs.Places.{open_still, adds_on, adds_noted}
 use Rattle.dg_interp.proofs.Takes.{behind, taken_in, comes_of, adds_taken, terms_full}
 use Rattle.dg_interp.proofs.Turns.{all_first, all_rest}
 
--- the rules of a built program
-pub rules_built : (preds : List Pred) (i : ℕ) → All (λ (pred : Pred). All IsBuiltRule pred.rules) preds → All IsBuiltRule (rules_of (slice_get preds i))
-rules_built [] i h = λ k d lt. absurd (omega arith)
-rules_built (pred ∷ preds) zero h = all_first (λ (p : Pred). All IsBuiltRule p.rules) pred preds h
-rules_built (pred ∷ preds) (suc i) h = rules_built preds i (all_rest (λ (p : Pred). All IsBuiltRule p.rules) pred preds h)
+-- the rules of a runnable program
+pub rules_runnable : (preds : List Pred) (i : ℕ) → All (λ (pred : Pred). All IsRunnableRule pred.rules) preds → All IsRunnableRule (rules_of (slice_get preds i))
+rules_runnable [] i h = λ k d lt. absurd (omega arith)
+rules_runnable (pred ∷ preds) zero h = all_first (λ (p : Pred). All IsRunnableRule p.rules) pred preds h
+rules_runnable (pred ∷ preds) (suc i) h = rules_runnable preds i (all_rest (λ (p : Pred). All IsRunnableRule p.rules) pred preds h)
 
 pub nothing_in : (rules : List Rule) → length rules ≤ 0 → rules ≡ []
 nothing_in [] h = refl
@@ -238,7 +238,7 @@ module _ (old : Engine) (query : Query) (terms : List Term) (store1 : ListBindin
 
       pub asking_left : IsLeft (length frames.items) (length ys) (Rules query args rules)
       asking_left =
-          (subst (λ (l : List Rule). All IsBuiltRule l) (sym are) (rules_built old.program.now.preds query.pred ready.sound.base.program.preds), omega (arith, there.from, there.count, ap length there.written.appended.is, length-append xs made))
+          (subst (λ (l : List Rule). All IsRunnableRule l) (sym are) (rules_runnable old.program.now.preds query.pred ready.sound.base.program.preds), omega (arith, there.from, there.count, ap length there.written.appended.is, length-append xs made))
 
       values2 : SameBy (length ys) (values_in s1 ys) (values_in s2 ys)
       values2 = values_kept (length ys) s1 s2 ys ys k2 (hold_front s1 ys hold) refl
@@ -297,7 +297,7 @@ module _ (old : Engine) (query : Query) (terms : List Term) (store1 : ListBindin
                   ap (λ l. rule_branches g query.pred (values_in s2 ys args) query.many l r rules.now) steps_now
                   ∙ ap (λ vs. rule_branches g query.pred vs query.many (steps_of old) r rules.now) (values2 args (omega (arith, there.from, there.count, ap length there.written.appended.is, length-append xs made))) in
                   subst (λ l. Tried g (RulesOf query.pred) r.next_tag (open_in old) st.at.ways st.at.inside.lives l n (asked_in g n w run st) run) (sym same)
-                  (subst (λ i. Tried g (RulesOf query.pred) r.next_tag i st.at.ways st.at.inside.lives (branches g n w run st rules.now) n (asked_in g n w run st) run) (sym (open_still old.outside g w st.at.inside.world))
+                  (subst (λ i. Tried g (RulesOf query.pred) r.next_tag i st.at.ways st.at.inside.lives (branches g n w run st rules.now) n (asked_in g n w run st) run) (sym (open_still old.lasting g w st.at.inside.world))
                   (chosen_rules g st.at.inside.lives st.at.ways n run query.pred r.next_tag (branches g n w run st rules.now) (asked_in g n w run st) (asked rules.now are g n w run st)));
             };
           }

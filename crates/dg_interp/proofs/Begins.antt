@@ -17,7 +17,7 @@ use Rattle.dg_meaning.specs.Moves.{begun, inside, enter, path_of, choice_cells, 
 use Rattle.dg_meaning.specs.Transcript.{Run}
 use Rattle.dg_meaning.specs.inside.Context.{Way, Live}
 use Rattle.dg_meaning.specs.inside.Keeps.{Stands, Began, Tried}
-use Rattle.dg_built.specs.Built.{AreBuilt, IsBuiltRule}
+use Rattle.dg_interp.specs.Runnable.{AreRunnable, IsRunnableRule}
 use Rattle.dg_meaning.proofs.Keeps.{has_happened}
 use Rattle.dg_meaning.proofs.Solving.{solve_extends}
 use Rattle.dg_unify.specs.Store.{Store, State, Saved, Kept, Charged, told, trail_of}
@@ -171,14 +171,14 @@ module _ (old : Engine) (query : Query) (args : Env) (rules others : Bor (List R
   abbrev steps : List Step
   steps = steps_behind (values_in s xs) fs (length fs)
 
-  built_all : All IsBuiltRule (rule ∷ others.now)
-  built_all = subst (All IsBuiltRule) split left.0
+  runnable_all : All IsRunnableRule (rule ∷ others.now)
+  runnable_all = subst (All IsRunnableRule) split left.0
 
-  pub rule_built : IsBuiltRule rule
-  rule_built = all_first IsBuiltRule rule others.now built_all
+  pub rule_runnable : IsRunnableRule rule
+  rule_runnable = all_first IsRunnableRule rule others.now runnable_all
 
   others_fit : IsLeft (length fs) (length xs) (Rules query args others)
-  others_fit = (all_rest IsBuiltRule rule others.now built_all, left.1)
+  others_fit = (all_rest IsRunnableRule rule others.now runnable_all, left.1)
 
   abbrev branches : Registers → Game → List Branch
   branches r g = rule_branches g query.pred the_args query.many steps r others.now
@@ -325,7 +325,7 @@ module _ (old : Engine) (query : Query) (args : Env) (rules others : Bor (List R
           ready = record {
             sound = rule_sound here;
             here = record {
-              built = subst AreBuilt (sym body) rule_built;
+              runnable = subst AreRunnable (sym body) rule_runnable;
               older = omega arith;
               env = let g : Game = record { program = old.program.now; dice = [] } in omega (arith, vars_count g refl, ap length (does g refl).appended.is, length-append xs (does g refl).appended.made);
             };

@@ -22,7 +22,7 @@ use Rattle.dg_interp.specs.declared.frames.Choice.{Choice}
 use Rattle.dg_interp.specs.declared.engine.Engine.{Engine}
 use Rattle.dg_interp.specs.inside.Frames.{values_in, kind_of, branches_of, lives_of, ways_of, AreChoices, IsLeft, IsOrdinary, StandOn, GoBackTo, stays_with}
 use Rattle.dg_interp.specs.inside.Engine.{store_in, KeepsPlaces, HasPlace, Within, There, IsSound, StandsAt, FailsAt, BeginsAt, SameLimits, steps_of, kept_if, open_in}
-use Rattle.dg_outside.specs.Outside.{InWorld}
+use Rattle.dg_lasting.specs.Lasting.{InWorld}
 use Rattle.dg_interp.proofs.Links.{SameBy, same_here, branches_same, choices_same, back_same, frames_raise, stand_raise}
 use Rattle.dg_unify.proofs.StoreLemmas.{all_hold}
 use Rattle.dg_interp.proofs.Stores.{values_kept, hold_front, front_same}
@@ -111,7 +111,7 @@ module _ (old : Engine) (left : Left) (b : Bool) (place : Place) (store1 : ListB
     pub stays_so : b ≡ stays (kind_of all) others
     stays_so = same_b ∙ sym (branches_stay g (values_in s xs) fs (length fs) left r) ∙ ap (λ q. stays q others) kind
 
-    abbrev inside_begun : (v : World) → InWorld old.outside g v → Within old.program.now old.outside store1 ys fs (reverse choices.items) g v
+    abbrev inside_begun : (v : World) → InWorld old.lasting g v → Within old.program.now old.lasting store1 ys fs (reverse choices.items) g v
     inside_begun v world = record {
       program = st.at.inside.program;
       entries = kept_if b begun_live st.at.inside.entries;
@@ -126,7 +126,7 @@ module _ (old : Engine) (left : Left) (b : Bool) (place : Place) (store1 : ListB
     }
 
     -- the engine is there then
-    abbrev pub begun_there : (here : Frame) (v : World) (r' : Registers) → InWorld old.outside g v → Agrees s1 r' → r'.next_tag ≡ old.newest + 1 → r'.stoppable ≡ r.stoppable → There (begun_engine here) (old.newest + 1) g v
+    abbrev pub begun_there : (here : Frame) (v : World) (r' : Registers) → InWorld old.lasting g v → Agrees s1 r' → r'.next_tag ≡ old.newest + 1 → r'.stoppable ≡ r.stoppable → There (begun_engine here) (old.newest + 1) g v
     begun_there here v r' world agrees tag part = record {
       inside = inside_begun v world;
       ways = st.at.ways;
@@ -138,9 +138,9 @@ module _ (old : Engine) (left : Left) (b : Bool) (place : Place) (store1 : ListB
     }
 
     -- the run comes from where it is
-    pub begun_stands : (here : Frame) (v : World) (r' : Registers) → InWorld old.outside g v → Agrees s1 r' → r'.next_tag ≡ old.newest + 1 → r'.stoppable ≡ r.stoppable → Stands g (pushed begun_live st.at.inside.lives) st.at.ways (path_of (steps_of (begun_engine here)) r') n v run → StandsAt (begun_engine here) g n v run
+    pub begun_stands : (here : Frame) (v : World) (r' : Registers) → InWorld old.lasting g v → Agrees s1 r' → r'.next_tag ≡ old.newest + 1 → r'.stoppable ≡ r.stoppable → Stands g (pushed begun_live st.at.inside.lives) st.at.ways (path_of (steps_of (begun_engine here)) r') n v run → StandsAt (begun_engine here) g n v run
     begun_stands here v r' world agrees tag part stands = record { at = begun_there here v r' world agrees tag part; stands = stands }
 
     -- or from its failure
-    pub begun_fails : (here : Frame) (v : World) → InWorld old.outside g v → Failed g (pushed begun_live st.at.inside.lives) n v run → FailsAt (begun_engine here) g n v run
+    pub begun_fails : (here : Frame) (v : World) → InWorld old.lasting g v → Failed g (pushed begun_live st.at.inside.lives) n v run → FailsAt (begun_engine here) g n v run
     begun_fails here v world failed = record { inside = inside_begun v world; failed = failed }

@@ -5,7 +5,7 @@ use Rattle.std.specs.List.{All}
 use Rattle.std.specs.declared.vec.Vec.{Vec}
 use Rattle.std.specs.declared.alloc.Global.{Global}
 use Rattle.dg_meaning.specs.World.{Game, World}
-use Rattle.dg_meaning.specs.Path.{Result, Failing, Branch, Kind, Plain, Rules as RulesOf, Shield, Gathers}
+use Rattle.dg_meaning.specs.Path.{Result, Failing, Branch, ChoiceKind, Plain, Rules as RulesOf, Shield, Gathers}
 use Rattle.dg_meaning.specs.Transcript.{Run}
 use Rattle.dg_meaning.specs.inside.Context.{Live, Drops}
 use Rattle.dg_meaning.specs.inside.Keeps.{Failed, Finished, FailsTo, GoesBack as ComesBack, Resumed, Tried, open_at, tried_in}
@@ -25,8 +25,8 @@ use Rattle.dg_interp.specs.declared.engine.Engine.{Engine}
 use Rattle.dg_interp.specs.inside.Frames.{values_in, kind_of, branches_of, cut_of, cut_if, lives_of, ways_of, IsChoice, AreChoices, AreFrames, IsLeft, IsNoted, StandOn, GoBackTo, TakesNewest, left_in, stays_with, all_left}
 use Rattle.dg_interp.specs.declared.frames.Left.{Left}
 use Rattle.dg_interp.specs.declared.frames.Left.TheVariants.{Rules, Lists, Ways, Way as OneWay, Behind, TakeOut, Things}
-use Rattle.dg_outside.specs.declared.outside.Outside.{Outside}
-use Rattle.dg_outside.specs.Outside.{InWorld, MayPick, Closes, picks_in}
+use Rattle.dg_lasting.specs.declared.lasting.Lasting.{Lasting}
+use Rattle.dg_lasting.specs.Lasting.{InWorld, MayPick, Closes, picks_in}
 use Rattle.dg_interp.specs.inside.Engine.{store_in, KeepsPlaces, open_in, HasPlaces, Sound, Within, HasPlace, IsPlace, Cuts, Retries, Point, IsSound, StandsAt, FailsAt, BeginsAt, Adds, Then, Leads, FullAt, SameLimits, WentOn, WentWrong, HasEndedSo, AtGoal, Branches, GoesBack, Tries, branches_left}
 use Rattle.dg_interp.proofs.Links.{SameBy, same_take, branches_same, frames_take, stand_raise, stand_same, choices_same, back_same, cut_gone, cut_fewer}
 use Rattle.dg_unify.proofs.StoreLemmas.{all_hold}
@@ -38,7 +38,7 @@ use Rattle.dg_interp.proofs.Turns.{reverse_pop}
 -- ## What a choice takes out
 
 -- it is the same where the choice is tried
-takes_it : (left : Left) (t : ℕ) (k : Kind) (bs : List Branch) (v : World) → TakesNewest left t v → TakesNewest left t (tried_in k bs v)
+takes_it : (left : Left) (t : ℕ) (k : ChoiceKind) (bs : List Branch) (v : World) → TakesNewest left t v → TakesNewest left t (tried_in k bs v)
 takes_it (TakeOut whole into frame) t k [] v h = h
 takes_it (TakeOut whole into frame) t (RulesOf q) (b ∷ bs) v h = h
 takes_it (TakeOut whole into frame) t Plain (b ∷ bs) v h = h
@@ -109,14 +109,14 @@ module _ (old : Engine) (o : Choice) (choices : Vec Choice Global) (sound : IsSo
     abbrev dropped : Engine
     dropped = record old { choices = rest }
 
-    from_part : (g : Game) (n : ℕ) (w : World) (run : Run) (program : old.program.now ≡ g.program) (world : InWorld old.outside g w) (ms : List Saved) (es : List Live) (ls : List Live) → KeepsPlaces old.store ms → AreChoices g xs fs (o ∷ os) ms es → ls ≡ lives_of (o ∷ os) es → Failed g ls n w run → FailsAt dropped g n w run
+    from_part : (g : Game) (n : ℕ) (w : World) (run : Run) (program : old.program.now ≡ g.program) (world : InWorld old.lasting g w) (ms : List Saved) (es : List Live) (ls : List Live) → KeepsPlaces old.store ms → AreChoices g xs fs (o ∷ os) ms es → ls ≡ lives_of (o ∷ os) es → Failed g ls n w run → FailsAt dropped g n w run
     from_part g n w run program world ms [] ls k h e f = absurd (no_lives g ms h) where
       no_lives : (g : Game) (ms : List Saved) → AreChoices g xs fs (o ∷ os) ms [] → ⊥
       no_lives g [] h = h
       no_lives g (m ∷ ms) h = h
     from_part g n w run program world [] (c ∷ cs) ls k h e f = absurd h
     from_part g n w run program world (m ∷ ms) (c ∷ cs) ls k h e f =
-        let before : Within old.program.now old.outside old.store xs fs os g w = record {
+        let before : Within old.program.now old.lasting old.store xs fs os g w = record {
           program = program;
           entries = cs;
           lives = lives_of os cs;
@@ -128,13 +128,13 @@ module _ (old : Engine) (o : Choice) (choices : Vec Choice Global) (sound : IsSo
         } in
         let noted = subst (IsNoted o.tag) (sym waits) stand.3.2 in
         record {
-          inside = cut_inside t old.program.now old.outside old.store xs fs os (reverse rest.items) cuts g w w world before;
+          inside = cut_inside t old.program.now old.lasting old.store xs fs os (reverse rest.items) cuts g w w world before;
           failed = subst (λ l. Failed g l n w run) (e ∙ ap (λ q. cut_if q (c ∷ lives_of os cs)) (sym waits) ∙ cut_gone t c (lives_of os cs) (omega (arith, noted, h.0.tag))) f;
         }
 
     pub part_dropped : WentWrong (FailsAt old) old dropped
     part_dropped = record {
-      sound = record { base = cut_base t old.program.now old.outside old.store xs fs os (reverse rest.items) cuts old.newest popped_base; room = sound.room; picks = sound.picks };
+      sound = record { base = cut_base t old.program.now old.lasting old.store xs fs os (reverse rest.items) cuts old.newest popped_base; room = sound.room; picks = sound.picks };
       left = refl;
       limits = record { heap = refl; trail = refl; aux = refl; keep = refl };
       leads = λ g n w run st. record {
@@ -152,11 +152,11 @@ module _ (old : Engine) (o : Choice) (choices : Vec Choice Global) (sound : IsSo
 
   -- ## A choice that was not cut
 
-  module _ (frames : Vec Frame Global) (refs : Vec Ref Global) (out : Outside) (store : ListBindings) (cut : frames.items ≡ take o.height fs) (cut_refs : refs.items ≡ take o.refs xs) (closed : Closes o.gathered old.outside out)
+  module _ (frames : Vec Frame Global) (refs : Vec Ref Global) (out : Lasting) (store : ListBindings) (cut : frames.items ≡ take o.height fs) (cut_refs : refs.items ≡ take o.refs xs) (closed : Closes o.gathered old.lasting out)
       (back : (s : Store) (ms : List Saved) → KeepsPlaces old.store (record { mark = o.place; store = s } ∷ ms) → Back s (store_in store))
       (keeps : (s : Store) (ms : List Saved) → KeepsPlaces old.store (record { mark = o.place; store = s } ∷ ms) → KeepsPlaces store (record { mark = o.place; store = s } ∷ ms)) where
     abbrev mid : Engine
-    mid = record old { frames = frames; refs = refs; outside = out; store = store; choices = choices; newest = o.tag; stoppable = o.stoppable }
+    mid = record old { frames = frames; refs = refs; lasting = out; store = store; choices = choices; newest = o.tag; stoppable = o.stoppable }
 
     count : length frames.items ≡ o.height
     count = ap length cut ∙ length-take o.height fs ∙ omega (arith, stand.0)
@@ -195,7 +195,7 @@ module _ (old : Engine) (o : Choice) (choices : Vec Choice Global) (sound : IsSo
 
     limits_of : (ms : List Saved) → GoBackTo xs (store_in old.store).heap_limit (store_in old.store).trail_limit (o ∷ os) ms → KeepsPlaces old.store ms → SameLimits old mid
     limits_of [] b h = absurd b
-    limits_of (m ∷ ms) b h = let is = is_place m ms b.0 b.1 h in record { heap = is.kept.heap_limit ∙ b.2; trail = is.kept.trail_limit ∙ b.3; aux = ap (λ (x : Outside). x.gathered.aux) closed.is; keep = ap (λ (x : Outside). x.world.area.keep) closed.is }
+    limits_of (m ∷ ms) b h = let is = is_place m ms b.0 b.1 h in record { heap = is.kept.heap_limit ∙ b.2; trail = is.kept.trail_limit ∙ b.3; aux = ap (λ (x : Lasting). x.gathered.aux) closed.is; keep = ap (λ (x : Lasting). x.world.area.keep) closed.is }
 
     pub popped_limits : SameLimits old mid
     popped_limits = limits_of sound.base.places.saved back_to sound.base.places.keeps
@@ -212,7 +212,7 @@ module _ (old : Engine) (o : Choice) (choices : Vec Choice Global) (sound : IsSo
         places = record { saved = popped_place.saved; keeps = saves_drops true (fields_of store) popped_place.back popped_place.saved popped_place.is.keeps; back_to = popped_place.back_to };
       };
       room = omega (arith, sound.room, stand.2);
-      picks = subst (λ (x : Outside). MayPick old.left (picks_in x)) (sym closed.is) sound.picks;
+      picks = subst (λ (x : Lasting). MayPick old.left (picks_in x)) (sym closed.is) sound.picks;
     }
 
     pub popped_left : IsLeft (length frames.items) (length refs.items) o.left
@@ -260,7 +260,7 @@ module _ (old : Engine) (o : Choice) (choices : Vec Choice Global) (sound : IsSo
           ∙ branches_same g o.height o.refs (values_in m.store xs) (values_in (store_in store) refs.items) fs (take o.height fs) o.left is.registers stand.3.0 stand.4 popped_values (same_take fs o.height))
 
       -- gatherings that were opened since are dropped
-      pub popped_world : (w v : World) → InWorld old.outside g w → Drops w v → length v.gathered ≡ open_at c.others c.height → InWorld out g v
+      pub popped_world : (w v : World) → InWorld old.lasting g w → Drops w v → length v.gathered ≡ open_at c.others c.height → InWorld out g v
       popped_world w v world drops count = closed.stands g w v world drops (count ∙ is.height)
 
       -- a gathering that is taken out is the newest

@@ -31,11 +31,11 @@ use Rattle.dg_world.specs.declared.world.World.{World as FactsWorld}
 use Rattle.dg_choose.specs.Dice.{HasDrawn}
 use Rattle.dg_lists.specs.Formed.{IsFormed}
 use Rattle.dg_interp.specs.declared.engine.Engine.{Engine}
-use Rattle.dg_outside.specs.declared.outside.Outside.{Outside}
+use Rattle.dg_lasting.specs.declared.lasting.Lasting.{Lasting}
 use Rattle.dg_interp.specs.inside.Frames.{values_in}
-use Rattle.dg_outside.specs.Outside.{outline, HaveGathered, InWorld}
+use Rattle.dg_lasting.specs.Lasting.{outline, HaveGathered, InWorld}
 use Rattle.dg_interp.specs.inside.Engine.{store_in, limit_in, KeepsPlaces, steps_of, IsReady, TakesAt, StandsAt, FailsAt, PassesLimit, Leads, Then, SameLimits, WentOn}
-use Rattle.dg_outside.specs.Changing.{all_in_store, SetsFormed, Became}
+use Rattle.dg_lasting.specs.Changing.{all_in_store, SetsFormed, Became}
 use Rattle.dg_interp.specs.inside.Made.{MadeArgs, changes_at, ChangedMade}
 use Rattle.dg_interp.proofs.Takes.{behind, taken_in, comes_of}
 use Rattle.dg_interp.proofs.Giving.{written_agrees}
@@ -76,8 +76,8 @@ module _ (place : ℕ) (terms : List Term) (sets : Bool) (old mid new : Engine) 
   abbrev x : Goal
   x = Now place terms sets
 
-  abbrev outer : Outside
-  outer = record old.outside { world = new.outside.world; row = new.outside.row }
+  abbrev outer : Lasting
+  outer = record old.lasting { world = new.lasting.world; row = new.lasting.row }
 
   abbrev s1 : Store
   s1 = store_in mid.store
@@ -88,8 +88,8 @@ module _ (place : ℕ) (terms : List Term) (sets : Bool) (old mid new : Engine) 
   program_is : mid.program.now ≡ old.program.now
   program_is = ap (λ (e : Engine). e.program.now) made.same
 
-  outside_is : mid.outside ≡ old.outside
-  outside_is = ap (λ (e : Engine). e.outside) made.same
+  lasting_is : mid.lasting ≡ old.lasting
+  lasting_is = ap (λ (e : Engine). e.lasting) made.same
 
   kept : Kept (store_in old.store) (store_in new.store)
   kept = subst (λ (t : Store). Kept (store_in old.store) t) (sym done.store) made.kept
@@ -104,10 +104,10 @@ module _ (place : ℕ) (terms : List Term) (sets : Bool) (old mid new : Engine) 
   to = acted_to x terms (now_held place terms sets) old outer new.store mid.made ready kept keeps grew
 
   here : new ≡ to
-  here = done.same ∙ ap (λ (e : Engine). record e { store = new.store; outside = record e.outside { world = new.outside.world; row = new.outside.row } }) made.same
+  here = done.same ∙ ap (λ (e : Engine). record e { store = new.store; lasting = record e.lasting { world = new.lasting.world; row = new.lasting.row } }) made.same
 
-  keep_is : new.outside.world.area.keep ≡ old.outside.world.area.keep
-  keep_is = done.limit ∙ ap (λ (o : Outside). o.world.area.keep) outside_is
+  keep_is : new.lasting.world.area.keep ≡ old.lasting.world.area.keep
+  keep_is = done.limit ∙ ap (λ (o : Lasting). o.world.area.keep) lasting_is
 
   pub changed_ready : IsReady new
   changed_ready = subst IsReady (sym here) (acted_ready x terms (now_held place terms sets) old outer new.store mid.made ready kept keeps grew refl)
@@ -129,7 +129,7 @@ module _ (place : ℕ) (terms : List Term) (sets : Bool) (old mid new : Engine) 
     args = map (value_of g.program (values_in (store_in old.store) old.refs.items old.here.env)) terms
 
     abbrev o : Outline
-    o = outline g.program old.outside.world.area.keep
+    o = outline g.program old.lasting.world.area.keep
 
     abbrev kind_at : Option PlaceKind
     kind_at = slice_get (kinds_of g.program) place
@@ -150,37 +150,37 @@ module _ (place : ℕ) (terms : List Term) (sets : Bool) (old mid new : Engine) 
     comes = subst (λ m. After g st.at.inside.lives st.at.ways n m run)
         (ap (λ f. outcome g f (values_in (store_in old.store) old.refs.items old.here.env) old.here.tag (steps_of old) r v) (outs-Now place terms sets)) (comes_of x old g n w run st)
 
-    became_in : Became o w.facts (changes_at (length g.program.objects) place sets vals kind_at) mid.outside.world new.outside.world result
+    became_in : Became o w.facts (changes_at (length g.program.objects) place sets vals kind_at) mid.lasting.world new.lasting.world result
     became_in =
         let is = st.at.inside.world.0 in
-        let h = done.became o w.facts (subst (λ (u : Outside). StandsFor u.world o w.facts) (sym outside_is) is.stands) (ap kinds_of (sym same_program)) (ap (λ (p : CoreProgram). length p.objects) (sym same_program)) (ap (λ (u : Outside). length u.row.items) outside_is ∙ is.room) in
-        subst (λ (p : CoreProgram). Became o w.facts (changes_at (length p.objects) place sets vals kind_at) mid.outside.world new.outside.world result) same_program h
+        let h = done.became o w.facts (subst (λ (u : Lasting). StandsFor u.world o w.facts) (sym lasting_is) is.stands) (ap kinds_of (sym same_program)) (ap (λ (p : CoreProgram). length p.objects) (sym same_program)) (ap (λ (u : Lasting). length u.row.items) lasting_is ∙ is.room) in
+        subst (λ (p : CoreProgram). Became o w.facts (changes_at (length p.objects) place sets vals kind_at) mid.lasting.world new.lasting.world result) same_program h
 
     -- nothing was changed
-    world_same : new.outside.world ≡ mid.outside.world → InWorld outer g v
+    world_same : new.lasting.world ≡ mid.lasting.world → InWorld outer g v
     world_same e =
         let is = st.at.inside.world in
-        let same = e ∙ ap (λ (u : Outside). u.world) outside_is in (
+        let same = e ∙ ap (λ (u : Lasting). u.world) lasting_is in (
           record {
             stands = subst (λ (u : FactsWorld). StandsFor u (outline g.program u.area.keep) w.facts) (sym same) is.0.stands;
             formed = is.0.formed;
-            room = done.row ∙ ap (λ (u : Outside). length u.row.items) outside_is ∙ is.0.room ∙ sym keep_is;
+            room = done.row ∙ ap (λ (u : Lasting). length u.row.items) lasting_is ∙ is.0.room ∙ sym keep_is;
           },
           is.1,
           is.2,
           is.3,
         )
 
-    world_changed : (a : Alteration) (u : World) → u.facts ≡ altered a w.facts → u.gathered ≡ w.gathered → u.dice ≡ w.dice → u.sites ≡ w.sites → StandsFor new.outside.world o (altered a w.facts) → SetsFormed a → InWorld outer g u
+    world_changed : (a : Alteration) (u : World) → u.facts ≡ altered a w.facts → u.gathered ≡ w.gathered → u.dice ≡ w.dice → u.sites ≡ w.sites → StandsFor new.lasting.world o (altered a w.facts) → SetsFormed a → InWorld outer g u
     world_changed a u facts gathered dice sites stands formed =
         let is = st.at.inside.world in (
           record {
-            stands = subst (λ l. StandsFor new.outside.world (outline g.program new.outside.world.area.keep) l) (sym facts) (subst (λ k. StandsFor new.outside.world (outline g.program k) (altered a w.facts)) (sym keep_is) stands);
+            stands = subst (λ l. StandsFor new.lasting.world (outline g.program new.lasting.world.area.keep) l) (sym facts) (subst (λ k. StandsFor new.lasting.world (outline g.program k) (altered a w.facts)) (sym keep_is) stands);
             formed = subst (All FactFormed) (sym facts) (altered_formed a w.facts formed is.0.formed);
-            room = done.row ∙ ap (λ (z : Outside). length z.row.items) outside_is ∙ is.0.room ∙ sym keep_is;
+            room = done.row ∙ ap (λ (z : Lasting). length z.row.items) lasting_is ∙ is.0.room ∙ sym keep_is;
           },
-          subst (HaveGathered old.outside.gathered.rows) (sym gathered) is.1,
-          subst (λ d. HasDrawn old.outside.dice g.dice d) (sym dice) is.2,
+          subst (HaveGathered old.lasting.gathered.rows) (sym gathered) is.1,
+          subst (λ d. HasDrawn old.lasting.dice g.dice d) (sym dice) is.2,
           sites ∙ is.3,
         )
 
@@ -188,9 +188,9 @@ module _ (place : ℕ) (terms : List Term) (sets : Bool) (old mid new : Engine) 
     abbrev Left : Answer Bool KeepFull → Type 0
     Left (Ok true) = Then [] w (λ z. StandsAt to g n z run)
     Left (Ok false) = Then [] w (λ z. FailsAt to g n z run)
-    Left (Err e) = old.outside.world.area.keep < run.world.meters.keep
+    Left (Err e) = old.lasting.world.area.keep < run.world.meters.keep
 
-    left_of : (looks : ℕ) (k : PlaceKind) (a : Option Alteration) (b : Answer Bool KeepFull) → Became o w.facts a mid.outside.world new.outside.world b → Went g st.at.inside.lives st.at.ways n (move_of (steps_of old) r (changes g k a (steps_of old) (worked looks v))) run → Left b
+    left_of : (looks : ℕ) (k : PlaceKind) (a : Option Alteration) (b : Answer Bool KeepFull) → Became o w.facts a mid.lasting.world new.lasting.world b → Went g st.at.inside.lives st.at.ways n (move_of (steps_of old) r (changes g k a (steps_of old) (worked looks v))) run → Left b
     left_of looks k None (Ok false) h went = acted_not x terms (now_held place terms sets) old outer new.store mid.made ready kept keeps grew g n w run st (worked looks v) refl refl (world_same h) went
     left_of looks k None (Ok true) h went = absurd h
     left_of looks k None (Err e) h went = absurd h
@@ -203,7 +203,7 @@ module _ (place : ℕ) (terms : List Term) (sets : Bool) (old mid new : Engine) 
         let later = (has_happened g st.at.inside.lives st.at.ways n (Moves (GoesOn (path_of (steps_of old) r) u)) run went).meters in
         omega (arith, later.keep, h.0)
 
-    left_at : (k : Option PlaceKind) (b : Answer Bool KeepFull) → Became o w.facts (changes_at (length g.program.objects) place sets vals k) mid.outside.world new.outside.world b → Went g st.at.inside.lives st.at.ways n (move_of (steps_of old) r (change_place g place k args sets (steps_of old) r v)) run → Left b
+    left_at : (k : Option PlaceKind) (b : Answer Bool KeepFull) → Became o w.facts (changes_at (length g.program.objects) place sets vals k) mid.lasting.world new.lasting.world b → Went g st.at.inside.lives st.at.ways n (move_of (steps_of old) r (change_place g place k args sets (steps_of old) r v)) run → Left b
     left_at None (Ok false) h went = acted_not x terms (now_held place terms sets) old outer new.store mid.made ready kept keeps grew g n w run st v refl refl (world_same h) went
     left_at None (Ok true) h went = absurd h
     left_at None (Err e) h went = absurd h

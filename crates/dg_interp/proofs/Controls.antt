@@ -16,10 +16,10 @@ use Rattle.dg_meaning.specs.Cells.{writing}
 use Rattle.dg_meaning.specs.Path.{Step, Do, Cut, Refuse, Registers, Plain, Failing, Chooses}
 use Rattle.dg_meaning.specs.Moves.{begun, inside, enter, choice, goals_at, list_branches, outcome, path_of}
 use Rattle.dg_meaning.specs.Transcript.{Run}
-use Rattle.dg_built.specs.Built.{AreBuilt}
+use Rattle.dg_interp.specs.Runnable.{AreRunnable}
 use Rattle.dg_meaning.specs.inside.Keeps.{After, Stands}
 use Rattle.dg_meaning.proofs.Keeps.{stands_happened}
-use Rattle.dg_built.proofs.BuiltLemmas.{built_inside, lists_built, three_built}
+use Rattle.dg_interp.proofs.RunnableLemmas.{runnable_inside, lists_runnable, three_runnable}
 use Rattle.dg_unify.specs.Store.{Store, State, Saved, Kept, Charged, HeapFull}
 use Rattle.dg_unify.specs.declared.bindings.Full.{Full}
 use Rattle.dg_unify.specs.declared.bindings.Full.TheVariants as full
@@ -44,29 +44,29 @@ branches_made A B old between new left limits h (Ok true) k = went_on_from A B o
 branches_made A B old between new left limits h (Ok false) k = ended_from A B Failing old between new left h k
 branches_made A B old between new left limits h (Err e) k = tt
 
--- ## What built goals hold
+-- ## What runnable goals hold
 
-pub either_built : (lists : List (List Goal)) → AreBuilt (Either lists ∷ []) → All AreBuilt lists
-either_built lists h = lists_built lists (built_inside (Either lists) [] (part.Either lists) (outs-Either lists) h)
+pub either_runnable : (lists : List (List Goal)) → AreRunnable (Either lists ∷ []) → All AreRunnable lists
+either_runnable lists h = lists_runnable lists (runnable_inside (Either lists) [] (part.Either lists) (outs-Either lists) h)
 
-pub once_built : (goals : List Goal) → AreBuilt (Once goals ∷ []) → AreBuilt goals
-once_built goals h = built_inside (Once goals) [] (part.Once goals) (outs-Once goals) h
+pub once_runnable : (goals : List Goal) → AreRunnable (Once goals ∷ []) → AreRunnable goals
+once_runnable goals h = runnable_inside (Once goals) [] (part.Once goals) (outs-Once goals) h
 
-pub not_built : (goals : List Goal) → AreBuilt (Not goals ∷ []) → AreBuilt goals
-not_built goals h = built_inside (Not goals) [] (part.Not goals) (outs-Not goals) h
+pub not_runnable : (goals : List Goal) → AreRunnable (Not goals ∷ []) → AreRunnable goals
+not_runnable goals h = runnable_inside (Not goals) [] (part.Not goals) (outs-Not goals) h
 
-pub exhaust_built : (goals : List Goal) → AreBuilt (Exhaust goals ∷ []) → AreBuilt goals
-exhaust_built goals h = built_inside (Exhaust goals) [] (part.Exhaust goals) (outs-Exhaust goals) h
+pub exhaust_runnable : (goals : List Goal) → AreRunnable (Exhaust goals ∷ []) → AreRunnable goals
+exhaust_runnable goals h = runnable_inside (Exhaust goals) [] (part.Exhaust goals) (outs-Exhaust goals) h
 
-pub stoppable_built : (goals : List Goal) → AreBuilt (Stoppable goals ∷ []) → AreBuilt goals
-stoppable_built goals h = built_inside (Stoppable goals) [] (part.Stoppable goals) (outs-Stoppable goals) h
+pub stoppable_runnable : (goals : List Goal) → AreRunnable (Stoppable goals ∷ []) → AreRunnable goals
+stoppable_runnable goals h = runnable_inside (Stoppable goals) [] (part.Stoppable goals) (outs-Stoppable goals) h
 
-pub gathering_built : (whole : Whole) (term : Term) (goals : List Goal) (into : Term) → AreBuilt (gathering_goal whole term goals into ∷ []) → AreBuilt goals
-gathering_built InList term goals into h = built_inside (Collect term goals into) [] (part.Collect term goals into) (outs-Collect term goals into) h
-gathering_built InSum term goals into h = built_inside (Accumulate term goals into) [] (part.Accumulate term goals into) (outs-Accumulate term goals into) h
+pub gathering_runnable : (whole : Whole) (term : Term) (goals : List Goal) (into : Term) → AreRunnable (gathering_goal whole term goals into ∷ []) → AreRunnable goals
+gathering_runnable InList term goals into h = runnable_inside (Collect term goals into) [] (part.Collect term goals into) (outs-Collect term goals into) h
+gathering_runnable InSum term goals into h = runnable_inside (Accumulate term goals into) [] (part.Accumulate term goals into) (outs-Accumulate term goals into) h
 
-pub if_built : (test first other : List Goal) → AreBuilt (If test first other ∷ []) → AreBuilt test × AreBuilt first × AreBuilt other
-if_built test first other h = three_built test first other (built_inside (If test first other) [] (part.If test first other) (outs-If test first other) h)
+pub if_runnable : (test first other : List Goal) → AreRunnable (If test first other ∷ []) → AreRunnable test × AreRunnable first × AreRunnable other
+if_runnable test first other h = three_runnable test first other (runnable_inside (If test first other) [] (part.If test first other) (outs-If test first other) h)
 
 -- ## Where an engine stands
 
@@ -117,8 +117,8 @@ pushed_room frame old new p room = subst (λ (e : Engine). e.newest + 1 + e.left
 abbrev pub then_frame : Bor (List Goal) → Engine → Frame
 then_frame goals e = record e.here { goals = goals; mark = Nothing; behind = length e.frames.items }
 
-pub then_is : (goals : Bor (List Goal)) (e : Engine) → IsReady e → AreBuilt goals.now → IsFrame (length e.frames.items) (length e.refs.items) (then_frame goals e)
-then_is goals e ready built = record { built = built; older = omega arith; env = ready.here.env }
+pub then_is : (goals : Bor (List Goal)) (e : Engine) → IsReady e → AreRunnable goals.now → IsFrame (length e.frames.items) (length e.refs.items) (then_frame goals e)
+then_is goals e ready runnable = record { runnable = runnable; older = omega arith; env = ready.here.env }
 
 -- both were put behind the others
 pub record Twice (goals : Bor (List Goal)) (old between new : Engine) : Type 0 where
@@ -127,11 +127,11 @@ pub record Twice (goals : Bor (List Goal)) (old between new : Engine) : Type 0 w
   pub takes : (x : Goal) (g : Game) (n : ℕ) (w : World) (run : Run) → TakesAt x old g n w run → TakesAt x new g n w run
   pub limits : SameLimits old new
 
-pub twice : (goals : Bor (List Goal)) (old between new : Engine) → IsReady old → AreBuilt goals.now → IsPushed old.here old between → IsPushed (then_frame goals between) between new → Twice goals old between new
-twice goals old between new ready built p q =
+pub twice : (goals : Bor (List Goal)) (old between new : Engine) → IsReady old → AreRunnable goals.now → IsPushed old.here old between → IsPushed (then_frame goals between) between new → Twice goals old between new
+twice goals old between new ready runnable p q =
     let f = then_frame goals between in
     let b = pushed_means old.here old between ready ready.here p in
-    let is = then_is goals between p.ready built in
+    let is = then_is goals between p.ready runnable in
     let c = pushed_means f between new p.ready is q in
     let here : behind_all between ≡ steps_of between = pushed_here old between ready p in
     let again : steps_of new ≡ steps_of between = ap (steps_at (values_of new) new.frames.items) (ap (λ (e : Engine). e.here) q.same) ∙ c.same between.here p.ready.here in
@@ -231,15 +231,15 @@ test_frame test e = record e.here { goals = test; mark = CutTo (e.newest + 1); b
 abbrev pub other_frame : Bor (List Goal) → Engine → Engine → Frame
 other_frame other between e = record e.here { goals = other; mark = Nothing; behind = length between.frames.items }
 
-pub branch_opens : (test first other : Bor (List Goal)) (old between e : Engine) → IsReady old → AreBuilt first.now → IsPushed old.here old between → IsPushed (then_frame first between) between e → Leads (TakesAt (If test.now first.now other.now) old) (OpensAt (Ways (test_frame test e) (other_frame other between e)) e)
-branch_opens test first other old between e ready built p q g n w run st =
-    let t = twice first old between e ready built p q in
+pub branch_opens : (test first other : Bor (List Goal)) (old between e : Engine) → IsReady old → AreRunnable first.now → IsPushed old.here old between → IsPushed (then_frame first between) between e → Leads (TakesAt (If test.now first.now other.now) old) (OpensAt (Ways (test_frame test e) (other_frame other between e)) e)
+branch_opens test first other old between e ready runnable p q g n w run st =
+    let t = twice first old between e ready runnable p q in
     if_opens test first other e (length between.frames.items) t.all t.older g n w run (t.takes (If test.now first.now other.now) g n w run st)
 
-pub branch_left : (test first other : Bor (List Goal)) (old between e : Engine) → IsReady old → AreBuilt test.now → AreBuilt first.now → AreBuilt other.now → IsPushed old.here old between → IsPushed (then_frame first between) between e → IsLeft (length e.frames.items) (length e.refs.items) (Ways (test_frame test e) (other_frame other between e))
-branch_left test first other old between e ready built built1 built2 p q =
+pub branch_left : (test first other : Bor (List Goal)) (old between e : Engine) → IsReady old → AreRunnable test.now → AreRunnable first.now → AreRunnable other.now → IsPushed old.here old between → IsPushed (then_frame first between) between e → IsLeft (length e.frames.items) (length e.refs.items) (Ways (test_frame test e) (other_frame other between e))
+branch_left test first other old between e ready runnable runnable1 runnable2 p q =
     let here = q.ready.here in
-    (record { built = built; older = omega arith; env = here.env }, record { built = built2; older = omega (arith, ap (λ (l : List Frame). length l) q.frames, length-append between.frames.items (then_frame first between ∷ [])); env = here.env })
+    (record { runnable = runnable; older = omega arith; env = here.env }, record { runnable = runnable2; older = omega (arith, ap (λ (l : List Frame). length l) q.frames, length-append between.frames.items (then_frame first between ∷ [])); env = here.env })
 
 -- ## A first answer
 

@@ -42,13 +42,13 @@ use Rattle.dg_lists.specs.Reading.{Lacks, Copied}
 use Rattle.dg_world.specs.Tables.{Outline, IsKind, simple_value}
 use Rattle.dg_world.specs.Worlds.{StandsFor}
 use Rattle.dg_interp.specs.declared.engine.Engine.{Engine}
-use Rattle.dg_outside.specs.declared.subject.Subject.TheVariants.{Open, Thing, Other}
-use Rattle.dg_outside.specs.Subjects.{may_name, IsSubject}
+use Rattle.dg_lasting.specs.declared.subject.Subject.TheVariants.{Open, Thing, Other}
+use Rattle.dg_lasting.specs.Subjects.{may_name, IsSubject}
 use Rattle.dg_interp.specs.inside.Frames.{values_in}
 use Rattle.dg_interp.specs.inside.Made.{MadeArgs}
-use Rattle.dg_outside.specs.Outside.{outline, InWorld}
+use Rattle.dg_lasting.specs.Lasting.{outline, InWorld}
 use Rattle.dg_meaning.specs.inside.Finding.{may_find}
-use Rattle.dg_outside.proofs.Finds.{no_copy, same_copy, KeptAs, value_formed, kept_as, kept_none}
+use Rattle.dg_lasting.proofs.Finds.{no_copy, same_copy, KeptAs, value_formed, kept_as, kept_none}
 use Rattle.dg_interp.specs.inside.Giving.{ActsAt, UnifiesAt}
 use Rattle.dg_interp.specs.inside.Finding.{EffectAt, made_values, AsksPlaceAt, AsksObjectsAt, TriesObjectsAt, ReadsAt}
 use Rattle.dg_interp.specs.inside.Engine.{Point, store_in, KeepsPlaces, steps_of, IsReady, TakesAt, FailsAt, FullAt, Leads, SameLimits, WentOn}
@@ -60,7 +60,7 @@ use Rattle.dg_interp.proofs.TakingOut.{made_heap}
 
 -- what holds of a world in which an engine may be
 abbrev pub InEach : Engine → (World → Type 0) → Type 0
-InEach e P = (g : Game) (w : World) → e.program.now ≡ g.program → InWorld e.outside g w → P w
+InEach e P = (g : Game) (w : World) → e.program.now ≡ g.program → InWorld e.lasting g w → P w
 
 -- ## What is read
 
@@ -186,12 +186,12 @@ simple_told s t v made c = c.value ∙ ap Some (same_copy s.state.vars v)
 -- ## What is set
 
 -- what is found of an object, in each world in which an engine may be
-pub found_each : (place : Option ℕ) (object : ℕ) (old : Engine) (is : Option Value) → ((o : Outline) (facts : List Fact) → StandsFor old.outside.world o facts → may_find o.kinds place ≡ true → is ≡ found facts place object) → may_find (kinds_of old.program.now) place ≡ true → InEach old (λ w. found w.facts place object ≡ is)
-found_each place object old is h may g w same world = sym (h (outline g.program old.outside.world.area.keep) w.facts world.0.stands (ap (λ (p : CoreProgram). may_find (kinds_of p) place) (sym same) ∙ may))
+pub found_each : (place : Option ℕ) (object : ℕ) (old : Engine) (is : Option Value) → ((o : Outline) (facts : List Fact) → StandsFor old.lasting.world o facts → may_find o.kinds place ≡ true → is ≡ found facts place object) → may_find (kinds_of old.program.now) place ≡ true → InEach old (λ w. found w.facts place object ≡ is)
+found_each place object old is h may g w same world = sym (h (outline g.program old.lasting.world.area.keep) w.facts world.0.stands (ap (λ (p : CoreProgram). may_find (kinds_of p) place) (sym same) ∙ may))
 
-module _ (place : ℕ) (old : Engine) (kept : Option (List Cell)) (h : (o : Outline) (facts : List Fact) → StandsFor old.outside.world o facts → IsKind o place GlobalKind → kept ≡ option_map cells_of (value_at facts place 0)) (kind : slice_get (kinds_of old.program.now) place ≡ Some GlobalKind) where
+module _ (place : ℕ) (old : Engine) (kept : Option (List Cell)) (h : (o : Outline) (facts : List Fact) → StandsFor old.lasting.world o facts → IsKind o place GlobalKind → kept ≡ option_map cells_of (value_at facts place 0)) (kind : slice_get (kinds_of old.program.now) place ≡ Some GlobalKind) where
   value_kept : InEach old (λ w. kept ≡ option_map cells_of (value_at w.facts place 0))
-  value_kept g w same world = h (outline g.program old.outside.world.area.keep) w.facts world.0.stands (ap (λ (p : CoreProgram). slice_get (kinds_of p) place) (sym same) ∙ kind)
+  value_kept g w same world = h (outline g.program old.lasting.world.area.keep) w.facts world.0.stands (ap (λ (p : CoreProgram). slice_get (kinds_of p) place) (sym same) ∙ kind)
 
   pub global_none : None ≡ kept → InEach old (λ w. value_at w.facts place 0 ≡ None)
   global_none is g w same world = kept_none (value_at w.facts place 0) (is ∙ value_kept g w same world)
@@ -200,8 +200,8 @@ module _ (place : ℕ) (old : Engine) (kept : Option (List Cell)) (h : (o : Outl
   global_some cells is g w same world = kept_as (value_at w.facts place 0) cells (is ∙ value_kept g w same world) (λ v e. value_formed w.facts place 0 v world.0.formed e)
 
 -- whether a flag is set
-pub flag_each : (place : ℕ) (old : Engine) (b : Bool) → ((o : Outline) (facts : List Fact) → StandsFor old.outside.world o facts → IsKind o place Flag → b ≡ is_some (value_at facts place 0)) → slice_get (kinds_of old.program.now) place ≡ Some Flag → InEach old (λ w. is_some (value_at w.facts place 0) ≡ b)
-flag_each place old b h kind g w same world = sym (h (outline g.program old.outside.world.area.keep) w.facts world.0.stands (ap (λ (p : CoreProgram). slice_get (kinds_of p) place) (sym same) ∙ kind))
+pub flag_each : (place : ℕ) (old : Engine) (b : Bool) → ((o : Outline) (facts : List Fact) → StandsFor old.lasting.world o facts → IsKind o place Flag → b ≡ is_some (value_at facts place 0)) → slice_get (kinds_of old.program.now) place ≡ Some Flag → InEach old (λ w. is_some (value_at w.facts place 0) ≡ b)
+flag_each place old b h kind g w same world = sym (h (outline g.program old.lasting.world.area.keep) w.facts world.0.stands (ap (λ (p : CoreProgram). slice_get (kinds_of p) place) (sym same) ∙ kind))
 
 -- ## Refs that were made
 
@@ -292,7 +292,7 @@ object_held term many = ap terms_held (outs-IsObject term many)
 
 -- in each world in which an engine may be, on each path on which it may be
 abbrev pub OnEach : Engine → (Game → Registers → World → Type 0) → Type 0
-OnEach e P = (g : Game) (r : Registers) (w : World) → e.program.now ≡ g.program → InWorld e.outside g w → Agrees (store_in e.store) r → P g r w
+OnEach e P = (g : Game) (r : Registers) (w : World) → e.program.now ≡ g.program → InWorld e.lasting g w → Agrees (store_in e.store) r → P g r w
 
 module _ (does : Game → List Step → Registers → World → Effect) (old : Engine) where
   -- another effect behind so much work

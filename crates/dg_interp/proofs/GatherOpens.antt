@@ -30,7 +30,7 @@ use Rattle.dg_unify.specs.declared.bindings.Full.{Full}
 use Rattle.dg_unify.specs.declared.bindings.Full.TheVariants as full
 use Rattle.dg_unify.specs.declared.bindings.Mark.{Mark as Place}
 use Rattle.dg_unify.specs.declared.list.ListBindings.{ListBindings}
-use Rattle.dg_built.specs.Built.{AreBuilt}
+use Rattle.dg_interp.specs.Runnable.{AreRunnable}
 use Rattle.dg_interp.specs.declared.frames.Env.{Env}
 use Rattle.dg_interp.specs.declared.frames.Frame.{Frame}
 use Rattle.dg_interp.specs.declared.frames.Mark.TheVariants.{Nothing, Keep as KeepIn}
@@ -39,8 +39,8 @@ use Rattle.dg_interp.specs.declared.frames.Whole.{Whole}
 use Rattle.dg_interp.specs.declared.frames.Whole.TheVariants.{List as InList, Sum as InSum}
 use Rattle.dg_interp.specs.declared.frames.Choice.{Choice}
 use Rattle.dg_interp.specs.declared.engine.Engine.{Engine}
-use Rattle.dg_outside.specs.declared.outside.Outside.{Outside}
-use Rattle.dg_outside.specs.Outside.{picks_in, InWorld, MayPick, OpensOne, OpensTooMuch}
+use Rattle.dg_lasting.specs.declared.lasting.Lasting.{Lasting}
+use Rattle.dg_lasting.specs.Lasting.{picks_in, InWorld, MayPick, OpensOne, OpensTooMuch}
 use Rattle.dg_terms.specs.Terms.{BothMade}
 use Rattle.dg_interp.specs.inside.Frames.{values_in, steps_at, steps_behind, whole_of, lives_of, ways_of, IsChoice, AreChoices, IsFrame, AreFrames, StandOn, GoBackTo}
 use Rattle.dg_interp.specs.inside.Gathering.{gathering_goal, gathering_live, GathersAt}
@@ -75,7 +75,7 @@ chosen InList term goals into old g n w run st =
     let env = values_in (store_in old.store) old.refs.items old.here.env in
     let r = behind x old g n w run st in
     let v = taken_in x old g n w run st in
-    let a = open_still old.outside g w st.at.inside.world in
+    let a = open_still old.lasting g w st.at.inside.world in
     let height : length (opened r.next_tag v).gathered - 1 ≡ open_in old = omega (arith, a) in
     subst (λ h. Stands g (gathering_live InList (value_of g.program env into) (steps_of old) h r st.at.ways ∷ st.at.inside.lives) st.at.ways (path_of (steps_for old goals env r.next_tag term env) (inside 10 r)) n (begun (inside 10 r) 0 (opened r.next_tag v)) run) height
     (subst (λ f. After g st.at.inside.lives st.at.ways n (outcome g f env old.here.tag (steps_of old) r v) run) (outs-Collect term goals into) (comes_of x old g n w run st))
@@ -84,7 +84,7 @@ chosen InSum term goals into old g n w run st =
     let env = values_in (store_in old.store) old.refs.items old.here.env in
     let r = behind x old g n w run st in
     let v = taken_in x old g n w run st in
-    let a = open_still old.outside g w st.at.inside.world in
+    let a = open_still old.lasting g w st.at.inside.world in
     let height : length (opened r.next_tag v).gathered - 1 ≡ open_in old = omega (arith, a) in
     subst (λ h. Stands g (gathering_live InSum (value_of g.program env into) (steps_of old) h r st.at.ways ∷ st.at.inside.lives) st.at.ways (path_of (steps_for old goals env r.next_tag term env) (inside 10 r)) n (begun (inside 10 r) 0 (opened r.next_tag v)) run) height
     (subst (λ f. After g st.at.inside.lives st.at.ways n (outcome g f env old.here.tag (steps_of old) r v) run) (outs-Accumulate term goals into) (comes_of x old g n w run st))
@@ -142,7 +142,7 @@ module _ (whole : Whole) (term : Term) (goals : List Goal) (into : Term) (old : 
 
 -- ## The gathering opens
 
-module _ (whole : Whole) (value into : Ref) (goals : Bor (List Goal)) (old : Engine) (ready : IsReady old) (built : AreBuilt goals.now) (holds : Holds (store_in old.store) value × Holds (store_in old.store) into) where
+module _ (whole : Whole) (value into : Ref) (goals : Bor (List Goal)) (old : Engine) (ready : IsReady old) (runnable : AreRunnable goals.now) (holds : Holds (store_in old.store) value × Holds (store_in old.store) into) where
   abbrev from : Point
   from = GathersAt whole value into goals.now old
 
@@ -168,7 +168,7 @@ module _ (whole : Whole) (value into : Ref) (goals : Bor (List Goal)) (old : Eng
   happened g n w run st = stands_happened g _ _ _ n (opened_in g n w run st) run st.began
 
   -- too much is gathered
-  pub open_full : OpensTooMuch old.outside → PassesLimit Aux from old.outside.gathered.aux
+  pub open_full : OpensTooMuch old.lasting → PassesLimit Aux from old.lasting.gathered.aux
   open_full h = λ g n w run st.
       let later = (happened g n w run st).meters in
       let full = h.stands g w st.at.registers.next_tag st.at.inside.world in
@@ -186,9 +186,9 @@ module _ (whole : Whole) (value into : Ref) (goals : Bor (List Goal)) (old : Eng
     cells_full full.Trail u h = absurd h
     cells_full full.OutOfMemory u h = tt
 
-    module _ (none : Bor (List Goal)) (empty : none.now ≡ []) (store1 : ListBindings) (refs : Vec Ref Global) (frames : Vec Frame Global) (choices : Vec Choice Global) (out : Outside) (k1 : Kept s0 (store_in store1)) (saved1 : (ms : List Saved) → KeepsPlaces store0 ms → KeepsPlaces store1 ms) (charged : Charged 10 s0 (store_in store1))
+    module _ (none : Bor (List Goal)) (empty : none.now ≡ []) (store1 : ListBindings) (refs : Vec Ref Global) (frames : Vec Frame Global) (choices : Vec Choice Global) (out : Lasting) (k1 : Kept s0 (store_in store1)) (saved1 : (ms : List Saved) → KeepsPlaces store0 ms → KeepsPlaces store1 ms) (charged : Charged 10 s0 (store_in store1))
         (room : old.newest + 1 + old.left < 2 ^ 64) (refs_are : refs.items ≡ xs ++ value ∷ into ∷ []) (frames_are : frames.items ≡ fs ++ record { goals = none; env = record { from = length xs; len = 1 }; tag = old.here.tag; mark = KeepIn t; behind = 0 } ∷ [])
-        (opens : OpensOne old.outside out)
+        (opens : OpensOne old.lasting out)
         (kept : reverse choices.items ≡ record { tag = t; left = TakeOut whole (record { from = length xs + 1; len = 1 }) old.here; height = length frames.items; refs = length refs.items; gathered = length out.gathered.rows; place = place; stoppable = old.stoppable } ∷ os) where
       abbrev s1 : Store
       s1 = store_in store1
@@ -216,7 +216,7 @@ module _ (whole : Whole) (value into : Ref) (goals : Bor (List Goal)) (old : Eng
       first = record old.here { goals = goals; mark = Nothing; behind = length gs }
 
       abbrev pub opened_engine : Engine
-      opened_engine = record old { store = store1; refs = refs; frames = frames; outside = out; choices = choices; newest = t; here = first }
+      opened_engine = record old { store = store1; refs = refs; frames = frames; lasting = out; choices = choices; newest = t; here = first }
 
       k : Kept s s1
       k = kept_on s s0 s1 k0 k1
@@ -237,13 +237,13 @@ module _ (whole : Whole) (value into : Ref) (goals : Bor (List Goal)) (old : Eng
       hold1 : All (Holds s1) ys
       hold1 = all_hold s0 s1 ys k1 hold0
 
-      nothing_built : AreBuilt []
-      nothing_built = λ i d lt. absurd (omega arith)
+      nothing_runnable : AreRunnable []
+      nothing_runnable = λ i d lt. absurd (omega arith)
 
       frames_now : AreFrames (length gs) (length ys) gs
       frames_now = subst (λ (l : List Frame). AreFrames (length l) (length ys) l) (sym frames_are)
           (frames_append (length ys) fs behind_goals (frames_raise (length fs) (length xs) (length ys) fs (omega (arith, more_refs)) ready.sound.base.frames)
-          (record { built = subst AreBuilt (sym empty) nothing_built; older = omega arith; env = omega (arith, more_refs) }))
+          (record { runnable = subst AreRunnable (sym empty) nothing_runnable; older = omega arith; env = omega (arith, more_refs) }))
 
       same_fs : SameTo (length fs) fs gs
       same_fs = subst (SameTo (length fs) fs) (sym frames_are) (same_append fs behind_goals)
@@ -252,7 +252,7 @@ module _ (whole : Whole) (value into : Ref) (goals : Bor (List Goal)) (old : Eng
       here_is = frame_raise (length fs) (length gs) (length xs) (length ys) old.here (omega (arith, more_frames)) (omega (arith, more_refs)) ready.here
 
       first_is : IsFrame (length gs) (length ys) first
-      first_is = record { built = built; older = omega arith; env = here_is.env }
+      first_is = record { runnable = runnable; older = omega arith; env = here_is.env }
 
       stand : StandOn gs (length gs) (length ys) t os
       stand = stand_raise gs (length fs) (length gs) (length xs) (length ys) old.newest t os (omega (arith, more_frames)) (omega (arith, more_refs)) (omega arith) (stand_same fs gs (length fs) (length xs) old.newest os same_fs ready.sound.base.choices)
@@ -314,7 +314,7 @@ module _ (whole : Whole) (value into : Ref) (goals : Bor (List Goal)) (old : Eng
           ∙ ap (λ l. TakeOutBranch r.next_tag (whole_of whole) (value_of_var (values_in s0 ys taken_env) 0) (path_of l (inside 0 r)) ∷ []) (sym same_out)
 
       count_open : length out.gathered.rows ≡ open_in old + 1
-      count_open = ap (λ (x : Outside). length x.gathered.rows) opens.is ∙ omega arith
+      count_open = ap (λ (x : Lasting). length x.gathered.rows) opens.is ∙ omega arith
 
       choice_is : (g : Game) (r : Registers) (on : List WayOn) → Agrees s r → r.next_tag ≡ t → r.stoppable ≡ old.stoppable → IsChoice g ys gs o m on (gathering_live whole (told s into) (steps_of old) (open_in old) r on)
       choice_is g r on a tag part = record {
@@ -331,7 +331,7 @@ module _ (whole : Whole) (value into : Ref) (goals : Bor (List Goal)) (old : Eng
         ways_on = refl;
       }
 
-      new_world : (g : Game) (w : World) (r : Registers) → InWorld old.outside g w → InWorld out g (begun (inside 10 r) 0 (opened r.next_tag w))
+      new_world : (g : Game) (w : World) (r : Registers) → InWorld old.lasting g w → InWorld out g (begun (inside 10 r) 0 (opened r.next_tag w))
       new_world g w r is = opens.stands g w r.next_tag is
 
       pub gathering_opened : WentOn from old opened_engine
@@ -358,12 +358,12 @@ module _ (whole : Whole) (value into : Ref) (goals : Bor (List Goal)) (old : Eng
               };
             };
             room = room;
-            picks = subst (λ (x : Outside). MayPick old.left (picks_in x)) (sym opens.is) ready.sound.picks;
+            picks = subst (λ (x : Lasting). MayPick old.left (picks_in x)) (sym opens.is) ready.sound.picks;
           };
           here = first_is;
         };
         left = refl;
-        limits = record { heap = k.heap_limit; trail = k.trail_limit; aux = ap (λ (x : Outside). x.gathered.aux) opens.is; keep = ap (λ (x : Outside). x.world.area.keep) opens.is };
+        limits = record { heap = k.heap_limit; trail = k.trail_limit; aux = ap (λ (x : Lasting). x.gathered.aux) opens.is; keep = ap (λ (x : Lasting). x.world.area.keep) opens.is };
         leads = λ g n w run st.
             let r = st.at.registers in
             let c = gathering_live whole (told s into) (steps_of old) (open_in old) r st.at.ways in

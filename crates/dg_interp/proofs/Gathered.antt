@@ -21,11 +21,11 @@ use Rattle.dg_unify.specs.declared.list.ListBindings.{ListBindings}
 use Rattle.dg_lists.specs.Writing.{value_at}
 use Rattle.dg_interp.specs.declared.engine.Engine.{Engine}
 use Rattle.dg_terms.specs.Terms.{Overflows}
-use Rattle.dg_outside.specs.Lacks.{area_of}
-use Rattle.dg_outside.specs.declared.lack.Lack.{Lack}
+use Rattle.dg_lasting.specs.Lacks.{area_of}
+use Rattle.dg_lasting.specs.declared.lack.Lack.{Lack}
 use Rattle.dg_interp.specs.declared.frames.Env.{Env}
-use Rattle.dg_outside.specs.declared.outside.Outside.{Outside}
-use Rattle.dg_outside.specs.Outside.{picks_in, InWorld, MayPick, Gathers, GathersTooMuch}
+use Rattle.dg_lasting.specs.declared.lasting.Lasting.{Lasting}
+use Rattle.dg_lasting.specs.Lasting.{picks_in, InWorld, MayPick, Gathers, GathersTooMuch}
 use Rattle.dg_interp.specs.inside.Frames.{stretch, values_in}
 use Rattle.dg_interp.specs.inside.Gathering.{KeepsAt}
 use Rattle.dg_interp.specs.inside.Engine.{Point, store_in, KeepsPlaces, IsReady, FullAt, LacksIn, LackAt, Leads, SameLimits, PassesLimit, WentWrong, limit_in}
@@ -83,18 +83,18 @@ module _ (old : Engine) (ready : IsReady old) (store1 : ListBindings) (r : Ref) 
     gathered_is = ap (λ v. gathered_with st.tag v w.gathered) same_what
 
     -- the limit is passed
-    passed : GathersTooMuch what old.outside → old.outside.gathered.aux < run.world.meters.aux
+    passed : GathersTooMuch what old.lasting → old.lasting.gathered.aux < run.world.meters.aux
     passed h = omega (arith, h.stands g w st.tag st.at.inside.world newest, ap gathered_size gathered_is, happened.meters.aux)
 
-    kept_world : (out : Outside) → Gathers what old.outside out → InWorld out g kept_in
+    kept_world : (out : Lasting) → Gathers what old.lasting out → InWorld out g kept_in
     kept_world out is = subst (λ v. InWorld out g (kept st.tag v (worked (keeping st.at.registers x) w))) (sym same_what) (is.stands g (worked (keeping st.at.registers x) w) st.tag st.at.inside.world newest)
 
-  pub keep_full : GathersTooMuch what old.outside → PassesLimit Aux (KeepsAt old) old.outside.gathered.aux
+  pub keep_full : GathersTooMuch what old.lasting → PassesLimit Aux (KeepsAt old) old.lasting.gathered.aux
   keep_full h = λ g n w run st. passed g n w run st h
 
-  module _ (store2 : ListBindings) (out : Outside) (same : store_in store2 ≡ store_in store1) (saved2 : (ms : List Saved) → KeepsPlaces store1 ms → KeepsPlaces store2 ms) (is : Gathers what old.outside out) where
+  module _ (store2 : ListBindings) (out : Lasting) (same : store_in store2 ≡ store_in store1) (saved2 : (ms : List Saved) → KeepsPlaces store1 ms → KeepsPlaces store2 ms) (is : Gathers what old.lasting out) where
     abbrev new : Engine
-    new = record old { store = store2; outside = out }
+    new = record old { store = store2; lasting = out }
 
     k : Kept s (store_in store2)
     k = subst (Kept s) (sym same) k1
@@ -104,9 +104,9 @@ module _ (old : Engine) (ready : IsReady old) (store1 : ListBindings) (r : Ref) 
 
     pub value_kept : WentWrong (KeepsAt old) old new
     value_kept = record {
-      sound = let now = store_sound old store2 old.made k saved ready.sound in record { base = now.base; room = now.room; picks = subst (λ (o : Outside). MayPick old.left (picks_in o)) (sym is.is) now.picks };
+      sound = let now = store_sound old store2 old.made k saved ready.sound in record { base = now.base; room = now.room; picks = subst (λ (o : Lasting). MayPick old.left (picks_in o)) (sym is.is) now.picks };
       left = refl;
-      limits = record { heap = k.heap_limit; trail = k.trail_limit; aux = ap (λ (o : Outside). o.gathered.aux) is.is; keep = ap (λ (o : Outside). o.world.area.keep) is.is };
+      limits = record { heap = k.heap_limit; trail = k.trail_limit; aux = ap (λ (o : Lasting). o.gathered.aux) is.is; keep = ap (λ (o : Lasting). o.world.area.keep) is.is };
       leads = λ g n w run st. record {
         world = kept_in g n w run st;
         adds = record { prints_are = (adds_nothing w).prints_are; typed = refl };

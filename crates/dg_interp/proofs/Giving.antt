@@ -30,7 +30,7 @@ use Rattle.dg_interp.specs.declared.engine.Engine.{Engine}
 use Rattle.dg_terms.specs.Terms.{Overflows}
 use Rattle.dg_interp.specs.inside.Frames.{values_in}
 use Rattle.dg_interp.specs.inside.Engine.{Point, store_in, KeepsPlaces, steps_of, There, IsReady, TakesAt, StandsAt, FailsAt, FullAt, Leads, SameLimits, WentOn, Branches}
-use Rattle.dg_outside.specs.Outside.{InWorld}
+use Rattle.dg_lasting.specs.Lasting.{InWorld}
 use Rattle.dg_interp.specs.inside.Giving.{ActsAt, SolvesAt, UnifiesAt, GivesAt}
 use Rattle.dg_unify.proofs.StoreLemmas.{kept_told}
 use Rattle.dg_interp.proofs.Stores.{trail_append, trail_within, made_is, values_kept, hold_front}
@@ -54,7 +54,7 @@ module _ (old : Engine) (store : ListBindings) (stack : Vec Ref Global) (ready :
   pub kept_limits : SameLimits old with_store
   kept_limits = record { heap = k.heap_limit; trail = k.trail_limit; aux = refl; keep = refl }
 
-  module _ (g : Game) (n : ℕ) (w v : World) (run : Run) (at : There old (old.newest + 1) g w) (world : InWorld old.outside g v) where
+  module _ (g : Game) (n : ℕ) (w v : World) (run : Run) (at : There old (old.newest + 1) g w) (world : InWorld old.lasting g v) where
     abbrev there_on : (r : Registers) → Agrees (store_in store) r → r.next_tag ≡ at.registers.next_tag → r.stoppable ≡ at.registers.stoppable → There with_store (old.newest + 1) g v
     there_on r agrees tag part = record {
       inside = inside_kept _ _ saved world at.inside;

@@ -51,7 +51,7 @@ module _ (old : Engine) (choices : Vec Choice Global) (ready : IsReady old) (cut
   pub just_cut : WentOn (TakesAt Just old) old new
   just_cut = record {
     ready = record {
-      sound = record { base = cut_base t old.program.now old.outside old.store old.refs.items old.frames.items os (reverse choices.items) cuts old.newest ready.sound.base; room = ready.sound.room; picks = ready.sound.picks };
+      sound = record { base = cut_base t old.program.now old.lasting old.store old.refs.items old.frames.items os (reverse choices.items) cuts old.newest ready.sound.base; room = ready.sound.room; picks = ready.sound.picks };
       here = ready.here;
     };
     left = refl;
@@ -65,9 +65,9 @@ module _ (old : Engine) (choices : Vec Choice Global) (ready : IsReady old) (cut
           adds = adds_taken r _ w;
           holds = record {
             at = record {
-              inside = cut_inside t old.program.now old.outside old.store old.refs.items old.frames.items os (reverse choices.items) cuts g w v st.at.inside.world st.at.inside;
+              inside = cut_inside t old.program.now old.lasting old.store old.refs.items old.frames.items os (reverse choices.items) cuts g w v st.at.inside.world st.at.inside;
               ways = st.at.ways;
-              ways_are = st.at.ways_are ∙ sym (ways_left t old.program.now old.outside old.store old.refs.items old.frames.items os (reverse choices.items) cuts g w st.at.inside);
+              ways_are = st.at.ways_are ∙ sym (ways_left t old.program.now old.lasting old.store old.refs.items old.frames.items os (reverse choices.items) cuts g w st.at.inside);
               registers = r;
               agrees = record { bound = st.at.agrees.bound; vars = st.at.agrees.vars; heap = heap ∙ st.at.agrees.heap; trail = st.at.agrees.trail; since = st.at.agrees.since };
               tag = st.at.tag;

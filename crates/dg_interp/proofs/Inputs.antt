@@ -37,7 +37,7 @@ use Rattle.dg_words.specs.Lines.{Took, IsOver}
 use Rattle.dg_words.specs.Letters.{IsLine}
 use Rattle.dg_words.proofs.LineLemmas.{left_shorter}
 use Rattle.dg_interp.specs.declared.engine.Engine.{Engine}
-use Rattle.dg_outside.specs.Lacks.{as_stored}
+use Rattle.dg_lasting.specs.Lacks.{as_stored}
 use Rattle.dg_interp.specs.inside.Engine.{store_in, steps_of, limit_in, StandsAt, Taken, Then, WentOn, HasEndedSo, Branches, FullAt, PassesLimit, SameLimits}
 use Rattle.dg_meaning.specs.Engines.{game, told_behind, left_told}
 use Rattle.dg_meaning.proofs.Engines.{as_told}

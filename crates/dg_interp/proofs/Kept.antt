@@ -6,7 +6,7 @@ use Rattle.dg_meaning.specs.World.{Game, World}
 use Rattle.dg_meaning.specs.Transcript.{Run}
 use Rattle.dg_base.specs.declared.program.Rule.{Rule}
 use Rattle.dg_base.specs.declared.program.Goal.{Goal}
-use Rattle.dg_meaning.specs.Path.{Step, Registers, Path, Branch, Kind, Plain, Rules as RulesOf}
+use Rattle.dg_meaning.specs.Path.{Step, Registers, Path, Branch, ChoiceKind, Plain, Rules as RulesOf}
 use Rattle.dg_meaning.specs.Moves.{enter_if, match, is_excluded, unless_excluded, rule_branches, list_branches, choice_cells}
 use Rattle.dg_meaning.specs.inside.Keeps.{Tried, open_at}
 use Rattle.dg_meaning.specs.Values.{Value}
@@ -26,7 +26,7 @@ use Rattle.dg_unify.specs.inside.Engines.{Agrees}
 use Rattle.dg_interp.specs.inside.Engine.{KeepsPlaces, kept_if}
 use Rattle.dg_interp.proofs.Links.{stand_raise, no_part, plain_cut, plain_way}
 use Rattle.dg_meaning.specs.Facts.{kinds_of}
-use Rattle.dg_outside.specs.Finding.{counted}
+use Rattle.dg_lasting.specs.Finding.{counted}
 use Rattle.dg_meaning.specs.inside.Finding.{may_find}
 use Rattle.dg_interp.proofs.Trials.{counted_some, trials_stay, trials_open}
 
@@ -95,7 +95,7 @@ tried_inside g values fs height (TakeOut whole into frame) r t h k ways lives n 
 tried_inside g values fs height (Things trial args) r t h k ways lives n w run e =
     subst (λ i. Tried g Plain t i ways lives (branches_of g values fs height (Things trial args) r) n w run) (sym (branches_open g values fs height (Things trial args) r h tt) ∙ e)
 
-pub kept_choices : (g : Game) (refs : List Ref) (fs : List Frame) (o : Choice) (os : List Choice) (height : ℕ) → (m : Saved) (ms : List Saved) (es : List Live) (r : Registers) (k : Kind) (ways : List Way) (bs : List Branch) (b : Bool) → open_at bs height ≡ o.gathered → bs ≡ branches_of g (values_in m.store refs) fs o.height o.left r → k ≡ kind_of o.left → r.next_tag ≡ o.tag → r.stoppable ≡ o.stoppable → ways ≡ ways_of os es →
+pub kept_choices : (g : Game) (refs : List Ref) (fs : List Frame) (o : Choice) (os : List Choice) (height : ℕ) → (m : Saved) (ms : List Saved) (es : List Live) (r : Registers) (k : ChoiceKind) (ways : List Way) (bs : List Branch) (b : Bool) → open_at bs height ≡ o.gathered → bs ≡ branches_of g (values_in m.store refs) fs o.height o.left r → k ≡ kind_of o.left → r.next_tag ≡ o.tag → r.stoppable ≡ o.stoppable → ways ≡ ways_of os es →
     Agrees m.store r → All (Holds m.store) (take o.refs refs) → m.mark ≡ o.place → AreChoices g refs fs os ms es → AreChoices g refs fs (kept_if b o os) (kept_if b m ms) (kept_if b (record { kind = k; tag = r.next_tag; others = bs; height = height; ways_on = ways }) es)
 kept_choices g refs fs o os height m ms es r k ways bs false opened are kind tag part on agrees hold place h = h
 kept_choices g refs fs o os height m ms es r k ways bs true opened are kind tag part on agrees hold place h = (record { registers = r; agrees = agrees; hold = hold; place = place; tag_at = tag; stop = part; kind = kind; tag = tag; others = are; height = opened; ways_on = on }, h)

@@ -41,3 +41,5 @@ pub mod TakingOut
 pub mod GatherOpens
 pub mod Findings
 pub mod Tryings
+pub mod RunnableLemmas
+pub mod SoundLemmas

@@ -19,7 +19,7 @@ use Rattle.dg_interp.specs.declared.frames.Choice.{Choice}
 use Rattle.dg_interp.specs.inside.Frames.{stretch, values_in, frame_steps, found_steps, steps_below, steps_behind, steps_at, kind_of, whole_of, branches_of, cut_of, cut_if, lives_of, with_way, ways_of, IsNoPart, IsOrdinary, IsChoice, AreChoices, EndsBy, IsFrame, AreFrames, IsLeft, IsNoted, noting, StandOn, GoBackTo, floor_of, left_in, all_left}
 use Rattle.dg_interp.specs.inside.Engine.{waits_in, left_by, with_older, older_than}
 use Rattle.dg_meaning.specs.Facts.{kinds_of}
-use Rattle.dg_outside.specs.Finding.{counted}
+use Rattle.dg_lasting.specs.Finding.{counted}
 use Rattle.dg_meaning.specs.inside.Finding.{may_find}
 use Rattle.dg_interp.specs.inside.Trying.{trial_branches}
 
@@ -139,7 +139,7 @@ behind_new m vs fs f are le =
     ∙ ap (frame_steps (vs f.env) f.goals.now f.tag f.mark) (behind_same m vs vs fs (fs ++ f ∷ []) (length fs) f.behind le (same_values m vs) are (same_append fs f))
 
 pub frame_raise : (k j m n : ℕ) (f : Frame) → k ≤ j → m ≤ n → IsFrame k m f → IsFrame j n f
-frame_raise k j m n f le le' h = record { built = h.built; older = omega (arith, h.older); env = omega (arith, h.env) }
+frame_raise k j m n f le le' h = record { runnable = h.runnable; older = omega (arith, h.older); env = omega (arith, h.env) }
 
 pub frames_raise : (height m n : ℕ) (fs : List Frame) → m ≤ n → AreFrames height m fs → AreFrames height n fs
 frames_raise height m n fs le h k f lt e = frame_raise k k m n f (omega arith) le (h k f lt e)

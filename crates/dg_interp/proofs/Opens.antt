@@ -77,7 +77,7 @@ module _ (x : Goal) (old : Engine) (none : terms_held (out-Goal x) ≡ []) where
               let here : After g st.at.inside.lives st.at.ways n (choice Plain r.next_tag bs v) run =
               subst (λ m. After g st.at.inside.lives st.at.ways n m run) (is g r v st.at.inside.program st.at.tag ∙ ap (λ k. choice k r.next_tag bs v) plain) (comes_of x old g n w run st) in
               subst (λ k. Tried g k r.next_tag (open_in old) st.at.ways st.at.inside.lives bs n v run) (sym plain)
-              (subst (λ i. Tried g Plain r.next_tag i st.at.ways st.at.inside.lives bs n v run) (sym (open_still old.outside g w st.at.inside.world)) (chosen g st.at.inside.lives st.at.ways n run r.next_tag bs v here));
+              (subst (λ i. Tried g Plain r.next_tag i st.at.ways st.at.inside.lives bs n v run) (sym (open_still old.lasting g w st.at.inside.world)) (chosen g st.at.inside.lives st.at.ways n run r.next_tag bs v here));
         };
       }
 

@@ -88,7 +88,7 @@ module _ (goals : Bor (List Goal)) (old : Engine) (ready : IsReady old) (all : b
   stands g n w run st =
       let r = behind x old g n w run st in
       let v = taken_in x old g n w run st in
-      subst (λ h. Stands g (record { kind = Plain; tag = r.next_tag; others = others r; height = h; ways_on = st.at.ways } ∷ st.at.inside.lives) (record { tag = r.next_tag; others = others r; height = h } ∷ st.at.ways) (path_of (goals_at env old.here.tag goals.now ++ Leave r.next_tag r.stoppable ∷ steps_of old) (within_part r)) n (begun (within_part r) 0 v) run) (sym (open_still old.outside g w st.at.inside.world))
+      subst (λ h. Stands g (record { kind = Plain; tag = r.next_tag; others = others r; height = h; ways_on = st.at.ways } ∷ st.at.inside.lives) (record { tag = r.next_tag; others = others r; height = h } ∷ st.at.ways) (path_of (goals_at env old.here.tag goals.now ++ Leave r.next_tag r.stoppable ∷ steps_of old) (within_part r)) n (begun (within_part r) 0 v) run) (sym (open_still old.lasting g w st.at.inside.world))
       (subst (λ f. After g st.at.inside.lives st.at.ways n (outcome g f env old.here.tag (steps_of old) r v) run) (outs-Stoppable goals.now) (comes_of x old g n w run st))
 
   pub part_full : (e : Full) (u : Store) → HeapFull 10 s0 u e → FullAt (TakesAt x old) s e

@@ -28,8 +28,8 @@ use Rattle.dg_interp.specs.inside.Frames.{values_in, branches_of, cut_of, cut_if
 use Rattle.dg_interp.specs.inside.Engine.{store_in, KeepsPlaces, Within, IsSound, StandsAt, TakesAt, Then, Leads, Cuts, branches_left, WentOn, StopsAt, StopsWithin, StopsFurther, StopsOn, StopsTo, Stops, leaving, part_at, steps_of}
 use Rattle.dg_interp.proofs.Links.{cut_gone, cut_older, cut_fewer, rest_older}
 use Rattle.dg_interp.proofs.Places.{adds_nothing, adds_drops, leads_on, leads_nowhere, limits_on, limits_here, cut_base, cut_inside, ways_left, inside_in}
-use Rattle.dg_outside.specs.declared.outside.Outside.{Outside}
-use Rattle.dg_outside.specs.Outside.{InWorld, Closes}
+use Rattle.dg_lasting.specs.declared.lasting.Lasting.{Lasting}
+use Rattle.dg_lasting.specs.Lasting.{InWorld, Closes}
 use Rattle.dg_interp.proofs.Turns.{reverse_pop}
 use Rattle.dg_interp.proofs.Takes.{behind, taken_in, comes_of, adds_taken}
 use Rattle.dg_interp.proofs.Branches.{fewer_left, popped_base, popped_sound, popped_limits, popped_left, popped_branches, popped_within, popped_world, popped_agrees, no_choice, went_on_from, ended_from}
@@ -118,7 +118,7 @@ module _ (old : Engine) (o : Choice) (choices : Vec Choice Global) (sound : IsSo
     keeps : KeepsPlaces old.store (m ∷ ms)
     choice : IsChoice g xs fs o m (ways_of os cs) c
     others : AreChoices g xs fs os ms cs
-    world : InWorld old.outside g w
+    world : InWorld old.lasting g w
     went : LeftPart g (cut_if (cut_of o.left) (c ∷ lives_of os cs)) (with_way o.left c (ways_of os cs)) tag n w run
 
   stopped_in : (P : Game → ℕ → World → Run → Type 0) → ((g : Game) (n : ℕ) (w : World) (run : Run) (m : Saved) (ms : List Saved) (c : Live) (cs : List Live) → Stopping g n w run m ms c cs → P g n w run) → (g : Game) (n : ℕ) (w : World) (run : Run) → StopsAt tag old g n w run → P g n w run
@@ -149,7 +149,7 @@ module _ (old : Engine) (o : Choice) (choices : Vec Choice Global) (sound : IsSo
     abbrev lives : List Live
     lives = lives_of os cs
 
-    abbrev before : Within old.program.now old.outside old.store xs fs os g w
+    abbrev before : Within old.program.now old.lasting old.store xs fs os g w
     before = record { program = st.program; entries = cs; lives = lives; lives_are = refl; saved = ms; keeps = saves_drops true (fields_of old.store) m ms st.keeps; choices = st.others; world = st.world }
 
     went_on : None ≡ part_at (eqb o.tag tag) tag o.left → (ls : List Live) (ws : List WayOn) → cut_to tag ls ≡ cut_to tag (cut_if (cut_of o.left) lives) → ws ≡ ways_of os cs → LeftPart g ls ws tag n w run
@@ -183,7 +183,7 @@ module _ (old : Engine) (o : Choice) (choices : Vec Choice Global) (sound : IsSo
 
   pub cut_on : None ≡ part_at (eqb o.tag tag) tag o.left → (t : ℕ) (rest : Vec Choice Global) → Some t ≡ cut_of o.left → Cuts t choices.items rest.items → StopsFurther tag old (record old { choices = rest })
   cut_on none t rest waits cuts = record {
-    sound = record { base = cut_base t old.program.now old.outside old.store xs fs os (reverse rest.items) cuts old.newest (popped_base old o choices sound popped); room = sound.room; picks = sound.picks };
+    sound = record { base = cut_base t old.program.now old.lasting old.store xs fs os (reverse rest.items) cuts old.newest (popped_base old o choices sound popped); room = sound.room; picks = sound.picks };
     left = refl;
     limits = record { heap = refl; trail = refl; aux = refl; keep = refl };
     leads = λ g n w run st. record {
@@ -191,8 +191,8 @@ module _ (old : Engine) (o : Choice) (choices : Vec Choice Global) (sound : IsSo
       adds = adds_nothing w;
       holds = stopped_in (StopsAt tag (record old { choices = rest }))
           (λ g n w run m ms c cs x. record {
-            inside = cut_inside t old.program.now old.outside old.store xs fs os (reverse rest.items) cuts g w w x.world (before g n w run m ms c cs x);
-            part_left = went_on g n w run m ms c cs x none (cut_to t (lives_of os cs)) (ways_of (reverse rest.items) (rest_older t os cs)) (ap (λ k. cut_to tag (cut_if k (lives_of os cs))) waits) (ways_left t old.program.now old.outside old.store xs fs os (reverse rest.items) cuts g w (before g n w run m ms c cs x));
+            inside = cut_inside t old.program.now old.lasting old.store xs fs os (reverse rest.items) cuts g w w x.world (before g n w run m ms c cs x);
+            part_left = went_on g n w run m ms c cs x none (cut_to t (lives_of os cs)) (ways_of (reverse rest.items) (rest_older t os cs)) (ap (λ k. cut_to tag (cut_if k (lives_of os cs))) waits) (ways_left t old.program.now old.lasting old.store xs fs os (reverse rest.items) cuts g w (before g n w run m ms c cs x));
           }) g n w run st;
     };
     fewer = omega (arith, ap all_left cuts, cut_fewer t os, less);
@@ -200,12 +200,12 @@ module _ (old : Engine) (o : Choice) (choices : Vec Choice Global) (sound : IsSo
 
   -- ## The part to which the stop leads
 
-  module _ (frames : Vec Frame Global) (refs : Vec Ref Global) (out : Outside) (store : ListBindings) (cut : frames.items ≡ take o.height fs) (cut_refs : refs.items ≡ take o.refs xs) (closed : Closes o.gathered old.outside out)
+  module _ (frames : Vec Frame Global) (refs : Vec Ref Global) (out : Lasting) (store : ListBindings) (cut : frames.items ≡ take o.height fs) (cut_refs : refs.items ≡ take o.refs xs) (closed : Closes o.gathered old.lasting out)
       (back : (s : Store) (ms : List Saved) → KeepsPlaces old.store (record { mark = o.place; store = s } ∷ ms) → Back s (store_in store))
       (keeps : (s : Store) (ms : List Saved) → KeepsPlaces old.store (record { mark = o.place; store = s } ∷ ms) → KeepsPlaces store (record { mark = o.place; store = s } ∷ ms))
       (rest : Vec Choice Global) (p : Frame × ℕ) (found : Some p ≡ part_at (eqb o.tag tag) tag o.left) (cuts : Cuts p.1 choices.items rest.items) where
     abbrev final : Engine
-    final = record old { frames = frames; refs = refs; outside = out; store = store; choices = rest; newest = o.tag; stoppable = o.stoppable; here = p.0 }
+    final = record old { frames = frames; refs = refs; lasting = out; store = store; choices = rest; newest = o.tag; stoppable = o.stoppable; here = p.0 }
 
     part : IsPart (eqb o.tag tag) tag o.left p
     part = part_is (eqb o.tag tag) tag o.left p found
@@ -298,8 +298,8 @@ module _ (old : Engine) where
         holds = record { inside = inside_in v st.at.inside.world st.at.inside; part_left = subst (λ ws. LeftPart g st.at.inside.lives ws tag n v run) st.at.ways_are went };
       }
 
-  pub stop_outside : old.stoppable ≡ None → Stops false old old
-  stop_outside is = record {
+  pub stop_lasting : old.stoppable ≡ None → Stops false old old
+  stop_lasting is = record {
     left = refl;
     ends = λ g n w run st.
         let v = taken_in Stop old g n w run st in

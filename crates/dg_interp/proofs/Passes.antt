@@ -12,7 +12,7 @@ use Rattle.dg_meaning.specs.Moves.{begun, inside, is_excluded, call_cells, unles
 use Rattle.dg_meaning.specs.Transcript.{Run}
 use Rattle.dg_meaning.specs.inside.Context.{Live, Way}
 use Rattle.dg_meaning.specs.inside.Keeps.{Failed, Began, Tried, tried_in}
-use Rattle.dg_built.specs.Built.{IsBuiltRule}
+use Rattle.dg_interp.specs.Runnable.{IsRunnableRule}
 use Rattle.dg_meaning.proofs.Keeps.{failed, tries}
 use Rattle.dg_unify.specs.Store.{Store}
 use Rattle.dg_unify.specs.Laws.{saves_drops}
@@ -24,16 +24,16 @@ use Rattle.dg_interp.specs.declared.frames.Env.{Env}
 use Rattle.dg_interp.specs.declared.frames.Left.TheVariants.{Rules}
 use Rattle.dg_interp.specs.declared.engine.Engine.{Engine}
 use Rattle.dg_interp.specs.inside.Frames.{values_in, steps_behind, IsLeft}
-use Rattle.dg_outside.specs.Outside.{InWorld}
+use Rattle.dg_lasting.specs.Lasting.{InWorld}
 use Rattle.dg_interp.proofs.Kept.{rules_open}
 use Rattle.dg_interp.specs.inside.Engine.{store_in, open_in, Point, IsSound, FailsAt, BeginsAt, Adds, Leads, WentWrong}
 use Rattle.dg_terms.specs.Passing.{IsFirst, IsCandidate, PassesTo}
 use Rattle.dg_interp.proofs.Places.{there_in, world_still, world_tried, adds_nothing, adds_on, adds_drops, adds_tried, adds_failed, leads_on, leads_nowhere, limits_here}
 use Rattle.dg_interp.proofs.Turns.{all_rest}
 
-candidates_built : (S : _) (args : List Value) (rules : List Rule) → All IsBuiltRule rules → All IsBuiltRule (from_candidate S args rules)
-candidates_built S args [] h = h
-candidates_built S args (rule ∷ rules) h = cond_both (first_excludes S args rule.head) (from_candidate S args rules) (rule ∷ rules) (All IsBuiltRule) (λ e. candidates_built S args rules (all_rest IsBuiltRule rule rules h)) (λ e. h)
+candidates_runnable : (S : _) (args : List Value) (rules : List Rule) → All IsRunnableRule rules → All IsRunnableRule (from_candidate S args rules)
+candidates_runnable S args [] h = h
+candidates_runnable S args (rule ∷ rules) h = cond_both (first_excludes S args rule.head) (from_candidate S args rules) (rule ∷ rules) (All IsRunnableRule) (λ e. candidates_runnable S args rules (all_rest IsRunnableRule rule rules h)) (λ e. h)
 
 fewer_candidates : (S : _) (args : List Value) (rules : List Rule) → length (from_candidate S args rules) ≤ length rules
 fewer_candidates S args [] = omega arith
@@ -60,7 +60,7 @@ module _ (old : Engine) (query : Query) (args : Env) (place : Place) (sound : Is
   abbrev TriedAt : Game → Registers → List Way → List Live → List Rule → ℕ → World → Run → Type 0
   TriedAt g r ways lives rules n w run = Tried g (RulesOf query.pred) r.next_tag (open_in old) ways lives (rule_branches g query.pred the_args query.many steps r rules) n w run
 
-  at_tried : (b b' : Bor (List Rule)) (rules : List Rule) (g : Game) (n : ℕ) (w v : World) (run : Run) → b'.now ≡ rules → InWorld old.outside g v → (st : at b g n w run) → TriedAt g st.at.registers st.at.ways st.at.inside.lives rules n v run → at b' g n v run
+  at_tried : (b b' : Bor (List Rule)) (rules : List Rule) (g : Game) (n : ℕ) (w v : World) (run : Run) → b'.now ≡ rules → InWorld old.lasting g v → (st : at b g n w run) → TriedAt g st.at.registers st.at.ways st.at.inside.lives rules n v run → at b' g n v run
   at_tried b b' rules g n w v run e is st tried = record {
     at = there_in v is st.at;
     back = st.back;
@@ -88,11 +88,11 @@ module _ (old : Engine) (query : Query) (args : Env) (place : Place) (sound : Is
       let begun_adds : Adds [] w v = record { prints_are = sym (append-nil (prints w.events)); typed = refl } in
       let dropped = adds_drops v f.world f.drops in
       let u = tried_in (RulesOf query.pred) bs f.world in
-      let still = world_still old.outside g v f.world st.at.inside.world f.drops (f.gatherings ∙ rules_open g query.pred the_args query.many steps r rules (open_in old)) in
+      let still = world_still old.lasting g v f.world st.at.inside.world f.drops (f.gatherings ∙ rules_open g query.pred the_args query.many steps r rules (open_in old)) in
       record {
         world = u;
         adds = adds_on w f.world u [] [] (adds_on w v f.world [] [] begun_adds dropped) (adds_tried (RulesOf query.pred) bs f.world);
-        holds = at_tried (bor b (rule ∷ rules)) (bor b rules) rules g n w u run refl (world_tried old.outside g (RulesOf query.pred) bs f.world still) st (tries g c st.at.inside.lives n f.world run f.resumed);
+        holds = at_tried (bor b (rule ∷ rules)) (bor b rules) rules g n w u run refl (world_tried old.lasting g (RulesOf query.pred) bs f.world still) st (tries g c st.at.inside.lives n f.world run f.resumed);
       }
     where
       passed : (g : Game) (r : Registers) (rule : Rule) (heap : ℕ) → is_excluded the_args r rule ≡ true → rule_branch g query.pred the_args query.many steps r heap rule ≡ Clash (inside 0 r) (entering g the_args rule r)
@@ -115,7 +115,7 @@ module _ (old : Engine) (query : Query) (args : Env) (place : Place) (sound : Is
         (leads_on (at (bor rules rules.now)) (at (bor rules (from_candidate s.state.subst the_args rules.now))) (at left) (passes_all rules rules.now) (same_at (bor rules (from_candidate s.state.subst the_args rules.now)) left (sym are)))
 
     pub passed_left : IsLeft (length old.frames.items) (length old.refs.items) (Rules query args rules) → IsLeft (length old.frames.items) (length old.refs.items) (Rules query args left)
-    passed_left is = (subst (All IsBuiltRule) (sym are) (candidates_built s.state.subst the_args rules.now is.0), is.1)
+    passed_left is = (subst (All IsRunnableRule) (sym are) (candidates_runnable s.state.subst the_args rules.now is.0), is.1)
 
     pub passed_candidate : IsCandidate s the_args left.now
     passed_candidate = passed.candidate s the_args is_first

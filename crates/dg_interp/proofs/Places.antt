@@ -8,7 +8,7 @@ use Rattle.std.specs.declared.alloc.Global.{Global}
 use Rattle.dg_base.specs.declared.program.CoreProgram.{CoreProgram}
 use Rattle.dg_base.specs.declared.run.Ending.TheVariants.{Done}
 use Rattle.dg_meaning.specs.World.{Game, World, Event, Print, Answered, Retried, HasFailed, prints, noted}
-use Rattle.dg_meaning.specs.Path.{Step, Answers, Cut, Registers, End, Branch, Kind, Plain, Rules, Shield, Gathers}
+use Rattle.dg_meaning.specs.Path.{Step, Answers, Cut, Registers, End, Branch, ChoiceKind, Plain, Rules, Shield, Gathers}
 use Rattle.dg_meaning.specs.Moves.{path_of, first_alone}
 use Rattle.dg_meaning.specs.Peaks.{Area, Heap, Trail, Aux, Keep}
 use Rattle.dg_meaning.specs.Transcript.{Run}
@@ -31,8 +31,8 @@ use Rattle.dg_interp.specs.declared.frames.Choice.{Choice}
 use Rattle.dg_interp.specs.declared.engine.Engine.{Engine}
 use Rattle.dg_interp.specs.inside.Frames.{values_in, mark_steps, frame_steps, steps_behind, steps_at, lives_of, ways_of, AreChoices, IsFrame, AreFrames, StandOn, GoBackTo, floor_of, all_left}
 use Rattle.dg_interp.specs.inside.Engine.{store_in, limit_in, KeepsPlaces, Within, On, There, Sound, IsReady, Point, StandsAt, FailsAt, Adds, Then, Leads, older_than, Cuts, branches_left, SameLimits, WentOn, WentWrong, HasEndedSo, MarkPassed, Refused, FrameLeft, steps_of}
-use Rattle.dg_outside.specs.declared.outside.Outside.{Outside}
-use Rattle.dg_outside.specs.Outside.{row_of, InWorld}
+use Rattle.dg_lasting.specs.declared.lasting.Lasting.{Lasting}
+use Rattle.dg_lasting.specs.Lasting.{row_of, InWorld}
 use Rattle.dg_interp.specs.inside.Gathering.{KeepsAt}
 use Rattle.dg_unify.specs.inside.Engines.{Agrees}
 use Rattle.dg_interp.proofs.Links.{same_take, same_values, behind_same, behind_frame, behind_end, frames_take, choices_same, rest_older, choices_cut, lives_cut, ways_cut, back_cut, keeps_cut, stand_cut, stand_same, stand_floor, floor_within, cut_fewer}
@@ -51,7 +51,7 @@ adds_on w v u xs ys a b = record {
 pub adds_drops : (w v : World) → Drops w v → Adds [] w v
 adds_drops w v d = record { prints_are = ap (λ (x : World). prints x.events) d.is ∙ sym (append-nil (prints w.events)); typed = ap (λ (x : World). x.typed) d.is }
 
-pub open_still : (out : Outside) (g : Game) (w : World) → InWorld out g w → length out.gathered.rows ≡ length w.gathered
+pub open_still : (out : Lasting) (g : Game) (w : World) → InWorld out g w → length out.gathered.rows ≡ length w.gathered
 open_still out g w is = ap length is.1.0 ∙ length-map w.gathered row_of
 
 -- what drops nothing is the same
@@ -61,12 +61,12 @@ drops_none zero (x ∷ xs) e = refl
 drops_none (suc c) (x ∷ xs) e = absurd (omega (arith, e, length-drop c xs))
 
 -- as many are open as before
-pub world_still : (out : Outside) (g : Game) (w v : World) → InWorld out g w → Drops w v → length v.gathered ≡ length out.gathered.rows → InWorld out g v
+pub world_still : (out : Lasting) (g : Game) (w v : World) → InWorld out g w → Drops w v → length v.gathered ≡ length out.gathered.rows → InWorld out g v
 world_still out g w v is d count =
     let same : drop d.count w.gathered ≡ w.gathered = drops_none d.count w.gathered (ap (λ (x : World). length x.gathered) (sym d.is) ∙ count ∙ open_still out g w is) in
     subst (InWorld out g) (sym (d.is ∙ ap (λ l. record w { gathered = l }) same)) is
 
-pub world_tried : (out : Outside) (g : Game) (k : Kind) (bs : List Branch) (w : World) → InWorld out g w → InWorld out g (tried_in k bs w)
+pub world_tried : (out : Lasting) (g : Game) (k : ChoiceKind) (bs : List Branch) (w : World) → InWorld out g w → InWorld out g (tried_in k bs w)
 world_tried out g k [] w is = is
 world_tried out g (Rules q) (b ∷ bs) w is = is
 world_tried out g Plain (b ∷ bs) w is = is
@@ -74,14 +74,14 @@ world_tried out g Shield (b ∷ bs) w is = is
 world_tried out g Gathers (b ∷ bs) w is = is
 
 -- the same in another world
-abbrev pub inside_in : {p : CoreProgram} {out : Outside} {s : ListBindings} {rs : List Ref} {fs : List Frame} {os : List Choice} {g : Game} {w : World} (v : World) → InWorld out g v → Within p out s rs fs os g w → Within p out s rs fs os g v
+abbrev pub inside_in : {p : CoreProgram} {out : Lasting} {s : ListBindings} {rs : List Ref} {fs : List Frame} {os : List Choice} {g : Game} {w : World} (v : World) → InWorld out g v → Within p out s rs fs os g w → Within p out s rs fs os g v
 inside_in v is i = record { program = i.program; entries = i.entries; lives = i.lives; lives_are = i.lives_are; saved = i.saved; keeps = i.keeps; choices = i.choices; world = is }
 
 -- and over a store that keeps its places
-abbrev pub inside_kept : {p : CoreProgram} {out : Outside} {s : ListBindings} {rs : List Ref} {fs : List Frame} {os : List Choice} {g : Game} {w : World} (s' : ListBindings) (v : World) → ((ms : List Saved) → KeepsPlaces s ms → KeepsPlaces s' ms) → InWorld out g v → Within p out s rs fs os g w → Within p out s' rs fs os g v
+abbrev pub inside_kept : {p : CoreProgram} {out : Lasting} {s : ListBindings} {rs : List Ref} {fs : List Frame} {os : List Choice} {g : Game} {w : World} (s' : ListBindings) (v : World) → ((ms : List Saved) → KeepsPlaces s ms → KeepsPlaces s' ms) → InWorld out g v → Within p out s rs fs os g w → Within p out s' rs fs os g v
 inside_kept s' v k is i = record { program = i.program; entries = i.entries; lives = i.lives; lives_are = i.lives_are; saved = i.saved; keeps = k i.saved i.keeps; choices = i.choices; world = is }
 
-abbrev pub there_in : {p : CoreProgram} {out : Outside} {s : ListBindings} {rs : List Ref} {fs : List Frame} {os : List Choice} {next : ℕ} {part : Option ℕ} {g : Game} {w : World} (v : World) → InWorld out g v → On p out s rs fs os next part g w → On p out s rs fs os next part g v
+abbrev pub there_in : {p : CoreProgram} {out : Lasting} {s : ListBindings} {rs : List Ref} {fs : List Frame} {os : List Choice} {next : ℕ} {part : Option ℕ} {g : Game} {w : World} (v : World) → InWorld out g v → On p out s rs fs os next part g w → On p out s rs fs os next part g v
 there_in v is at = record { inside = inside_in v is at.inside; ways = at.ways; ways_are = at.ways_are; registers = at.registers; agrees = at.agrees; tag = at.tag; stop = at.stop }
 
 -- a call is noted
@@ -92,7 +92,7 @@ pub adds_failed : (q : ℕ) (w : World) → Adds [] w (noted (HasFailed q) w)
 adds_failed q w = adds_noted w (HasFailed q) refl
 
 -- a choice is tried again
-pub adds_tried : (k : Kind) (bs : List Branch) (w : World) → Adds [] w (tried_in k bs w)
+pub adds_tried : (k : ChoiceKind) (bs : List Branch) (w : World) → Adds [] w (tried_in k bs w)
 adds_tried k [] w = adds_nothing w
 adds_tried (Rules q) (b ∷ bs) w = adds_noted w (Retried q) refl
 adds_tried Plain (b ∷ bs) w = adds_nothing w
@@ -127,7 +127,7 @@ limits_on a b c h k = record { heap = k.heap ∙ h.heap; trail = k.trail ∙ h.t
 pub keeps_older : (s : ListBindings) (t : ℕ) (os : List Choice) (ms : List Saved) → KeepsPlaces s ms → KeepsPlaces s (rest_older t os ms)
 keeps_older s t os ms h = keeps_cut (KeepsPlaces s) (λ m ms k. saves_drops true (fields_of s) m ms k) tt t os ms h
 
-module _ (t : ℕ) (p : CoreProgram) (out : Outside) (s : ListBindings) (rs : List Ref) (fs : List Frame) (os os' : List Choice) (is : os' ≡ older_than t os) where
+module _ (t : ℕ) (p : CoreProgram) (out : Lasting) (s : ListBindings) (rs : List Ref) (fs : List Frame) (os os' : List Choice) (is : os' ≡ older_than t os) where
   pub cut_base : (newest : ℕ) → Sound p s rs fs os newest → Sound p s rs fs os' newest
   cut_base newest h = record {
     program = h.program;
@@ -159,7 +159,7 @@ module _ (t : ℕ) (p : CoreProgram) (out : Outside) (s : ListBindings) (rs : Li
 
 -- ## The same place
 
-module _ (old new : Engine) (program : new.program.now ≡ old.program.now) (outside : new.outside ≡ old.outside) (store : new.store ≡ old.store) (newest : new.newest ≡ old.newest) (part : new.stoppable ≡ old.stoppable) (kept : new.choices ≡ old.choices) (steps : steps_of new ≡ steps_of old)
+module _ (old new : Engine) (program : new.program.now ≡ old.program.now) (lasting : new.lasting ≡ old.lasting) (store : new.store ≡ old.store) (newest : new.newest ≡ old.newest) (part : new.stoppable ≡ old.stoppable) (kept : new.choices ≡ old.choices) (steps : steps_of new ≡ steps_of old)
     (choices : (g : Game) (ms : List Saved) (cs : List Live) → AreChoices g old.refs.items old.frames.items (reverse old.choices.items) ms cs → AreChoices g new.refs.items new.frames.items (reverse new.choices.items) ms cs) where
   pub same_place : Leads (StandsAt old) (StandsAt new)
   same_place g n w run st = record {
@@ -175,7 +175,7 @@ module _ (old new : Engine) (program : new.program.now ≡ old.program.now) (out
           saved = st.at.inside.saved;
           keeps = subst (λ s. KeepsPlaces s st.at.inside.saved) (sym store) st.at.inside.keeps;
           choices = choices g st.at.inside.saved st.at.inside.entries st.at.inside.choices;
-          world = subst (λ o. InWorld o g w) (sym outside) st.at.inside.world;
+          world = subst (λ o. InWorld o g w) (sym lasting) st.at.inside.world;
         };
         ways = st.at.ways;
         ways_are = st.at.ways_are ∙ ap (λ (c : Vec Choice Global). ways_of (reverse c.items) st.at.inside.entries) (sym kept);
@@ -219,7 +219,7 @@ module _ (old : Engine) (ready : IsReady old) (none : old.here.goals.now ≡ [])
   off_ready : IsReady (marked_off old)
   off_ready = record {
     sound = record { base = ready.sound.base; room = ready.sound.room; picks = ready.sound.picks };
-    here = record { built = ready.here.built; older = ready.here.older; env = ready.here.env };
+    here = record { runnable = ready.here.runnable; older = ready.here.older; env = ready.here.env };
   }
 
   off : steps_of (marked_off old) ≡ rest
@@ -313,22 +313,22 @@ module _ (old : Engine) (ready : IsReady old) (none : old.here.goals.now ≡ [])
 
     cut_ready : IsReady new
     cut_ready = record {
-      sound = record { base = cut_base t old.program.now old.outside old.store old.refs.items fs (reverse old.choices.items) (reverse choices.items) cuts old.newest ready.sound.base; room = ready.sound.room; picks = ready.sound.picks };
-      here = record { built = ready.here.built; older = ready.here.older; env = ready.here.env };
+      sound = record { base = cut_base t old.program.now old.lasting old.store old.refs.items fs (reverse old.choices.items) (reverse choices.items) cuts old.newest ready.sound.base; room = ready.sound.room; picks = ready.sound.picks };
+      here = record { runnable = ready.here.runnable; older = ready.here.older; env = ready.here.env };
     }
 
     cut_less : branches_left new ≤ branches_left old
     cut_less = subst (λ os. all_left os ≤ branches_left old) (sym cuts) (cut_fewer t (reverse old.choices.items))
 
-    abbrev inside_left : (g : Game) (w v : World) → InWorld old.outside g v → Within old.program.now old.outside old.store old.refs.items fs (reverse old.choices.items) g w → Within old.program.now old.outside old.store old.refs.items fs (reverse choices.items) g v
-    inside_left = cut_inside t old.program.now old.outside old.store old.refs.items fs (reverse old.choices.items) (reverse choices.items) cuts
+    abbrev inside_left : (g : Game) (w v : World) → InWorld old.lasting g v → Within old.program.now old.lasting old.store old.refs.items fs (reverse old.choices.items) g w → Within old.program.now old.lasting old.store old.refs.items fs (reverse choices.items) g v
+    inside_left = cut_inside t old.program.now old.lasting old.store old.refs.items fs (reverse old.choices.items) (reverse choices.items) cuts
 
-    cut_at : (g : Game) (n : ℕ) (w v : World) (run : Run) → InWorld old.outside g v → (at : There old (old.newest + 1) g w) (r : Registers) → Agrees (store_in old.store) r → r.next_tag ≡ old.newest + 1 → r.stoppable ≡ part → Stands g (cut_to t at.inside.lives) at.ways (path_of rest r) n v run → StandsAt new g n v run
+    cut_at : (g : Game) (n : ℕ) (w v : World) (run : Run) → InWorld old.lasting g v → (at : There old (old.newest + 1) g w) (r : Registers) → Agrees (store_in old.store) r → r.next_tag ≡ old.newest + 1 → r.stoppable ≡ part → Stands g (cut_to t at.inside.lives) at.ways (path_of rest r) n v run → StandsAt new g n v run
     cut_at g n w v run world at r agrees tag stop stands = record {
       at = record {
         inside = inside_left g w v world at.inside;
         ways = at.ways;
-        ways_are = at.ways_are ∙ sym (ways_left t old.program.now old.outside old.store old.refs.items fs (reverse old.choices.items) (reverse choices.items) cuts g w at.inside);
+        ways_are = at.ways_are ∙ sym (ways_left t old.program.now old.lasting old.store old.refs.items fs (reverse old.choices.items) (reverse choices.items) cuts g w at.inside);
         registers = r;
         agrees = agrees;
         tag = tag;
@@ -458,7 +458,7 @@ module _ (old : Engine) (frames : Vec Frame Global) (f : Frame) (needed : ℕ) (
           room = ready.sound.room;
           picks = ready.sound.picks;
         };
-        here = record { built = frame.built; older = subst (λ (l : List Frame). f.behind ≤ length l) (sym kept) (omega (arith, need, count)); env = frame.env };
+        here = record { runnable = frame.runnable; older = subst (λ (l : List Frame). f.behind ≤ length l) (sym kept) (omega (arith, need, count)); env = frame.env };
       };
       left = refl;
       limits = record { heap = refl; trail = refl; aux = refl; keep = refl };

@@ -24,7 +24,7 @@ use Rattle.dg_meaning.specs.Moves.{begun, path_of, enter_if, looked_up, outcome,
 use Rattle.dg_meaning.specs.Transcript.{Run}
 use Rattle.dg_meaning.specs.inside.Context.{Live}
 use Rattle.dg_meaning.specs.inside.Keeps.{After, Stands, Began}
-use Rattle.dg_built.specs.Built.{AreBuilt, IsBuiltBody}
+use Rattle.dg_interp.specs.Runnable.{AreRunnable, IsRunnableBody}
 use Rattle.dg_meaning.proofs.Solving.{solve_extends}
 use Rattle.dg_unify.specs.Store.{Store, State, Saved, Holds, Kept, Made, told, trail_of}
 use Rattle.dg_unify.specs.inside.Engines.{Agrees}
@@ -152,10 +152,10 @@ no_body g (Node Nil vs) args many steps r w h = refl
 no_body g (Node Pair vs) args many steps r w h = refl
 no_body g (Node (Closure place) parts) args many steps r w h = ap (λ o. ask_body g parts o args many steps r w) h
 
-body_there : (closures : List ClosureBody) (i : ℕ) (body : ClosureBody) → slice_get closures i ≡ Some body → All IsBuiltBody closures → IsBuiltBody body
+body_there : (closures : List ClosureBody) (i : ℕ) (body : ClosureBody) → slice_get closures i ≡ Some body → All IsRunnableBody closures → IsRunnableBody body
 body_there [] i body is h = absurd (let no : None ≡ Some body = is in cc)
-body_there (c ∷ cs) zero body is h = subst IsBuiltBody (let same : Some c ≡ Some body = is in cc) (all_first IsBuiltBody c cs h)
-body_there (c ∷ cs) (suc i) body is h = body_there cs i body is (all_rest IsBuiltBody c cs h)
+body_there (c ∷ cs) zero body is h = subst IsRunnableBody (let same : Some c ≡ Some body = is in cc) (all_first IsRunnableBody c cs h)
+body_there (c ∷ cs) (suc i) body is h = body_there cs i body is (all_rest IsRunnableBody c cs h)
 
 pub marked : (values : List Value) (many : Bool) (t tag : ℕ) (rest : List Step) → mark_steps values (mark_of many t) tag rest ≡ first_alone many t rest
 marked values true t tag rest = refl
@@ -210,8 +210,8 @@ module _ (value : Ref) (many : Bool) (old : Engine) (ready : IsReady old) where
     abbrev the_head : List Term
     the_head = closure_head parts args
 
-    pub built : IsBuiltBody body
-    built = body_there old.program.now.closures is.place body is.found ready.sound.base.program.closures
+    pub runnable : IsRunnableBody body
+    runnable = body_there old.program.now.closures is.place body is.found ready.sound.base.program.closures
 
     abbrev env_of : Registers → List Value
     env_of r = closure_vars parts body r
@@ -374,7 +374,7 @@ module _ (value : Ref) (many : Bool) (old : Engine) (ready : IsReady old) where
               picks = ready.sound.picks;
             };
             here = record {
-              built = subst AreBuilt (sym goals_are) built.body;
+              runnable = subst AreRunnable (sym goals_are) runnable.body;
               older = omega arith;
               env = omega (arith, all_made, ap length enters.appended.is, length-append xs made);
             };

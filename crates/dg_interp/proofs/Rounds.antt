@@ -13,8 +13,8 @@ use Rattle.dg_base.specs.Begins.{EndsWith}
 use Rattle.dg_meaning.proofs.OneRun.{ends_on}
 use Rattle.dg_meaning.specs.Peaks.{Area, Heap, Trail, Aux, Keep, greatest}
 use Rattle.dg_meaning.proofs.Keeps.{stands_happened}
-use Rattle.dg_outside.specs.declared.lack.Lack.{Lack}
-use Rattle.dg_outside.specs.Lacks.{area_of}
+use Rattle.dg_lasting.specs.declared.lack.Lack.{Lack}
+use Rattle.dg_lasting.specs.Lacks.{area_of}
 use Rattle.dg_spacing.specs.declared.spacer.Spacer.{Spacer}
 use Rattle.dg_interp.specs.declared.engine.Engine.{Engine}
 use Rattle.dg_base.specs.Written.{SinkView}

@@ -32,8 +32,8 @@ use Rattle.dg_spacing.specs.Spacer.{StandsFor}
 use Rattle.dg_texts.proofs.Texts.{render_append, render_grows}
 use Rattle.dg_texts.specs.Printing.{Added, as_prints, growth_of, AddsAll}
 use Rattle.dg_interp.specs.inside.Frames.{mark_steps, steps_behind, values_in}
-use Rattle.dg_outside.specs.declared.lack.Lack.{Lack}
-use Rattle.dg_outside.specs.Lacks.{lack_of, area_of, as_stored}
+use Rattle.dg_lasting.specs.declared.lack.Lack.{Lack}
+use Rattle.dg_lasting.specs.Lacks.{lack_of, area_of, as_stored}
 use Rattle.dg_interp.specs.inside.Engine.{store_in, limit_in, Point, LacksIn, LackAt, PassesLimit, IsAct, pieces_at, WrotePrinted, StandsAt, TakesAt, Then, FullAt, Taken, WentOn, HasEndedSo, Branches, Stops}
 use Rattle.dg_base.specs.Streams.{SourceView}
 use Rattle.dg_meaning.specs.Shows.{IsLeft}

@@ -14,35 +14,35 @@ use Rattle.dg_meaning.specs.Path.{Registers}
 use Rattle.dg_meaning.specs.Moves.{goals_at, outcome, path_of, selects, selected}
 use Rattle.dg_meaning.specs.Transcript.{Run}
 use Rattle.dg_meaning.specs.inside.Keeps.{After, Stands}
-use Rattle.dg_built.specs.Built.{AreBuilt}
-use Rattle.dg_built.proofs.BuiltLemmas.{built_inside, lists_built, all_none}
+use Rattle.dg_interp.specs.Runnable.{AreRunnable}
+use Rattle.dg_interp.proofs.RunnableLemmas.{runnable_inside, lists_runnable, all_none}
 use Rattle.dg_lists.specs.Gathered.{Gathered}
 use Rattle.dg_world.specs.declared.world.World.{World as FactsWorld}
-use Rattle.dg_outside.specs.declared.outside.Outside.{Outside}
+use Rattle.dg_lasting.specs.declared.lasting.Lasting.{Lasting}
 use Rattle.dg_interp.specs.declared.engine.Engine.{Engine}
-use Rattle.dg_outside.specs.Outside.{picks_in, MayPick, PicksOne}
+use Rattle.dg_lasting.specs.Lasting.{picks_in, MayPick, PicksOne}
 use Rattle.dg_interp.specs.inside.Engine.{steps_of, IsReady, TakesAt, WentOn}
 use Rattle.dg_interp.proofs.Takes.{behind, taken_in, comes_of, adds_taken}
 use Rattle.dg_interp.proofs.Opens.{agrees_here}
 use Rattle.dg_interp.proofs.Controls.{values_of, behind_all, then_frame, then_is}
 
-pub select_built : (site : ℕ) (mode : Mode) (lists : List (List Goal)) → AreBuilt (Select site mode lists ∷ []) → All AreBuilt lists
-select_built site mode lists h = lists_built lists (built_inside (Select site mode lists) [] (part.Select site mode lists) (outs-Select site mode lists) h)
+pub select_runnable : (site : ℕ) (mode : Mode) (lists : List (List Goal)) → AreRunnable (Select site mode lists ∷ []) → All AreRunnable lists
+select_runnable site mode lists h = lists_runnable lists (runnable_inside (Select site mode lists) [] (part.Select site mode lists) (outs-Select site mode lists) h)
 
--- one of some built lists
-pub one_built : (lists : List (List Goal)) (at : ℕ) → All AreBuilt lists → AreBuilt (get_or lists at [])
-one_built [] at h = all_none _
-one_built (goals ∷ lists) zero h = h 0 goals (omega arith)
-one_built (goals ∷ lists) (suc at) h = one_built lists at (λ k d lt. h (suc k) d (omega (arith, lt)))
+-- one of some runnable lists
+pub one_runnable : (lists : List (List Goal)) (at : ℕ) → All AreRunnable lists → AreRunnable (get_or lists at [])
+one_runnable [] at h = all_none _
+one_runnable (goals ∷ lists) zero h = h 0 goals (omega arith)
+one_runnable (goals ∷ lists) (suc at) h = one_runnable lists at (λ k d lt. h (suc k) d (omega (arith, lt)))
 
 -- the engine behind a pick, with all frames behind the list that was picked
-module _ (site : ℕ) (mode : Mode) (lists : List (List Goal)) (old : Engine) (out : Outside) (branch : ℕ) (goals : Bor (List Goal)) (ready : IsReady old) (all : behind_all old ≡ steps_of old)
-    (may : MayPick (old.left + 1) (picks_in old.outside)) (one : PicksOne site mode (length lists) branch old.outside out) (is : goals.now ≡ get_or lists branch []) (built : AreBuilt goals.now) where
+module _ (site : ℕ) (mode : Mode) (lists : List (List Goal)) (old : Engine) (out : Lasting) (branch : ℕ) (goals : Bor (List Goal)) (ready : IsReady old) (all : behind_all old ≡ steps_of old)
+    (may : MayPick (old.left + 1) (picks_in old.lasting)) (one : PicksOne site mode (length lists) branch old.lasting out) (is : goals.now ≡ get_or lists branch []) (runnable : AreRunnable goals.now) where
   abbrev x : Goal
   x = Select site mode lists
 
   abbrev pub picked_on : Engine
-  picked_on = record old { outside = out; here = then_frame goals old }
+  picked_on = record old { lasting = out; here = then_frame goals old }
 
   abbrev env : List Value
   env = values_of old old.here.env
@@ -60,7 +60,7 @@ module _ (site : ℕ) (mode : Mode) (lists : List (List Goal)) (old : Engine) (o
       room = ready.sound.room;
       picks = one.may old.left may;
     };
-    here = then_is goals old ready built;
+    here = then_is goals old ready runnable;
   }
 
   module _ (g : Game) (n : ℕ) (w : World) (run : Run) (st : TakesAt x old g n w run) where

@@ -7,7 +7,7 @@ use Rattle.std.specs.declared.vec.Vec.{Vec}
 use Rattle.std.specs.declared.alloc.Global.{Global}
 use Rattle.std.proofs.lemmas.Bool.{cond-true, eq-eqb}
 use Rattle.dg_base.specs.declared.cells.Cell.{Cell}
-use Rattle.dg_meaning.specs.Values.{Value, Values, parts_of, pair, value_of_var}
+use Rattle.dg_meaning.specs.Values.{Value, Values, node_parts, pair, value_of_var}
 use Rattle.dg_meaning.specs.ValueCells.{cells_of, cells_of_all}
 use Rattle.dg_meaning.specs.Copies.{list_of, values_of, vars_in, vars_in_all, copy_from, copies_from, copy_cells, all_copy_cells}
 use Rattle.dg_meaning.specs.Numbers.{total}
@@ -37,9 +37,9 @@ use Rattle.dg_interp.specs.declared.frames.Frame.{Frame}
 use Rattle.dg_interp.specs.declared.frames.Whole.{Whole}
 use Rattle.dg_interp.specs.declared.frames.Whole.TheVariants.{List as InList, Sum as InSum}
 use Rattle.dg_interp.specs.declared.frames.Left.TheVariants.{TakeOut}
-use Rattle.dg_outside.specs.declared.outside.Outside.{Outside}
+use Rattle.dg_lasting.specs.declared.lasting.Lasting.{Lasting}
 use Rattle.dg_interp.specs.declared.engine.Engine.{Engine}
-use Rattle.dg_outside.specs.Outside.{row_of, InWorld, MayPick, Closes, picks_in}
+use Rattle.dg_lasting.specs.Lasting.{row_of, InWorld, MayPick, Closes, picks_in}
 use Rattle.dg_interp.specs.inside.Frames.{values_in, steps_at, whole_of, IsLeft}
 use Rattle.dg_interp.specs.inside.Giving.{SolvesAt, UnifiesAt, GivesAt}
 use Rattle.dg_interp.specs.inside.Gathering.{TakesOutAt}
@@ -175,7 +175,7 @@ module _ (old : Engine) (whole : Whole) (into : Env) (frame : Frame) (sound : Is
 
 module _ (whole : Whole) (into : Ref) (old : Engine) (ready : IsReady old) where
   -- there is a newest one
-  pub not_none : old.outside.gathered.rows ≡ [] → Leads (TakesOutAt whole into old) (FailsAt old)
+  pub not_none : old.lasting.gathered.rows ≡ [] → Leads (TakesOutAt whole into old) (FailsAt old)
   not_none none g n w run st =
       let a = st.at.inside.world.1.0 in
       absurd (no_rows (sym none ∙ a ∙ ap (map row_of) st.is))
@@ -183,10 +183,10 @@ module _ (whole : Whole) (into : Ref) (old : Engine) (ready : IsReady old) where
       no_rows : [] ≡ row_of st.newest ∷ map row_of st.others → ⊥
       no_rows e = let n : 0 ≡ suc (length (map row_of st.others)) = ap length e in omega (arith, n)
 
-  pub none_wrong : old.outside.gathered.rows ≡ [] → WentWrong (TakesOutAt whole into old) old old
+  pub none_wrong : old.lasting.gathered.rows ≡ [] → WentWrong (TakesOutAt whole into old) old old
   none_wrong none = record { sound = ready.sound; left = refl; limits = record { heap = refl; trail = refl; aux = refl; keep = refl }; leads = not_none none }
 
-  module _ (cells : List Cell) (at_first : slice_get old.outside.gathered.rows 0 ≡ Some cells) where
+  module _ (cells : List Cell) (at_first : slice_get old.lasting.gathered.rows 0 ≡ Some cells) where
     rows_here : (g : Game) (n : ℕ) (w : World) (run : Run) (st : TakesOutAt whole into old g n w run) → cells ≡ flat_map cells_of st.newest.values
     rows_here g n w run st =
         let same : Some cells ≡ Some (row_of st.newest) = sym at_first ∙ ap (λ l. slice_get l 0) (st.at.inside.world.1.0 ∙ ap (map row_of) st.is) in cc
@@ -195,10 +195,10 @@ module _ (whole : Whole) (into : Ref) (old : Engine) (ready : IsReady old) where
     formed_here g n w run st = (subst (All (λ (x : Gathering). All IsFormed x.values)) st.is st.at.inside.world.1.1) 0 st.newest (omega arith)
 
     -- the newest is dropped
-    closed_here : (out : Outside) → Closes (open_in old - 1) old.outside out → (g : Game) (n : ℕ) (w : World) (run : Run) (st : TakesOutAt whole into old g n w run) → InWorld out g (record w { gathered = st.others })
+    closed_here : (out : Lasting) → Closes (open_in old - 1) old.lasting out → (g : Game) (n : ℕ) (w : World) (run : Run) (st : TakesOutAt whole into old g n w run) → InWorld out g (record w { gathered = st.others })
     closed_here out closed g n w run st =
         let d : Drops w (record w { gathered = st.others }) = record { count = 1; is = ap (λ l. record w { gathered = drop 1 l }) (sym st.is) } in
-        let count : length st.others ≡ open_in old - 1 = let a = open_still old.outside g w st.at.inside.world in let b = ap length st.is in omega (arith, a, b) in
+        let count : length st.others ≡ open_in old - 1 = let a = open_still old.lasting g w st.at.inside.world in let b = ap length st.is in omega (arith, a, b) in
         closed.stands g w (record w { gathered = st.others }) st.at.inside.world d count
 
 -- what a unification reaches
@@ -214,7 +214,7 @@ made_heap es steps r w =
 
 -- ## As a list
 
-module _ (into : Ref) (old : Engine) (ready : IsReady old) (hold : Holds (store_in old.store) into) (cells : List Cell) (at_first : slice_get old.outside.gathered.rows 0 ≡ Some cells) (store2 : ListBindings) (k2 : Kept (store_in old.store) (store_in store2)) (saved2 : (ms : List Saved) → KeepsPlaces old.store ms → KeepsPlaces store2 ms) where
+module _ (into : Ref) (old : Engine) (ready : IsReady old) (hold : Holds (store_in old.store) into) (cells : List Cell) (at_first : slice_get old.lasting.gathered.rows 0 ≡ Some cells) (store2 : ListBindings) (k2 : Kept (store_in old.store) (store_in store2)) (saved2 : (ms : List Saved) → KeepsPlaces old.store ms → KeepsPlaces store2 ms) where
   abbrev ls : Store
   ls = store_in old.store
 
@@ -224,10 +224,10 @@ module _ (into : Ref) (old : Engine) (ready : IsReady old) (hold : Holds (store_
   abbrev from : Point
   from = TakesOutAt InList into old
 
-  parts_here : (g : Game) (n : ℕ) (w : World) (run : Run) (st : from g n w run) → cells ≡ cells_of_all (parts_of st.newest.values)
+  parts_here : (g : Game) (n : ℕ) (w : World) (run : Run) (st : from g n w run) → cells ≡ cells_of_all (node_parts st.newest.values)
   parts_here g n w run st = rows_here InList into old ready cells at_first g n w run st ∙ row_parts st.newest.values
 
-  made_here : (g : Game) (n : ℕ) (w : World) (run : Run) (st : from g n w run) → AreFormed (parts_of st.newest.values)
+  made_here : (g : Game) (n : ℕ) (w : World) (run : Run) (st : from g n w run) → AreFormed (node_parts st.newest.values)
   made_here g n w run st = parts_formed st.newest.values (formed_here InList into old ready cells at_first g n w run st)
 
   -- the cells of the list
@@ -235,35 +235,35 @@ module _ (into : Ref) (old : Engine) (ready : IsReady old) (hold : Holds (store_
   pub list_full : (e : Full) → ((vs : Values) → cells ≡ cells_of_all vs → AreFormed vs → Stopped (all_copy_cells vs + 3 * length (values_of vs)) ls ls2 e) → FullAt from ls e
   list_full full.Heap h = λ g n w run st.
       let vs = st.newest.values in
-      let c = (h (parts_of vs) (parts_here g n w run st) (made_here g n w run st)).cause in
+      let c = (h (node_parts vs) (parts_here g n w run st) (made_here g n w run st)).cause in
       let r = behind_copy (list_of vs) st.at.registers in
       let v = begun st.at.registers (sum_by (λ x. size x + copied x) vs) (record w { gathered = st.others }) in
       let es = (told ls into, copy_of (list_of vs) st.at.registers) ∷ [] in
       let grows : Grows (world_at (unified es (steps_of old) r v)) run.world = has_happened g st.at.inside.lives st.at.ways n (Moves (unified es (steps_of old) r v)) run st.went in
       omega (arith, c, list_weight vs, st.at.agrees.heap, made_heap es (steps_of old) r v, grows.meters.heap)
-  list_full full.Trail h = λ g n w run st. absurd (h (parts_of st.newest.values) (parts_here g n w run st) (made_here g n w run st)).cause
+  list_full full.Trail h = λ g n w run st. absurd (h (node_parts st.newest.values) (parts_here g n w run st) (made_here g n w run st)).cause
   list_full full.OutOfMemory h = tt
 
-  module _ (stack : Vec Ref Global) (out : Outside) (list : Ref) (closed : Closes (open_in old - 1) old.outside out) (copies : (vs : Values) → cells ≡ cells_of_all vs → AreFormed vs → ListCopied ls ls2 vs list) where
+  module _ (stack : Vec Ref Global) (out : Lasting) (list : Ref) (closed : Closes (open_in old - 1) old.lasting out) (copies : (vs : Values) → cells ≡ cells_of_all vs → AreFormed vs → ListCopied ls ls2 vs list) where
     abbrev pub listed_engine : Engine
-    listed_engine = record old { store = store2; made = stack; outside = out }
+    listed_engine = record old { store = store2; made = stack; lasting = out }
 
     pub list_ready : IsReady listed_engine
-    list_ready = let now = store_ready old store2 stack k2 saved2 ready in record { sound = record { base = now.sound.base; room = now.sound.room; picks = subst (λ (o : Outside). MayPick old.left (picks_in o)) (sym closed.is) ready.sound.picks }; here = now.here }
+    list_ready = let now = store_ready old store2 stack k2 saved2 ready in record { sound = record { base = now.sound.base; room = now.sound.room; picks = subst (λ (o : Lasting). MayPick old.left (picks_in o)) (sym closed.is) ready.sound.picks }; here = now.here }
 
     pub list_limits : SameLimits old listed_engine
-    list_limits = record { heap = k2.heap_limit; trail = k2.trail_limit; aux = ap (λ (o : Outside). o.gathered.aux) closed.is; keep = ap (λ (o : Outside). o.world.area.keep) closed.is }
+    list_limits = record { heap = k2.heap_limit; trail = k2.trail_limit; aux = ap (λ (o : Lasting). o.gathered.aux) closed.is; keep = ap (λ (o : Lasting). o.world.area.keep) closed.is }
 
     pub list_taken : Leads from (UnifiesAt into list listed_engine)
     list_taken g n w run st =
         let vs = st.newest.values in
-        let c = copies (parts_of vs) (parts_here g n w run st) (made_here g n w run st) in
+        let c = copies (node_parts vs) (parts_here g n w run st) (made_here g n w run st) in
         let q = st.at.registers in
         let a = st.at.agrees in
         let now = c.grew.state in
         let r = behind_copy (list_of vs) q in
         let v = begun q (sum_by (λ x. size x + copied x) vs) (record w { gathered = st.others }) in
-        let is_list : copy_of (list_of vs) q ≡ told ls2 list = list_copy q.next_var vs ∙ ap (λ i. list_of (values_of (copies_from i (parts_of vs)))) a.vars ∙ ap or_nil (sym c.value) in
+        let is_list : copy_of (list_of vs) q ≡ told ls2 list = list_copy q.next_var vs ∙ ap (λ i. list_of (values_of (copies_from i (node_parts vs)))) a.vars ∙ ap or_nil (sym c.value) in
         let on : (x y : Value) (l : List Step) → Move = λ x y l. unified ((x, y) ∷ []) l r v in
         let here : on (told ls into) (copy_of (list_of vs) q) (steps_of old) ≡ on (told ls2 into) (told ls2 list) (steps_of listed_engine) =
         ap (λ x. on x (copy_of (list_of vs) q) (steps_of old)) (sym (kept_told ls ls2 into k2 hold)) ∙ ap (λ y. on (told ls2 into) y (steps_of old)) is_list ∙ ap (on (told ls2 into) (told ls2 list)) (sym (steps_kept old store2 stack ready k2 saved2)) in
@@ -301,16 +301,16 @@ module _ (into : Ref) (old : Engine) (ready : IsReady old) (hold : Holds (store_
 
 -- ## As a sum
 
-module _ (into : Ref) (old : Engine) (ready : IsReady old) (cells : List Cell) (at_first : slice_get old.outside.gathered.rows 0 ≡ Some cells) (out : Outside) (closed : Closes (open_in old - 1) old.outside out)
+module _ (into : Ref) (old : Engine) (ready : IsReady old) (cells : List Cell) (at_first : slice_get old.lasting.gathered.rows 0 ≡ Some cells) (out : Lasting) (closed : Closes (open_in old - 1) old.lasting out)
     (n : Option ℕ) (sums : (vs : List Value) → cells ≡ flat_map cells_of vs → All IsFormed vs → n ≡ total vs) where
   abbrev pub summed_engine : Engine
-  summed_engine = record old { outside = out }
+  summed_engine = record old { lasting = out }
 
   pub sum_ready : IsReady summed_engine
-  sum_ready = record { sound = record { base = ready.sound.base; room = ready.sound.room; picks = subst (λ (o : Outside). MayPick old.left (picks_in o)) (sym closed.is) ready.sound.picks }; here = ready.here }
+  sum_ready = record { sound = record { base = ready.sound.base; room = ready.sound.room; picks = subst (λ (o : Lasting). MayPick old.left (picks_in o)) (sym closed.is) ready.sound.picks }; here = ready.here }
 
   pub sum_limits : SameLimits old summed_engine
-  sum_limits = record { heap = refl; trail = refl; aux = ap (λ (o : Outside). o.gathered.aux) closed.is; keep = ap (λ (o : Outside). o.world.area.keep) closed.is }
+  sum_limits = record { heap = refl; trail = refl; aux = ap (λ (o : Lasting). o.gathered.aux) closed.is; keep = ap (λ (o : Lasting). o.world.area.keep) closed.is }
 
   pub sum_taken : Leads (TakesOutAt InSum into old) (GivesAt n into summed_engine)
   sum_taken g k w run st =

@@ -23,7 +23,7 @@ use Rattle.dg_unify.specs.declared.list.ListBindings.{ListBindings}
 use Rattle.dg_choose.specs.Dice.{HasDrawn}
 use Rattle.dg_choose.specs.declared.dice.Dice.{Dice}
 use Rattle.dg_interp.specs.declared.engine.Engine.{Engine}
-use Rattle.dg_outside.specs.Outside.{InWorld}
+use Rattle.dg_lasting.specs.Lasting.{InWorld}
 use Rattle.dg_terms.specs.Terms.{ThreeMade}
 use Rattle.dg_interp.specs.inside.Frames.{values_in}
 use Rattle.dg_interp.specs.inside.Engine.{store_in, KeepsPlaces, steps_of, There, IsReady, SameLimits, TakesAt, Leads, Then}
@@ -46,7 +46,7 @@ module _ (a b c : Term) (old : Engine) (store : ListBindings) (stack : Vec Ref G
   s = store_in store
 
   abbrev pub thrown_to : Engine
-  thrown_to = record old { outside = record old.outside { dice = dice }; store = store; made = stack }
+  thrown_to = record old { lasting = record old.lasting { dice = dice }; store = store; made = stack }
 
   pub thrown_ready : IsReady thrown_to
   thrown_ready =
@@ -69,7 +69,7 @@ module _ (a b c : Term) (old : Engine) (store : ListBindings) (stack : Vec Ref G
     abbrev v : World
     v = worked (looked_up r (value_of g.program env a) + looked_up r (value_of g.program env b)) (taken_in x old g m w run st)
 
-    abbrev there : (u : World) → InWorld thrown_to.outside g u → There thrown_to (old.newest + 1) g u
+    abbrev there : (u : World) → InWorld thrown_to.lasting g u → There thrown_to (old.newest + 1) g u
     there u world = record {
       inside = record {
         program = st.at.inside.program;
@@ -132,5 +132,5 @@ module _ (a b c : Term) (old : Engine) (store : ListBindings) (stack : Vec Ref G
           };
         }
 
-  pub random_leads : (came : Option ℕ) → ((words : List ℕ) (drawn : ℕ) → HasDrawn old.outside.dice words drawn → Throws (of_numbers (thrown (die words drawn)) (walk s.state.subst (told s ra)) (walk s.state.subst (told s rb))) words drawn came dice) → Leads (TakesAt x old) (GivesAt came rc thrown_to)
+  pub random_leads : (came : Option ℕ) → ((words : List ℕ) (drawn : ℕ) → HasDrawn old.lasting.dice words drawn → Throws (of_numbers (thrown (die words drawn)) (walk s.state.subst (told s ra)) (walk s.state.subst (told s rb))) words drawn came dice) → Leads (TakesAt x old) (GivesAt came rc thrown_to)
   random_leads came h g m w run st = gives g m w run st came (meant g w.dice) (h g.dice w.dice st.at.inside.world.2) (comes g m w run st)

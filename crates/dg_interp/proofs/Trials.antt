@@ -8,8 +8,8 @@ use Rattle.dg_meaning.specs.Moves.{numbers, object_branches}
 use Rattle.dg_meaning.specs.inside.Context.{stays}
 use Rattle.dg_meaning.specs.inside.Keeps.{open_at}
 use Rattle.dg_interp.specs.inside.Frames.{has_some}
-use Rattle.dg_outside.specs.Finding.{counted}
-use Rattle.dg_outside.proofs.Finds.{counted_first, counted_none}
+use Rattle.dg_lasting.specs.Finding.{counted}
+use Rattle.dg_lasting.proofs.Finds.{counted_first, counted_none}
 use Rattle.dg_interp.specs.inside.Trying.{trial_branches}
 
 pub counted_some : (from end : ℕ) → has_some (counted from (end - from)) ≡ nat_lt from end

@@ -22,8 +22,8 @@ use Rattle.dg_meaning.specs.Transcript.{Run}
 use Rattle.dg_meaning.specs.inside.Context.{Way, Live, pushed}
 use Rattle.dg_meaning.specs.inside.Keeps.{After, Went, Began, Tried, world_at}
 use Rattle.dg_meaning.proofs.Keeps.{has_happened}
-use Rattle.dg_built.specs.Built.{AreBuilt}
-use Rattle.dg_built.proofs.BuiltLemmas.{all_none}
+use Rattle.dg_interp.specs.Runnable.{AreRunnable}
+use Rattle.dg_interp.proofs.RunnableLemmas.{all_none}
 use Rattle.dg_unify.specs.Store.{Store, State, Saved, Kept, Holds, Charged, told, or_nil}
 use Rattle.dg_unify.specs.inside.Engines.{Agrees}
 use Rattle.dg_unify.specs.declared.bindings.Ref.{Ref}
@@ -41,13 +41,13 @@ use Rattle.dg_interp.specs.declared.engine.Engine.{Engine}
 use Rattle.dg_terms.specs.Terms.{Overflows}
 use Rattle.dg_interp.specs.inside.Querying.{mark_of}
 use Rattle.dg_interp.specs.inside.Frames.{stretch, values_in, mark_steps, steps_behind, branches_of, EndsBy, IsLeft, has_some}
-use Rattle.dg_outside.specs.Finding.{counted}
+use Rattle.dg_lasting.specs.Finding.{counted}
 use Rattle.dg_meaning.specs.inside.Finding.{may_find}
 use Rattle.dg_interp.specs.inside.Trying.{trial_branches}
 use Rattle.dg_interp.specs.inside.Giving.{SolvesAt}
 use Rattle.dg_interp.specs.inside.Finding.{made_values, TriesObjectsAt, FindsAt}
 use Rattle.dg_interp.specs.inside.Engine.{Point, store_in, KeepsPlaces, steps_of, HasPlace, IsSound, IsReady, IsPushed, FailsAt, FullAt, BeginsAt, OpensAt, Leads, SameLimits, WentWrong, kept_if, open_in}
-use Rattle.dg_outside.proofs.Finds.{numbers_counted, counted_first, same_copy, behind_simple}
+use Rattle.dg_lasting.proofs.Finds.{numbers_counted, counted_first, same_copy, behind_simple}
 use Rattle.dg_interp.proofs.Trials.{counted_some, trials_all}
 use Rattle.dg_unify.proofs.StoreLemmas.{kept_same}
 use Rattle.dg_interp.proofs.Stores.{values_kept, values_count, hold_front, appended_stretch}
@@ -275,7 +275,7 @@ module _ (old : Engine) (trial : Trial) (args : Env) (b : Bool) (heap : ℕ) (pl
     pub trying_ready : IsReady trying
     trying_ready = record {
       sound = begun_sound old (Things others args) b place store1 old.refs old.made choices sound others_left tt same_b has k1 saved1 [] no_refs none_held kept here;
-      here = record { built = subst AreBuilt (sym none) (all_none _); older = omega arith; env = omega arith };
+      here = record { runnable = subst AreRunnable (sym none) (all_none _); older = omega arith; env = omega arith };
     }
 
     pub trying_limits : SameLimits old trying
@@ -417,7 +417,7 @@ module _ (old : Engine) (refs1 : Vec Ref Global) (made : List Ref) (ready : IsRe
             });
             tried =
                 subst (λ l. Tried g Plain r.next_tag (open_in old) at.ways at.inside.lives l n w run) (sym (all_branches g r at.inside.program))
-                (subst (λ i. Tried g Plain r.next_tag i at.ways at.inside.lives bs n w run) (sym (open_still old.outside g w at.inside.world))
+                (subst (λ i. Tried g Plain r.next_tag i at.ways at.inside.lives bs n w run) (sym (open_still old.lasting g w at.inside.world))
                 (chosen g at.inside.lives at.ways n run r.next_tag bs w st.came));
           };
         }

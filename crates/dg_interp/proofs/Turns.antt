@@ -18,8 +18,8 @@ use Rattle.dg_meaning.specs.Moves.{path_of, goals_at}
 use Rattle.dg_meaning.specs.Transcript.{run, start_world, start_path}
 use Rattle.dg_meaning.specs.inside.Keeps.{Stands}
 use Rattle.dg_base.specs.Sound.{IsSound as IsSoundProgram}
-use Rattle.dg_built.specs.Built.{IsBuilt, IsBuiltGoal, AreBuilt}
-use Rattle.dg_built.proofs.BuiltLemmas.{all_none, built_goal, built_alone, built_rest, built_from}
+use Rattle.dg_interp.specs.Runnable.{IsRunnable, IsRunnableGoal, AreRunnable}
+use Rattle.dg_interp.proofs.RunnableLemmas.{all_none, runnable_goal, runnable_alone, runnable_rest, runnable_from}
 use Rattle.dg_meaning.proofs.Keeps.{starts}
 use Rattle.dg_unify.specs.Slots.{store_of}
 use Rattle.dg_unify.specs.Store.{Store, Holds}
@@ -32,10 +32,10 @@ use Rattle.dg_interp.specs.declared.frames.Choice.{Choice}
 use Rattle.dg_interp.specs.declared.engine.Engine.{Engine}
 use Rattle.dg_interp.specs.inside.Frames.{values_in, frame_steps, steps_behind, steps_at, AreChoices, lives_of, ways_of, StandOn, GoBackTo}
 use Rattle.dg_unify.specs.inside.Engines.{Agrees}
-use Rattle.dg_outside.specs.declared.outside.Outside.{Outside}
+use Rattle.dg_lasting.specs.declared.lasting.Lasting.{Lasting}
 use Rattle.dg_meaning.specs.Choosing.{Picks}
-use Rattle.dg_outside.specs.Outside.{picks_in, MayPick, StartsOutside}
-use Rattle.dg_outside.proofs.Picks.{may_fewer}
+use Rattle.dg_lasting.specs.Lasting.{picks_in, MayPick, StartsLasting}
+use Rattle.dg_lasting.proofs.Picks.{may_fewer}
 use Rattle.dg_interp.specs.inside.Engine.{store_in, limit_in, IsReady, StandsAt, Starts, Taken}
 use Rattle.dg_interp.proofs.Links.{behind_end}
 
@@ -72,22 +72,22 @@ module _ (old : Engine) (x : Goal) (goals : Bor (List Goal)) (left : ℕ) (ready
 
   pub goal_taken : Taken x old (record old { here = record old.here { goals = goals }; left = left })
   goal_taken =
-      let built = subst AreBuilt split ready.here.built in
+      let runnable = subst AreRunnable split ready.here.runnable in
       record {
         ready = record {
           sound = record {
             base = ready.sound.base;
             room = omega (arith, ready.sound.room);
-            picks = may_fewer left old.left (picks_in old.outside) (omega (arith, less)) ready.sound.picks;
+            picks = may_fewer left old.left (picks_in old.lasting) (omega (arith, less)) ready.sound.picks;
           };
-          here = record { built = built_rest x goals.now built; older = ready.here.older; env = ready.here.env };
+          here = record { runnable = runnable_rest x goals.now runnable; older = ready.here.older; env = ready.here.env };
         };
         left = less;
         limits = record { heap = refl; trail = refl; aux = refl; keep = refl };
         room = omega (arith, ready.sound.room);
-        picks = may_fewer (left + 1) old.left (picks_in old.outside) (omega (arith, less)) ready.sound.picks;
-        built = built_goal x goals.now built;
-        whole = built_alone x goals.now built;
+        picks = may_fewer (left + 1) old.left (picks_in old.lasting) (omega (arith, less)) ready.sound.picks;
+        runnable = runnable_goal x goals.now runnable;
+        whole = runnable_alone x goals.now runnable;
         again = record { is = ready.here; goals = split; rest = refl };
         takes = λ g n w run st. record {
           at = st.at;
@@ -97,16 +97,16 @@ module _ (old : Engine) (x : Goal) (goals : Bor (List Goal)) (left : ℕ) (ready
 
 -- ## The start
 
-entry_built : (pred : ℕ) → AreBuilt (Ask pred [] false ∷ [])
-entry_built pred = built_from (Ask pred [] false) (AskForm pred [] false) (outs-Ask pred [] false) tt (all_none IsBuiltGoal)
+entry_runnable : (pred : ℕ) → AreRunnable (Ask pred [] false ∷ [])
+entry_runnable pred = runnable_from (Ask pred [] false) (AskForm pred [] false) (outs-Ask pred [] false) tt (all_none IsRunnableGoal)
 
 -- an empty store
 abbrev pub empty : ℕ → ℕ → Store
 empty heap trail = store_of true (record { slots = []; log = []; vars = 0; since = 0; heap = 0; trail = 0; heap_limit = heap; trail_limit = trail })
 
-module _ (program : Bor CoreProgram) (entry : Bor (List Goal)) (store : ListBindings) (refs : Vec Ref Global) (frames : Vec Frame Global) (choices : Vec Choice Global) (made : Vec Ref Global) (limits : Limits) (left heap trail : ℕ) (steps_are : limits.steps ≡ left) (heap_is : limits.heap ≡ heap) (trail_is : limits.trail ≡ trail) (outside : Outside) (dice : List ℕ) (fits : left < 2 ^ 64) (out : StartsOutside program.now limits dice outside) (built : IsBuilt program.now) (sound : IsSoundProgram program.now) (is : entry.now ≡ Ask program.now.entry [] false ∷ []) (means : store_in store ≡ empty heap trail) (no_refs : refs.items ≡ []) (no_frames : frames.items ≡ []) (no_choices : choices.items ≡ []) where
+module _ (program : Bor CoreProgram) (entry : Bor (List Goal)) (store : ListBindings) (refs : Vec Ref Global) (frames : Vec Frame Global) (choices : Vec Choice Global) (made : Vec Ref Global) (limits : Limits) (left heap trail : ℕ) (steps_are : limits.steps ≡ left) (heap_is : limits.heap ≡ heap) (trail_is : limits.trail ≡ trail) (lasting : Lasting) (dice : List ℕ) (fits : left < 2 ^ 64) (out : StartsLasting program.now limits dice lasting) (runnable : IsRunnable program.now) (sound : IsSoundProgram program.now) (is : entry.now ≡ Ask program.now.entry [] false ∷ []) (means : store_in store ≡ empty heap trail) (no_refs : refs.items ≡ []) (no_frames : frames.items ≡ []) (no_choices : choices.items ≡ []) where
   abbrev e : Engine
-  e = record { program = program; outside = outside; store = store; refs = refs; frames = frames; choices = choices; made = made; here = record { goals = entry; env = record { from = 0; len = 0 }; tag = 0; mark = Nothing; behind = 0 }; newest = 0; stoppable = None; left = left }
+  e = record { program = program; lasting = lasting; store = store; refs = refs; frames = frames; choices = choices; made = made; here = record { goals = entry; env = record { from = 0; len = 0 }; tag = 0; mark = Nothing; behind = 0 }; newest = 0; stoppable = None; left = left }
 
   none : reverse choices.items ≡ []
   none = ap reverse no_choices
@@ -153,7 +153,7 @@ module _ (program : Bor CoreProgram) (entry : Bor (List Goal)) (store : ListBind
     ready = record {
       sound = record {
         base = record {
-          program = built;
+          program = runnable;
           sound = sound;
           hold = subst (All (Holds (store_in store))) (sym no_refs) (λ k d lt. absurd (omega arith));
           frames = λ k f lt h. absurd (let q : None ≡ Some f = sym (ap (λ (l : List Frame). slice_get l k) no_frames) ∙ h in cc);
@@ -163,7 +163,7 @@ module _ (program : Bor CoreProgram) (entry : Bor (List Goal)) (store : ListBind
         room = omega arith;
         picks = out.may left fits;
       };
-      here = record { built = subst AreBuilt (sym is) (entry_built program.now.entry); older = omega arith; env = omega arith };
+      here = record { runnable = subst AreRunnable (sym is) (entry_runnable program.now.entry); older = omega arith; env = omega arith };
     };
     goal = subst (λ (l : List Goal). 0 < length l) (sym is) (omega arith);
     left = sym steps_are;

@@ -28,8 +28,8 @@ use Rattle.dg_interp.specs.declared.engine.Engine.{Engine}
 use Rattle.dg_terms.specs.Terms.{Overflows}
 use Rattle.dg_interp.specs.inside.Frames.{stretch, values_in}
 use Rattle.dg_interp.specs.inside.Engine.{store_in, KeepsPlaces, steps_of, IsReady, TakesAt, StandsAt, FailsAt, FullAt, Adds, Then, Leads, SameLimits, WentOn, pieces_at, WrotePrinted}
-use Rattle.dg_outside.specs.declared.outside.Outside.{Outside}
-use Rattle.dg_outside.specs.Outside.{InWorld}
+use Rattle.dg_lasting.specs.declared.lasting.Lasting.{Lasting}
+use Rattle.dg_lasting.specs.Lasting.{InWorld}
 use Rattle.dg_meaning.proofs.Dropping.{prints_append}
 use Rattle.dg_unify.specs.inside.Engines.{Agrees}
 use Rattle.dg_interp.proofs.Places.{inside_kept, adds_nothing}
@@ -49,7 +49,7 @@ module _ (x : Goal) (old : Engine) (store : ListBindings) (made : Vec Ref Global
   pub grown_limits : SameLimits old grown
   grown_limits = record { heap = k.heap_limit; trail = k.trail_limit; aux = refl; keep = refl }
 
-  pub stands_behind : (g : Game) (n : ℕ) (w v : World) (run : Run) → InWorld old.outside g v → (st : TakesAt x old g n w run) (r : Registers) → Agrees (store_in store) r → r.next_tag ≡ st.at.registers.next_tag → r.stoppable ≡ st.at.registers.stoppable → Stands g st.at.inside.lives st.at.ways (path_of (steps_of old) r) n v run → StandsAt grown g n v run
+  pub stands_behind : (g : Game) (n : ℕ) (w v : World) (run : Run) → InWorld old.lasting g v → (st : TakesAt x old g n w run) (r : Registers) → Agrees (store_in store) r → r.next_tag ≡ st.at.registers.next_tag → r.stoppable ≡ st.at.registers.stoppable → Stands g st.at.inside.lives st.at.ways (path_of (steps_of old) r) n v run → StandsAt grown g n v run
   stands_behind g n w v run none_open st r agrees tag part stands = record {
     at = record {
       inside = inside_kept _ _ saved none_open st.at.inside;
@@ -63,7 +63,7 @@ module _ (x : Goal) (old : Engine) (store : ListBindings) (made : Vec Ref Global
     stands = subst (λ s. Stands g st.at.inside.lives st.at.ways (path_of s r) n v run) (sym steps_same) stands;
   }
 
-  pub fails_behind : (g : Game) (n : ℕ) (w v : World) (run : Run) → InWorld old.outside g v → (st : TakesAt x old g n w run) → Failed g st.at.inside.lives n v run → FailsAt grown g n v run
+  pub fails_behind : (g : Game) (n : ℕ) (w v : World) (run : Run) → InWorld old.lasting g v → (st : TakesAt x old g n w run) → Failed g st.at.inside.lives n v run → FailsAt grown g n v run
   fails_behind g n w v run none_open st h = record {
     inside = inside_kept _ _ saved none_open st.at.inside;
     failed = h;
@@ -183,7 +183,7 @@ adds_printed (p ∷ ps) w =
       typed = a.typed;
     }
 
-world_printed : (out : Outside) (g : Game) (ps : List (List ℕ)) (w : World) → InWorld out g w → InWorld out g (all_printed ps w)
+world_printed : (out : Lasting) (g : Game) (ps : List (List ℕ)) (w : World) → InWorld out g w → InWorld out g (all_printed ps w)
 world_printed out g [] w is = is
 world_printed out g (p ∷ ps) w is = world_printed out g ps (printed (Piece p) w) is
 
@@ -223,7 +223,7 @@ module _ (term : Term) (old : Engine) (store : ListBindings) (made : Vec Ref Glo
       record {
         world = all_printed ps before;
         adds = record { prints_are = b.prints_are ∙ ap (λ l. l ++ map Piece ps) (a.prints_are ∙ append-nil (prints w.events)); typed = b.typed };
-        holds = stands_behind y old store made ready k saved g n w (all_printed ps before) run (world_printed old.outside g ps before st.at.inside.world) st r (agrees_behind y term (print_held term) old store value written g n w run st) refl refl stands;
+        holds = stands_behind y old store made ready k saved g n w (all_printed ps before) run (world_printed old.lasting g ps before st.at.inside.world) st r (agrees_behind y term (print_held term) old store value written g n w run st) refl refl stands;
       }
 
   pub wrote_printed : WrotePrinted term value old new

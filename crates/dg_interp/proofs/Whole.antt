@@ -26,9 +26,9 @@ use Rattle.dg_spacing.specs.declared.spacer.Spacer.{Spacer}
 use Rattle.dg_interp.specs.declared.engine.Engine.{Engine}
 use Rattle.dg_base.specs.Written.{SinkView, Wrote, BrokeOff}
 use Rattle.dg_spacing.specs.Spacer.{StandsFor}
-use Rattle.dg_outside.specs.declared.lack.Lack.{Lack}
-use Rattle.dg_outside.specs.declared.lack.Lack.TheVariants as lack
-use Rattle.dg_outside.specs.Outside.{LacksAtStart}
+use Rattle.dg_lasting.specs.declared.lack.Lack.{Lack}
+use Rattle.dg_lasting.specs.declared.lack.Lack.TheVariants as lack
+use Rattle.dg_lasting.specs.Lasting.{LacksAtStart}
 use Rattle.dg_interp.specs.inside.Engine.{limit_in, Starts}
 use Rattle.dg_base.specs.Streams.{SourceView}
 use Rattle.dg_interp.specs.inside.Running.{limit_of as ending_of_lack, Gave, LeftBehind, Awaits, Stretch, HasText, Reaches, HasEnded, MeetsLimit, IsNoFurther, Ended, HasPart, IsLimited, TakesMore, LosesInput, LosesOutput, Broken}

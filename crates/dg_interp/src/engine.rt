@@ -3,7 +3,7 @@ ghost use Rattle.std.specs.Prelude.{◌≡◌, ◌≢◌, ℕ, true, false, ◌+
 ghost use Rattle.dg_base.specs.declared.program.Goal.TheVariants.{Ask, Print as PrintGoal, Fail as FailGoal, Just as JustGoal};
 ghost use Rattle.dg_meaning.specs.Moves.{rules_of as the_rules};
 ghost use Rattle.dg_base.specs.Sound.{IsSound as IsSoundProgram};
-ghost use Rattle.dg_built.specs.Built.{IsBuilt};
+ghost use Rattle.dg_interp.specs.Runnable.{IsRunnable};
 ghost use Rattle.dg_interp.specs.declared.frames.Mark.TheVariants.{Nothing as NoMark};
 ghost use Rattle.dg_interp.specs.declared.frames.Left.TheVariants.{Rules, Lists, Ways, Way};
 ghost use Rattle.dg_unify.specs.declared.bindings.Full.TheVariants.{OutOfMemory as WantOfMemory};
@@ -15,7 +15,7 @@ ghost use Rattle.dg_base.specs.declared.run.Limits.{Limits as TheLimits};
 ghost use Rattle.dg_meaning.specs.Cells.{cells};
 ghost use Rattle.dg_interp.specs.inside.Rules.{EntersRule, RuleFull, ArgsWritten};
 ghost use Rattle.dg_terms.specs.Terms.{Overflows};
-ghost use Rattle.dg_outside.specs.Outside.{StartsOutside};
+ghost use Rattle.dg_lasting.specs.Lasting.{StartsLasting};
 ghost use Rattle.dg_terms.specs.Passing.{IsFirst, IsCandidate};
 ghost use Rattle.dg_texts.specs.Printing.{Printed};
 ghost use Rattle.dg_unify.specs.Store.{Saved, Kept, Holds, Charged};
@@ -37,7 +37,7 @@ mod wording;
 
 use crate::frames::{Choice, Env, Frame, Left, Mark, Query};
 use dg_base::{CoreProgram, Ending, Goal, Items, Rule, Sink, Term, WriteFault};
-use dg_outside::{Lack, Outside, lacking};
+use dg_lasting::{Lack, Lasting, lacking};
 use dg_spacing::Spacer;
 use dg_terms::{choice_cells, new_variables, pass, unify_all, write_term, write_terms};
 use dg_texts::print_value;
@@ -48,7 +48,7 @@ use std::alloc::{AllocError, Global};
 #[derive(Drop)]
 pub struct Engine<'p> {
     program: &'p CoreProgram,
-    outside: Outside<'p>,
+    lasting: Lasting<'p>,
     store: ListBindings,
     refs: Vec<Ref>,
     frames: Vec<Frame<'p>>,
@@ -247,17 +247,17 @@ impl<'p> Engine<'p> {
         left: u64,
         heap: u32,
         trail: u32,
-        outside: Outside<'p>,
+        lasting: Lasting<'p>,
     ) -> Engine<'p>
-        requires built { IsBuilt program.now }
+        requires runnable { IsRunnable program.now }
         requires sound { IsSoundProgram program.now }
         requires entry { entry.now ≡ Ask program.now.entry [] false ∷ [] }
         ensures starts { (limits : TheLimits) → (dice : List ℕ) → limits.steps ≡ left → limits.heap ≡ heap → limits.trail ≡ trail →
-            StartsOutside program.now limits dice outside.entry → Starts program.now limits dice result }
+            StartsLasting program.now limits dice lasting.entry → Starts program.now limits dice result }
     {
         Engine {
             program,
-            outside,
+            lasting,
             store: ListBindings::new(alloc, heap, trail),
             refs: Vec::new(alloc),
             frames: Vec::new(alloc),
@@ -280,7 +280,7 @@ impl<'p> Engine<'p> {
     fn gatherings(&self) -> usize
         ensures { result ≡ open_in self.now }
     {
-        self.outside.gathered.height().0
+        self.lasting.gathered.height().0
     }
 
     /// The choice that opens on these branches where the engine is, and goes back to this place.
@@ -597,7 +597,7 @@ impl<'p> Engine<'p> {
                 }
                 self.frames.truncate(choice.height);
                 self.refs.truncate(choice.refs);
-                self.outside.close_to(choice.gathered);
+                self.lasting.close_to(choice.gathered);
                 self.store.undo(choice.place);
                 self.newest = choice.tag;
                 self.stoppable = choice.stoppable;

@@ -14,8 +14,8 @@ ghost use Rattle.dg_world.specs.Worlds.{StandsFor};
 ghost use Rattle.dg_interp.specs.inside.Engine.{KeepsPlaces, store_in};
 
 use dg_base::{Cell, CoreProgram, PlaceKind, Simple};
+use dg_lasting::kind_of;
 use dg_lists::from_cells;
-use dg_outside::kind_of;
 use dg_unify::{Bindings, Full, ListBindings, Ref};
 use dg_world::World;
 

@@ -6,15 +6,15 @@ ghost use Rattle.dg_meaning.specs.Shows.{IsLeft};
 ghost use Rattle.dg_base.specs.Sound.{IsSound};
 ghost use Rattle.dg_base.specs.Streams.{SourceView};
 ghost use Rattle.dg_interp.specs.inside.Engine.{Starts};
-ghost use Rattle.dg_outside.specs.Outside.{LacksAtStart};
+ghost use Rattle.dg_lasting.specs.Lasting.{LacksAtStart};
 ghost use Rattle.dg_meaning.specs.Engines.{game, left_told, HasShown};
 ghost use Rattle.dg_meaning.specs.inside.Engines.{ForTyped, HasBrokenOff};
 
 use crate::engine::Engine;
+use crate::laws::programs_are_runnable;
 use crate::run::{limit, run};
 use dg_base::{CoreProgram, Ending, Goal, Items, Limits, Outcome, RunFault, Sink, Source};
-use dg_built::programs_are_built;
-use dg_outside::{Lack, Outside};
+use dg_lasting::{Lack, Lasting};
 use dg_spacing::Spacer;
 use std::alloc::Global;
 
@@ -122,10 +122,10 @@ pub fn interpret<S: Source, K: Sink>(
     ensures read { IsErrOf result RunFault.Read → Rose (S.view source.old).faults (S.view source.new).faults }
     ensures later { (S.view source.old).faults ≤ (S.view source.new).faults }
 {
-    programs_are_built();
-    match Outside::new(alloc, program, limits, dice) {
+    programs_are_runnable();
+    match Lasting::new(alloc, program, limits, dice) {
         Err(lack) => write_lack(program, limits, dice, lack, sink),
-        Ok(outside) => {
+        Ok(lasting) => {
             let entry = [Goal::Ask(program.entry, Items::new(alloc), false)];
             let mut engine = Engine::new(
                 alloc,
@@ -134,7 +134,7 @@ pub fn interpret<S: Source, K: Sink>(
                 limits.steps,
                 limits.heap,
                 limits.trail,
-                outside,
+                lasting,
             );
             write_run(program, limits, dice, &mut engine, source, sink)
         }

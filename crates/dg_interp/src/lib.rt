@@ -6,6 +6,8 @@ mod engine;
 mod finding;
 mod frames;
 mod interpreter;
+mod laws;
 mod run;
 
 pub use interpreter::interpret;
+pub use laws::programs_are_runnable;

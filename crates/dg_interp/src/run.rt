@@ -13,7 +13,7 @@ ghost use Rattle.dg_spacing.specs.Gaps.{print_of};
 
 use crate::engine::Engine;
 use dg_base::{Ending, GapKind, Goal, RunFault, Sink, Source, Term};
-use dg_outside::{Lack, lacking, stored};
+use dg_lasting::{Lack, lacking, stored};
 use dg_spacing::{Event, Spacer};
 use dg_unify::Ref;
 use dg_words::Line;

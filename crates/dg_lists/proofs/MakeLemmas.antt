@@ -7,7 +7,7 @@ use Rattle.std.proofs.lemmas.List.{take-map, drop-map, length-map, length-take-l
 use Rattle.std.proofs.lemmas.List.Elements.{All-cons, All-drop, All-head, All-tail}
 use Rattle.dg_base.specs.declared.cells.Cell.{Cell}
 use Rattle.dg_base.specs.declared.cells.Cell.TheVariants as cell
-use Rattle.dg_meaning.specs.Values.{Closure, Nil, Value, Values, Node, leaf, pair, parts_of}
+use Rattle.dg_meaning.specs.Values.{Closure, Nil, Value, Values, Node, leaf, pair, node_parts}
 use Rattle.dg_meaning.specs.ValueCells.{cells_of, cells_of_all}
 use Rattle.dg_meaning.specs.Copies.{list_of, values_of, vars_in, vars_in_all, copy_from, copies_from, copy_cells, all_copy_cells}
 use Rattle.dg_lists.specs.Formed.{IsFormed, AreFormed}
@@ -21,14 +21,14 @@ use Rattle.dg_lists.proofs.ReadLemmas.{count_same, vars_again, all_vars_again, w
 
 -- ## Captured values
 
-closure_is : (place count : ℕ) (vs : List Value) → count ≤ length vs → closure_from place count vs ≡ Node (Closure place) (parts_of (take count vs))
-closure_is place count vs le = ap (λ b. if b then Node (Closure place) (parts_of (take count vs)) else leaf Nil) (le-leb count (length vs) le)
+closure_is : (place count : ℕ) (vs : List Value) → count ≤ length vs → closure_from place count vs ≡ Node (Closure place) (node_parts (take count vs))
+closure_is place count vs le = ap (λ b. if b then Node (Closure place) (node_parts (take count vs)) else leaf Nil) (le-leb count (length vs) le)
 
 pub closure_made : (s t : Store) (place count : ℕ) (stack captured : List Ref) (made : Result Ref Full) → captured ≡ take count stack → count ≤ length stack → MatchResult made (λ r. Made (3 + length captured) s t r (Node (Closure place) (told_parts s captured))) (λ e. HeapFull (3 + length captured) s t e) → MatchResult made (λ r. Made (3 + count) s t r (closure_from place count (map (told s) stack))) (λ e. HeapFull (3 + count) s t e)
 closure_made s t place count stack captured made is le h =
     let long : length captured ≡ count = ap length is ∙ length-take-le count stack le in
     let value : Node (Closure place) (told_parts s captured) ≡ closure_from place count (map (told s) stack) =
-    ap (λ l. Node (Closure place) (parts_of (map (told s) l))) is ∙ ap (λ l. Node (Closure place) (parts_of l)) (sym (take-map (told s) count stack)) ∙ sym (closure_is place count (map (told s) stack) (omega (arith, le, length-map stack (told s)))) in
+    ap (λ l. Node (Closure place) (node_parts (map (told s) l))) is ∙ ap (λ l. Node (Closure place) (node_parts l)) (sym (take-map (told s) count stack)) ∙ sym (closure_is place count (map (told s) stack) (omega (arith, le, length-map stack (told s)))) in
     let one = subst (λ v. MatchResult made (λ r. Made (3 + length captured) s t r v) (λ e. HeapFull (3 + length captured) s t e)) value h in
     subst (λ n. MatchResult made (λ r. Made (3 + n) s t r (closure_from place count (map (told s) stack))) (λ e. HeapFull (3 + n) s t e)) long one
 

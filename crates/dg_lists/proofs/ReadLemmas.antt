@@ -5,13 +5,13 @@ use Rattle.std.proofs.lemmas.Bool.{le-leb}
 use Rattle.std.proofs.lemmas.List.{take_at, drop_at, length-map}
 use Rattle.dg_base.specs.declared.cells.Cell.{Cell}
 use Rattle.dg_base.specs.declared.cells.Cell.TheVariants as cell
-use Rattle.dg_meaning.specs.Values.{Label, Num, Word, Unknown, Object, Nil, Pair, Closure, Value, Var, Node, Values, NoMore, More, leaf, parts_of}
+use Rattle.dg_meaning.specs.Values.{Label, Num, Word, Unknown, Object, Nil, Pair, Closure, Value, Var, Node, Values, NoMore, More, leaf, node_parts}
 use Rattle.dg_meaning.specs.ValueCells.{count_of, label_cells, cells_of, cells_of_all}
 use Rattle.dg_meaning.specs.Copies.{values_of, vars_in, vars_in_all, copy_from, copies_from, label_weight, copy_cells, all_copy_cells}
 use Rattle.dg_lists.specs.Formed.{IsFormed, AreFormed}
 use Rattle.dg_lists.specs.Reading.{letter, word_from, closure_from, pair_from, row_vars, row_weight, values_read}
 
-parts_again : (vs : Values) → parts_of (values_of vs) ≡ vs
+parts_again : (vs : Values) → node_parts (values_of vs) ≡ vs
 parts_again NoMore = refl
 parts_again (More v vs) = ap (More v) (parts_again vs)
 
@@ -104,9 +104,9 @@ closure_again : (place count : ℕ) (vs : Values) (rest : List Value) → length
 closure_again place count vs rest long =
     let all = values_of vs ++ rest in
     let within : count ≤ length all = omega (arith, long, length-append (values_of vs) rest) in
-    ap (λ b. (if b then Node (Closure place) (parts_of (take count all)) else leaf Nil) ∷ drop count all) (le-leb count (length all) within)
-    ∙ ap (λ l. Node (Closure place) (parts_of l) ∷ drop count all) (take_at (values_of vs) rest count long)
-    ∙ ap (λ l. Node (Closure place) (parts_of (values_of vs)) ∷ l) (drop_at (values_of vs) rest count long)
+    ap (λ b. (if b then Node (Closure place) (node_parts (take count all)) else leaf Nil) ∷ drop count all) (le-leb count (length all) within)
+    ∙ ap (λ l. Node (Closure place) (node_parts l) ∷ drop count all) (take_at (values_of vs) rest count long)
+    ∙ ap (λ l. Node (Closure place) (node_parts (values_of vs)) ∷ l) (drop_at (values_of vs) rest count long)
     ∙ ap (λ ps. Node (Closure place) ps ∷ rest) (parts_again vs)
 
 mutual

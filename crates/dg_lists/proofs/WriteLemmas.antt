@@ -13,7 +13,7 @@ use Rattle.dg_meaning.specs.Substitutions.{Substitution, resolved}
 use Rattle.dg_meaning.specs.inside.Substitutions.{all_resolved, IsSubstitution}
 use Rattle.dg_meaning.specs.Unify.{size, sizes}
 use Rattle.dg_meaning.specs.ValueCells.{count_of, label_cells, cells_of, cells_of_all}
-use Rattle.dg_meaning.specs.TypeTests.{is_full, are_full}
+use Rattle.dg_meaning.specs.TypeTests.{is_fully_bound, are_fully_bound}
 use Rattle.dg_unify.specs.Finds.{finds, any_finds}
 use Rattle.dg_meaning.proofs.Walks.{resolved_node, resolved_unbound, walked, size_some}
 use Rattle.dg_unify.specs.Store.{Store, told, Holds, Shows, label_of, IsTold, part_at, count_of as parts_of_store}
@@ -286,10 +286,10 @@ first_full true q a b h k = rw (← h) refl
 first_full false q a b h k = rw (← h) k
 
 mutual
-  pub full_value : (v : Value) → not (finds None v) ≡ is_full v
+  pub full_value : (v : Value) → not (finds None v) ≡ is_fully_bound v
   full_value (Var y) = refl
   full_value (Node f vs) = full_values vs
 
-  full_values : (vs : Values) → not (any_finds None vs) ≡ are_full vs
+  full_values : (vs : Values) → not (any_finds None vs) ≡ are_fully_bound vs
   full_values NoMore = refl
-  full_values (More v vs) = let a = full_value v in let b = full_values vs in first_full (finds None v) (any_finds None vs) (is_full v) (are_full vs) a b
+  full_values (More v vs) = let a = full_value v in let b = full_values vs in first_full (finds None v) (any_finds None vs) (is_fully_bound v) (are_fully_bound vs) a b

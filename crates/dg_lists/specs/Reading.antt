@@ -3,7 +3,7 @@ use Rattle.std.specs.Prelude.{◌≡◌, ℕ, ◌+◌, ◌*◌, ◌<◌, ◌≤�
 use Rattle.std.specs.List.{All}
 use Rattle.dg_base.specs.declared.cells.Cell.{Cell}
 use Rattle.dg_base.specs.declared.cells.Cell.TheVariants as cell
-use Rattle.dg_meaning.specs.Values.{Num, Word, Unknown, Object, Nil, Closure, Value, Var, Node, Values, leaf, pair, parts_of}
+use Rattle.dg_meaning.specs.Values.{Num, Word, Unknown, Object, Nil, Closure, Value, Var, Node, Values, leaf, pair, node_parts}
 use Rattle.dg_meaning.specs.Copies.{copy_from, vars_in, copy_cells, values_of, copies_from, vars_in_all, all_copy_cells, list_of}
 use Rattle.dg_unify.specs.Store.{Store, told, Holds, Kept}
 use Rattle.dg_unify.specs.declared.bindings.Ref.{Ref}
@@ -23,7 +23,7 @@ word_from count behind = if nat_le count 200 && nat_le count (length behind) the
 
 -- A closure that captures so many of the values behind it.
 abbrev pub closure_from : ℕ → ℕ → List Value → Value
-closure_from place count vs = if nat_le count (length vs) then Node (Closure place) (parts_of (take count vs)) else leaf Nil
+closure_from place count vs = if nat_le count (length vs) then Node (Closure place) (node_parts (take count vs)) else leaf Nil
 
 -- A pair of the two values behind it.
 abbrev pub pair_from : List Value → Value

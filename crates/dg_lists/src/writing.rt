@@ -3,7 +3,7 @@
 ghost use Rattle.std.specs.Prelude.{◌≡◌, ℕ, ◌+◌, ◌≤◌, List, [], ◌∷◌, map, length, IfSome};
 ghost use Rattle.dg_meaning.specs.Values.{Value, Values};
 ghost use Rattle.dg_meaning.specs.Substitutions.{resolved};
-ghost use Rattle.dg_meaning.specs.TypeTests.{is_full};
+ghost use Rattle.dg_meaning.specs.TypeTests.{is_fully_bound};
 ghost use Rattle.dg_meaning.specs.ValueCells.{label_cells};
 ghost use Rattle.dg_unify.specs.Store.{Saved, told, Holds, Shows, label_of, count_of, IsClosureAt, IsUnknownAt};
 ghost use Rattle.dg_lists.specs.Formed.{IsFormed};
@@ -165,7 +165,7 @@ pub fn fully_bound<B: Bindings>(store: &mut B, value: Ref) -> bool
     requires { Holds (B.meaning store.old) value }
     ensures same { B.meaning store.new ≡ B.meaning store.old }
     ensures saved { (ms : List Saved) → B.saves store.old ms → B.saves store.new ms }
-    ensures bound { result ≡ is_full (resolved (B.meaning store.old).state.subst (told (B.meaning store.old) value)) }
+    ensures bound { result ≡ is_fully_bound (resolved (B.meaning store.old).state.subst (told (B.meaning store.old) value)) }
 {
     !is_open(store, value)
 }

@@ -22,13 +22,13 @@ use Rattle.dg_meaning.specs.ValueCells.{cells_of}
 use Rattle.dg_meaning.specs.Values.{Nil, Object, Value, Var, Node, leaf}
 use Rattle.dg_meaning.specs.World.{Game, World, worked}
 use Rattle.dg_lists.specs.Reading.{Copied}
-use Rattle.dg_outside.specs.Finding.{counted}
+use Rattle.dg_lasting.specs.Finding.{counted}
 use Rattle.dg_meaning.specs.inside.Finding.{may_find, has_objects}
-use Rattle.dg_outside.specs.Outside.{outline}
-use Rattle.dg_outside.specs.Subjects.{may_name, IsSubject}
-use Rattle.dg_outside.specs.declared.outside.Outside.{Outside}
-use Rattle.dg_outside.specs.declared.subject.Subject.TheVariants.{Open, Thing, Other}
-use Rattle.dg_outside.proofs.Finds.{numbers_counted, same_copy, behind_simple, KeptAs, value_formed, kept_as}
+use Rattle.dg_lasting.specs.Lasting.{outline}
+use Rattle.dg_lasting.specs.Subjects.{may_name, IsSubject}
+use Rattle.dg_lasting.specs.declared.lasting.Lasting.{Lasting}
+use Rattle.dg_lasting.specs.declared.subject.Subject.TheVariants.{Open, Thing, Other}
+use Rattle.dg_lasting.proofs.Finds.{numbers_counted, same_copy, behind_simple, KeptAs, value_formed, kept_as}
 use Rattle.dg_unify.specs.Store.{State, Store, Shows}
 use Rattle.dg_unify.specs.declared.bindings.View.{View}
 use Rattle.dg_unify.proofs.StoreLemmas.{told_is}
@@ -38,7 +38,7 @@ use Rattle.dg_world.specs.Worlds.{StandsFor}
 use Rattle.dg_mid.specs.declared.code.Op.{Op}
 use Rattle.dg_mid.specs.declared.code.Code.{Code}
 use Rattle.dg_mid.specs.Actions.{asked_at, registers_of, world_of}
-use Rattle.dg_mid.specs.Reads.{outside_of}
+use Rattle.dg_mid.specs.Reads.{lasting_of}
 use Rattle.dg_mid.specs.State.{Tries as TriesOf, Mid, Status, Runs as RunsOf, Resumes as ResumesOf, Fails as FailsOf}
 use Rattle.dg_mid.specs.Step.{setting, charged, bound, done, seeks, unified, made_in, if_passed}
 use Rattle.dg_machine.specs.declared.memory.Memory.{Memory}
@@ -62,14 +62,14 @@ use Rattle.dg_machine.proofs.Unifying.{done_unifies}
 -- ## Copies
 
 -- a copy is unified with a value, behind the cells that it takes
-pub done_copies : (code : Code) (g : Game) (l : Limits) (u v : Value) (m : Mid) (w : World) → outside_of w ≡ m.outside → let x = unify m.state.subst u (copy_from m.state.vars v) in
+pub done_copies : (code : Code) (g : Game) (l : Limits) (u v : Value) (m : Mid) (w : World) → lasting_of w ≡ m.lasting → let x = unify m.state.subst u (copy_from m.state.vars v) in
     done (setting g code l) (Unifies (behind_copy v (registers_of m)) ((u, copy_of v (registers_of m)) ∷ []) w) m ≡ charged (setting g code l) (copy_cells v) m (unified (setting g code l) x (copied_in v m) (RunsOf (bound x (copied_in v m))))
 done_copies code g l u v m w e =
     let set = setting g code l in
     let x = unify m.state.subst u (copy_from m.state.vars v) in
     let taken : m.state.heap + copy_cells v - m.state.heap ≡ copy_cells v = omega arith in
     let made = behind_copy v (registers_of m) in
-    ap (λ o. charged set (m.state.heap + copy_cells v - m.state.heap) m (unified set x (made_in made (record m { outside = o })) (RunsOf (bound x (made_in made (record m { outside = o })))))) e
+    ap (λ o. charged set (m.state.heap + copy_cells v - m.state.heap) m (unified set x (made_in made (record m { lasting = o })) (RunsOf (bound x (made_in made (record m { lasting = o })))))) e
     ∙ ap (λ k. charged set k m (unified set x (record m { state = record m.state { vars = m.state.vars + vars_in v; heap = m.state.heap + k } }) (RunsOf (bound x (record m { state = record m.state { vars = m.state.vars + vars_in v; heap = m.state.heap + k } }))))) taken
 
 -- memory behind a copy
@@ -103,16 +103,16 @@ spare_fits code l m r h = record { fits = h.0.room.refs.kept_fit; few = h.0.room
 
 -- ## What is set
 
-module _ (code : Code) (g : Game) (l : Limits) (m : Mid) (vs : List Value) (w : World) (is : outside_of w ≡ m.outside) where
+module _ (code : Code) (g : Game) (l : Limits) (m : Mid) (vs : List Value) (w : World) (is : lasting_of w ≡ m.lasting) where
   abbrev read_to : Option Value → Status
   read_to fact = done (setting g code l) (reads_if_set vs (registers_of m) fact w) m
 
   -- nothing is set
   pub read_none : (fact : Option Value) → fact ≡ None → read_to fact ≡ FailsOf m
-  read_none fact e = ap read_to e ∙ ap (λ o. FailsOf (record m { outside = o })) is
+  read_none fact e = ap read_to e ∙ ap (λ o. FailsOf (record m { lasting = o })) is
 
   read_tests : (us : List Value) (v : Value) → us ≡ [] → done (setting g code l) (reads us (registers_of m) v w) m ≡ RunsOf m
-  read_tests us v e = ap (λ xs. done (setting g code l) (reads xs (registers_of m) v w) m) e ∙ ap (λ o. RunsOf (record m { outside = o })) is
+  read_tests us v e = ap (λ xs. done (setting g code l) (reads xs (registers_of m) v w) m) e ∙ ap (λ o. RunsOf (record m { lasting = o })) is
 
   -- it isn't looked at
   pub read_alone : (fact : Option Value) (v : Value) → fact ≡ Some v → vs ≡ [] → read_to fact ≡ RunsOf m
@@ -136,11 +136,11 @@ module _ (code : Code) (g : Game) (l : Limits) (m : Mid) (vs : List Value) (w : 
     read_copy v e = ap read_to e ∙ ap (λ xs. done (setting g code l) (reads xs (registers_of m) v w) m) some ∙ done_copies code g l u v m (worked (copied v) w) is
 
 -- the value of a global variable, of which these are the cells
-pub global_here : (g : Game) (l : Limits) (m : Mid) (out : Outside) (place : ℕ) (kept : Option (List Cell)) → ((o : Outline) (facts : List Fact) → StandsFor out.world o facts → IsKind o place Global → kept ≡ option_map cells_of (value_at facts place 0)) → slice_get (kinds_of g.program) place ≡ Some Global → Around out g l m → kept ≡ option_map cells_of (value_at m.outside.facts place 0)
-global_here g l m out place kept h kind w = h (outline g.program out.world.area.keep) m.outside.facts w.0.0.stands kind
+pub global_here : (g : Game) (l : Limits) (m : Mid) (out : Lasting) (place : ℕ) (kept : Option (List Cell)) → ((o : Outline) (facts : List Fact) → StandsFor out.world o facts → IsKind o place Global → kept ≡ option_map cells_of (value_at facts place 0)) → slice_get (kinds_of g.program) place ≡ Some Global → Around out g l m → kept ≡ option_map cells_of (value_at m.lasting.facts place 0)
+global_here g l m out place kept h kind w = h (outline g.program out.world.area.keep) m.lasting.facts w.0.0.stands kind
 
-pub global_kept : (g : Game) (l : Limits) (m : Mid) (out : Outside) (place : ℕ) (cells : List Cell) → Some cells ≡ option_map cells_of (value_at m.outside.facts place 0) → Around out g l m → KeptAs (value_at m.outside.facts place 0) cells
-global_kept g l m out place cells is w = kept_as (value_at m.outside.facts place 0) cells is (λ v e. value_formed m.outside.facts place 0 v w.0.0.formed e)
+pub global_kept : (g : Game) (l : Limits) (m : Mid) (out : Lasting) (place : ℕ) (cells : List Cell) → Some cells ≡ option_map cells_of (value_at m.lasting.facts place 0) → Around out g l m → KeptAs (value_at m.lasting.facts place 0) cells
+global_kept g l m out place cells is w = kept_as (value_at m.lasting.facts place 0) cells is (λ v e. value_formed m.lasting.facts place 0 v w.0.0.formed e)
 
 -- ## Queries of objects
 
@@ -204,7 +204,7 @@ module _ (code : Code) (g : Game) (l : Limits) (m : Mid) (place : Option ℕ) (v
     sought_open s = asks_so (Var s.0) s.1
 
     -- an object is read at once
-    pub sought_thing : (o : ℕ) → IsSubject (walk m.state.subst u) (Thing o) → sought ≡ done (setting g code l) (reads_if_set us (registers_of m) (found m.outside.facts place o) looked) m
+    pub sought_thing : (o : ℕ) → IsSubject (walk m.state.subst u) (Thing o) → sought ≡ done (setting g code l) (reads_if_set us (registers_of m) (found m.lasting.facts place o) looked) m
     sought_thing o s = asks_so (leaf (Object o)) s
 
     -- nothing else is one
@@ -219,7 +219,7 @@ tries_all code g l m t k end vs r is_of count at h =
 
 -- ## Places
 
-module _ (t : Tables) (code : Code) (out : Outside) (old new : Memory) (now : Now) (k : Search) (rest : List Op) where
+module _ (t : Tables) (code : Code) (out : Lasting) (old new : Memory) (now : Now) (k : Search) (rest : List Op) where
   -- all objects are asked
   pub seeks_all : k.place ≡ None → SeeksObjects t code out old k.place k.many k.next rest new now → SeeksPlace t code out old k.place k.many k.next rest new now
   seeks_all e s = subst (λ p. SeeksObjects t code out old p k.many k.next rest new now → SeeksPlace t code out old p k.many k.next rest new now) (sym e) (λ f g is_of l m vs at h refs w. f g is_of l m vs refl at h refs w) s
@@ -240,7 +240,7 @@ module _ (t : Tables) (code : Code) (out : Outside) (old new : Memory) (now : No
 
     -- a flag
     flag_is : (b : Bool) → Some Flag ≡ slice_get t.kinds.items place → ((o : Outline) (facts : List Fact) → StandsFor out.world o facts → IsKind o place Flag → b ≡ is_some (value_at facts place 0)) → Around out g l m → seeks (setting g code l) (find_of k.place vs k.many k.next) (asked_at g [] k.place vs m) m ≡ if_passed b m
-    flag_is b e h w = place_so (Some Flag) e ∙ ap (λ c. if_passed c m) (sym (h (outline g.program out.world.area.keep) m.outside.facts w.0.0.stands (kind_here Flag e)))
+    flag_is b e h w = place_so (Some Flag) e ∙ ap (λ c. if_passed c m) (sym (h (outline g.program out.world.area.keep) m.lasting.facts w.0.0.stands (kind_here Flag e)))
 
     pub asks_set : (rest' : Bor (List Op)) (b : Bool) → b ≡ true → Some Flag ≡ slice_get t.kinds.items place → ((o : Outline) (facts : List Fact) → StandsFor out.world o facts → IsKind o place Flag → b ≡ is_some (value_at facts place 0)) → CodeIs rest'.now m → Holds code l old m → Around out g l m →
         Stands code l old (Runs rest') (seeks (setting g code l) (find_of k.place vs k.many k.next) (asked_at g [] k.place vs m) m)

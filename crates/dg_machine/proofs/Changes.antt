@@ -20,9 +20,9 @@ use Rattle.dg_world.specs.Worlds.{StandsFor}
 use Rattle.dg_world.specs.declared.change.KeepFull.{KeepFull}
 use Rattle.dg_world.specs.declared.world.World.{World as FactsWorld}
 use Rattle.dg_lists.specs.Formed.{IsFormed}
-use Rattle.dg_outside.specs.Outside.{outline}
-use Rattle.dg_outside.specs.Changing.{all_in_store, SetsFormed, Became}
-use Rattle.dg_outside.specs.declared.outside.Outside.{Outside}
+use Rattle.dg_lasting.specs.Lasting.{outline}
+use Rattle.dg_lasting.specs.Changing.{all_in_store, SetsFormed, Became}
+use Rattle.dg_lasting.specs.declared.lasting.Lasting.{Lasting}
 use Rattle.dg_unify.specs.Store.{State, Store, told}
 use Rattle.dg_unify.specs.declared.bindings.Ref.{Ref}
 use Rattle.dg_unify.proofs.StoreLemmas.{told_is}
@@ -62,9 +62,9 @@ all_told S s (r ∷ rs) [] h = absurd h
 
 -- a machine in which these are set
 abbrev pub with_facts : List Fact → Mid → Mid
-with_facts facts m = record m { outside = record m.outside { facts = facts } }
+with_facts facts m = record m { lasting = record m.lasting { facts = facts } }
 
-module _ (code : Code) (g : Game) (l : Limits) (m : Mid) (out out' : Outside) (others : out' ≡ record out { world = out'.world; row = out'.row }) (row_is : length out'.row.items ≡ length out.row.items) (limit : out'.world.area.keep ≡ out.world.area.keep) (w : Around out g l m) where
+module _ (code : Code) (g : Game) (l : Limits) (m : Mid) (out out' : Lasting) (others : out' ≡ record out { world = out'.world; row = out'.row }) (row_is : length out'.row.items ≡ length out.row.items) (limit : out'.world.area.keep ≡ out.world.area.keep) (w : Around out g l m) where
   abbrev kept_o : ℕ
   kept_o = out.world.area.keep
 
@@ -72,41 +72,41 @@ module _ (code : Code) (g : Game) (l : Limits) (m : Mid) (out out' : Outside) (o
   same_around e =
       let v = w.0 in
       subst (λ x. Around x g l m) (sym others)
-      ((record { stands = subst (λ (f : FactsWorld). StandsFor f (outline g.program f.area.keep) m.outside.facts) (sym e) v.0.stands; formed = v.0.formed; room = row_is ∙ v.0.room ∙ sym limit }, v.1, v.2, v.3), limit ∙ w.1, w.2)
+      ((record { stands = subst (λ (f : FactsWorld). StandsFor f (outline g.program f.area.keep) m.lasting.facts) (sym e) v.0.stands; formed = v.0.formed; room = row_is ∙ v.0.room ∙ sym limit }, v.1, v.2, v.3), limit ∙ w.1, w.2)
 
-  changed_around : (a : Alteration) → StandsFor out'.world (outline g.program kept_o) (altered a m.outside.facts) → SetsFormed a → Around out' g l (with_facts (altered a m.outside.facts) m)
+  changed_around : (a : Alteration) → StandsFor out'.world (outline g.program kept_o) (altered a m.lasting.facts) → SetsFormed a → Around out' g l (with_facts (altered a m.lasting.facts) m)
   changed_around a stands formed =
       let v = w.0 in
-      subst (λ x. Around x g l (with_facts (altered a m.outside.facts) m)) (sym others)
-      ((record { stands = subst (λ k. StandsFor out'.world (outline g.program k) (altered a m.outside.facts)) (sym limit) stands; formed = altered_formed a m.outside.facts formed v.0.formed; room = row_is ∙ v.0.room ∙ sym limit }, v.1, v.2, v.3), limit ∙ w.1, w.2)
+      subst (λ x. Around x g l (with_facts (altered a m.lasting.facts) m)) (sym others)
+      ((record { stands = subst (λ k. StandsFor out'.world (outline g.program k) (altered a m.lasting.facts)) (sym limit) stands; formed = altered_formed a m.lasting.facts formed v.0.formed; room = row_is ∙ v.0.room ∙ sym limit }, v.1, v.2, v.3), limit ∙ w.1, w.2)
 
   abbrev size_of : Alteration → ℕ
-  size_of a = max 0 (kept_size (kinds_of g.program) (altered a m.outside.facts))
+  size_of a = max 0 (kept_size (kinds_of g.program) (altered a m.lasting.facts))
 
   abbrev act_of : PlaceKind → ℕ → Option Alteration → Status
   act_of k looks a = done (setting g code l) (changes g k a [] (worked looks (world_of [] m))) m
 
-  pub change_on : (new : Memory) (rest : Bor (List Op)) (k : PlaceKind) (looks : ℕ) (a : Option Alteration) → CodeIs rest.now m → Holds code l new m → Became (outline g.program kept_o) m.outside.facts a out.world out'.world (Ok true) → StandsWith code g l new (Runs rest) out' (act_of k looks a)
+  pub change_on : (new : Memory) (rest : Bor (List Op)) (k : PlaceKind) (looks : ℕ) (a : Option Alteration) → CodeIs rest.now m → Holds code l new m → Became (outline g.program kept_o) m.lasting.facts a out.world out'.world (Ok true) → StandsWith code g l new (Runs rest) out' (act_of k looks a)
   change_on new rest k looks None at held h = absurd h
   change_on new rest k looks (Some a) at held h =
       let within = h.0.within in
       let keep = w.1 in
       let le : size_of a ≤ l.keep = omega (arith, within, keep) in
-      subst (StandsWith code g l new (Runs rest) out') (sym (cond-false (nat_lt l.keep (size_of a)) (EndedOf ending.KeepLimit) (RunsOf (with_facts (altered a m.outside.facts) m)) (le-ltb l.keep (size_of a) le)))
-      (record { stands = (at, held); outside = changed_around a h.0 h.1 })
+      subst (StandsWith code g l new (Runs rest) out') (sym (cond-false (nat_lt l.keep (size_of a)) (EndedOf ending.KeepLimit) (RunsOf (with_facts (altered a m.lasting.facts) m)) (le-ltb l.keep (size_of a) le)))
+      (record { stands = (at, held); lasting = changed_around a h.0 h.1 })
 
-  pub change_not : (new : Memory) (k : PlaceKind) (looks : ℕ) (a : Option Alteration) → Holds code l new m → Became (outline g.program kept_o) m.outside.facts a out.world out'.world (Ok false) → StandsWith code g l new Fails out' (act_of k looks a)
-  change_not new k looks None held h = record { stands = held; outside = same_around h }
+  pub change_not : (new : Memory) (k : PlaceKind) (looks : ℕ) (a : Option Alteration) → Holds code l new m → Became (outline g.program kept_o) m.lasting.facts a out.world out'.world (Ok false) → StandsWith code g l new Fails out' (act_of k looks a)
+  change_not new k looks None held h = record { stands = held; lasting = same_around h }
   change_not new k looks (Some a) held h = absurd h
 
-  pub change_full : (new : Memory) (k : PlaceKind) (looks : ℕ) (a : Option Alteration) (e : KeepFull) → Roomy l new → Became (outline g.program kept_o) m.outside.facts a out.world out'.world (Err e) → StandsWith code g l new (Ended ending.KeepLimit) out' (act_of k looks a)
+  pub change_full : (new : Memory) (k : PlaceKind) (looks : ℕ) (a : Option Alteration) (e : KeepFull) → Roomy l new → Became (outline g.program kept_o) m.lasting.facts a out.world out'.world (Err e) → StandsWith code g l new (Ended ending.KeepLimit) out' (act_of k looks a)
   change_full new k looks None e room h = absurd h
   change_full new k looks (Some a) e room h =
       let over = h.0 in
       let keep = w.1 in
       let lt : l.keep < size_of a = omega (arith, over, keep) in
-      subst (StandsWith code g l new (Ended ending.KeepLimit) out') (sym (cond-true (nat_lt l.keep (size_of a)) (EndedOf ending.KeepLimit) (RunsOf (with_facts (altered a m.outside.facts) m)) (lt-ltb l.keep (size_of a) lt)))
-      (record { stands = (refl, room); outside = tt })
+      subst (StandsWith code g l new (Ended ending.KeepLimit) out') (sym (cond-true (nat_lt l.keep (size_of a)) (EndedOf ending.KeepLimit) (RunsOf (with_facts (altered a m.lasting.facts) m)) (lt-ltb l.keep (size_of a) lt)))
+      (record { stands = (refl, room); lasting = tt })
 
 -- what became of a change with the values of Refs
 pub became_in : (g : Game) (n : ℕ) (k : PlaceKind) (place : ℕ) (sets : Bool) (s : Store) (args refs : List Ref) (vs : List Value) (m : Mid) (o : Outline) (facts : List Fact) (before after : FactsWorld) (b b' : Answer Bool KeepFull) → n ≡ length g.program.objects → args ≡ refs → RefsAt s refs vs → s.state ≡ m.state → b ≡ b' →

@@ -13,7 +13,7 @@ use Rattle.dg_mid.specs.declared.code.Op.TheVariants as op
 use Rattle.dg_mid.specs.declared.code.Action.{Action}
 use Rattle.dg_mid.specs.declared.code.Code.{Code}
 use Rattle.dg_mid.specs.Actions.{terms_of, act_at, registers_of}
-use Rattle.dg_mid.specs.Reads.{outside_of}
+use Rattle.dg_mid.specs.Reads.{lasting_of}
 use Rattle.dg_mid.specs.State.{Mid, Runs as RunsOf, Fails as FailsOf}
 use Rattle.dg_mid.specs.Step.{Setting, setting, more, bound, done, does, if_passed, unified}
 use Rattle.dg_machine.specs.declared.now.Now.{Now}
@@ -25,9 +25,9 @@ use Rattle.dg_machine.proofs.Leads.{charged_led, full_stands}
 use Rattle.dg_machine.proofs.Unifying.{done_unifies}
 
 -- what is calculated is unified
-module _ (g : Setting) (w : Value) (m : Mid) (world : World) (is : outside_of world ≡ m.outside) where
+module _ (g : Setting) (w : Value) (m : Mid) (world : World) (is : lasting_of world ≡ m.lasting) where
   pub gives_none : (o : Option ℕ) → None ≡ o → done g (gives_number o w (registers_of m) world) m ≡ FailsOf m
-  gives_none o e = ap (λ x. done g (gives_number x w (registers_of m) world) m) (sym e) ∙ ap (λ o. FailsOf (record m { outside = o })) is
+  gives_none o e = ap (λ x. done g (gives_number x w (registers_of m) world) m) (sym e) ∙ ap (λ o. FailsOf (record m { lasting = o })) is
 
   pub gives_some : (o : Option ℕ) (n : ℕ) → Some n ≡ o → done g (gives_number o w (registers_of m) world) m ≡ unified g (unify m.state.subst w (leaf (Num n))) m (RunsOf (bound (unify m.state.subst w (leaf (Num n))) m))
   gives_some o n e = ap (λ x. done g (gives_number x w (registers_of m) world) m) (sym e) ∙ done_unifies g ((w, leaf (Num n)) ∷ []) m world is

@@ -18,8 +18,8 @@ use Rattle.dg_unify.specs.declared.bindings.Ref.{Ref}
 use Rattle.dg_unify.proofs.StoreLemmas.{kept_same, told_is}
 use Rattle.dg_arena.specs.declared.arena.Arena.{Arena}
 use Rattle.dg_arena.specs.Held.{meaning_of, saves_of}
-use Rattle.dg_outside.specs.Outside.{InWorld, row_of, OpensOne, OpensTooMuch, Gathers, GathersTooMuch}
-use Rattle.dg_outside.specs.declared.outside.Outside.{Outside}
+use Rattle.dg_lasting.specs.Lasting.{InWorld, row_of, OpensOne, OpensTooMuch, Gathers, GathersTooMuch}
+use Rattle.dg_lasting.specs.declared.lasting.Lasting.{Lasting}
 use Rattle.dg_mid.specs.declared.code.Code.{Code}
 use Rattle.dg_mid.specs.declared.code.Op.{Op}
 use Rattle.dg_mid.specs.Actions.{world_of}
@@ -32,7 +32,7 @@ use Rattle.dg_machine.specs.Links.{named}
 use Rattle.dg_machine.specs.Refs.{RefsAt}
 use Rattle.dg_machine.specs.Stops.{tags_of}
 use Rattle.dg_machine.specs.Layout.{KeptAt, InnersAt, HasRoom, Holds}
-use Rattle.dg_machine.specs.Standing.{Around, HasOutside, FallsWith}
+use Rattle.dg_machine.specs.Standing.{Around, HasLasting, FallsWith}
 use Rattle.dg_machine.proofs.Hands.{some_inner, no_inner}
 use Rattle.dg_machine.proofs.Opens.{on_arena, roomy}
 
@@ -49,7 +49,7 @@ gathered_held code l m gs r n h e = (
 )
 
 -- as many rows are there as gatherings are open
-pub rows_are : (out : Outside) (g : Game) (l : Limits) (m : Mid) → Around out g l m → length out.gathered.rows ≡ length m.gathered
+pub rows_are : (out : Lasting) (g : Game) (l : Limits) (m : Mid) → Around out g l m → length out.gathered.rows ≡ length m.gathered
 rows_are out g l m w = ap length w.0.1.0 ∙ length-map m.gathered row_of
 
 pub both_taken : (s : Store) (refs : List Ref) (v into : Value) → RefsAt s refs (v ∷ into ∷ []) → RefsAt s (take 2 refs) (v ∷ into ∷ [])
@@ -64,7 +64,7 @@ two_refs s (a ∷ []) v into h = absurd h.1
 two_refs s (a ∷ b ∷ []) v into h = refl
 two_refs s (a ∷ b ∷ c ∷ refs) v into h = absurd h.1.1
 
-module _ (code : Code) (g : Game) (l : Limits) (m : Mid) (out out' : Outside) (w : Around out g l m) where
+module _ (code : Code) (g : Game) (l : Limits) (m : Mid) (out out' : Lasting) (w : Around out g l m) where
   pub opened_fits : OpensOne out out' → (next : Status) → gathers (setting g code l) (with_gathering m).gathered next ≡ next
   opened_fits one next =
       let fits = one.fits g (world_of [] m) m.next_tag w.0 in
@@ -78,17 +78,17 @@ module _ (code : Code) (g : Game) (l : Limits) (m : Mid) (out out' : Outside) (w
       cond-true (nat_lt l.aux (gathered_size (with_gathering m).gathered)) (EndedOf ending.AuxLimit) next (lt-ltb l.aux (gathered_size (with_gathering m).gathered) (omega (arith, over, aux)))
 
   pub opened_around : OpensOne out out' → Around out' g l (with_gathering m)
-  opened_around one = (one.stands g (world_of [] m) m.next_tag w.0, ap (λ (o : Outside). o.world.area.keep) one.is ∙ w.1, ap (λ (o : Outside). o.gathered.aux) one.is ∙ w.2)
+  opened_around one = (one.stands g (world_of [] m) m.next_tag w.0, ap (λ (o : Lasting). o.world.area.keep) one.is ∙ w.1, ap (λ (o : Lasting). o.gathered.aux) one.is ∙ w.2)
 
-module _ (out : Outside) (g : Game) (l : Limits) where
-  if_outside : (b : Bool) (e : Ending) (s : Status) → HasOutside out g l s → HasOutside out g l (if b then EndedOf e else s)
-  if_outside true e s h = tt
-  if_outside false e s h = h
+module _ (out : Lasting) (g : Game) (l : Limits) where
+  if_lasting : (b : Bool) (e : Ending) (s : Status) → HasLasting out g l s → HasLasting out g l (if b then EndedOf e else s)
+  if_lasting true e s h = tt
+  if_lasting false e s h = h
 
-  -- what is outside stands for what is behind cells
-  pub charged_outside : (code : Code) (n : ℕ) (m : Mid) (s : Status) → HasOutside out g l s → HasOutside out g l (charged (setting g code l) n m s)
-  charged_outside code zero m s h = h
-  charged_outside code (suc n) m s h = if_outside (nat_lt l.heap (m.state.heap + suc n)) ending.HeapLimit s h
+  -- what lasts stands for what is behind cells
+  pub charged_lasting : (code : Code) (n : ℕ) (m : Mid) (s : Status) → HasLasting out g l s → HasLasting out g l (charged (setting g code l) n m s)
+  charged_lasting code zero m s h = h
+  charged_lasting code (suc n) m s h = if_lasting (nat_lt l.heap (m.state.heap + suc n)) ending.HeapLimit s h
 
 -- ## A value more
 
@@ -99,7 +99,7 @@ pub as_many : (v : Value) (gs : List Gathering) → length (newest_with v gs) �
 as_many v [] = refl
 as_many v (x ∷ xs) = refl
 
-module _ (g : Game) (l : Limits) (m : Mid) (v : Value) (out out' : Outside) where
+module _ (g : Game) (l : Limits) (m : Mid) (v : Value) (out out' : Lasting) where
   abbrev with_open : List Gathering → Mid
   with_open gs = record m { gathered = gs }
 
@@ -108,7 +108,7 @@ module _ (g : Game) (l : Limits) (m : Mid) (v : Value) (out out' : Outside) wher
   kept_in (x ∷ xs) one w = subst (λ gs. InWorld out' g (world_of [] (with_open gs))) (newest_is v x xs) (one.stands g (world_of [] (with_open (x ∷ xs))) x.tag w.0 refl)
 
   pub kept_around : Gathers v out out' → Around out g l m → Around out' g l (with_open (newest_with v m.gathered))
-  kept_around one w = (kept_in m.gathered one w, ap (λ (o : Outside). o.world.area.keep) one.is ∙ w.1, ap (λ (o : Outside). o.gathered.aux) one.is ∙ w.2)
+  kept_around one w = (kept_in m.gathered one w, ap (λ (o : Lasting). o.world.area.keep) one.is ∙ w.1, ap (λ (o : Lasting). o.gathered.aux) one.is ∙ w.2)
 
   fits_in : (gs : List Gathering) → Gathers v out out' → Around out g l (with_open gs) → gathered_size (newest_with v gs) ≤ out.gathered.aux
   fits_in [] one w = omega arith
@@ -177,10 +177,10 @@ kept_at code l m r h inner there value some =
     let x = some_inner (meaning_of r.arena) (tags_of m.stops) r.inners.items r.inner inner m.inner there h.0.inner_are in
     is_some (meaning_of r.arena) value x.innermost.gathers (subst (λ o. KeptAt (meaning_of r.arena) o x.innermost.gathers) some x.kept)
 
-module _ (code : Code) (g : Game) (l : Limits) (m : Mid) (out : Outside) (r : Memory) (ops : Bor (List Op)) (h : Holds code l r m) (w : Around out g l m) where
+module _ (code : Code) (g : Game) (l : Limits) (m : Mid) (out : Lasting) (r : Memory) (ops : Bor (List Op)) (h : Holds code l r m) (w : Around out g l m) where
   pub kept_nowhere : named r.inners.items r.inner ≡ None → FallsWith code g l r (Runs ops) r Fails out (keeps (setting g code l) m.inner m)
   kept_nowhere none = subst (λ ps. FallsWith code g l r (Runs ops) r Fails out (keeps (setting g code l) ps m)) (sym (no_inner (meaning_of r.arena) (tags_of m.stops) r.inners.items r.inner m.inner none h.0.inner_are))
-      (record { done = record { stands = h; falls = omega arith }; outside = w })
+      (record { done = record { stands = h; falls = omega arith }; lasting = w })
 
   module _ (inner : Inner) (there : named r.inners.items r.inner ≡ Some inner) where
     pub kept_nothing : inner.kept ≡ None → FallsWith code g l r (Runs ops) (record r { inner = inner.around }) Fails out (keeps (setting g code l) m.inner m)
@@ -189,9 +189,9 @@ module _ (code : Code) (g : Game) (l : Limits) (m : Mid) (out : Outside) (r : Me
         let nothing : x.innermost.gathers ≡ None = is_none (meaning_of r.arena) x.innermost.gathers (subst (λ o. KeptAt (meaning_of r.arena) o x.innermost.gathers) none x.kept) in
         subst (λ ps. FallsWith code g l r (Runs ops) (record r { inner = inner.around }) Fails out (keeps (setting g code l) ps m)) (sym x.is)
         (subst (λ o. FallsWith code g l r (Runs ops) (record r { inner = inner.around }) Fails out (keeps_value (setting g code l) o (record m { inner = x.around }))) (sym nothing)
-        (record { done = record { stands = inner_left code l m r inner x.around h x.around_is; falls = omega arith }; outside = w }))
+        (record { done = record { stands = inner_left code l m r inner x.around h x.around_is; falls = omega arith }; lasting = w }))
 
-    module _ (value : Ref) (some : inner.kept ≡ Some value) (out' : Outside) (a : Arena) (same : meaning_of a ≡ meaning_of r.arena) (saved : (ms : List Saved) → saves_of r.arena ms → saves_of a ms) where
+    module _ (value : Ref) (some : inner.kept ≡ Some value) (out' : Lasting) (a : Arena) (same : meaning_of a ≡ meaning_of r.arena) (saved : (ms : List Saved) → saves_of r.arena ms → saves_of a ms) where
       abbrev kept_v : Value
       kept_v = resolved m.state.subst (kept_at code l m r h inner there value some).value
 
@@ -223,11 +223,11 @@ module _ (code : Code) (g : Game) (l : Limits) (m : Mid) (out : Outside) (r : Me
           let count = as_many kept_v m.gathered in
           let held : Holds code l r_kept (record m_left { gathered = gs }) = (left_held.0, count ∙ h.1) in
           subst (FallsWith code g l r (Runs ops) r_kept Fails out') (sym (keeps_is ∙ kept_fits g l m kept_v out out' code w (FailsOf (record m_left { gathered = gs })) one))
-          (record { done = record { stands = held; falls = omega arith }; outside = kept_around g l m kept_v out out' one w })
+          (record { done = record { stands = held; falls = omega arith }; lasting = kept_around g l m kept_v out out' one w })
 
       pub kept_too_much : GathersTooMuch (value_at (meaning_of r.arena) value) out → FallsWith code g l r (Runs ops) r_kept (Ended ending.AuxLimit) out' (keeps (setting g code l) m.inner m)
       kept_too_much over =
           let full = subst (λ v. GathersTooMuch v out) same_value over in
           let gs = newest_with kept_v m.gathered in
           subst (FallsWith code g l r (Runs ops) r_kept (Ended ending.AuxLimit) out') (sym (keeps_is ∙ kept_over g l m kept_v out out' code w (FailsOf (record m_left { gathered = gs })) full))
-          (record { done = record { stands = (refl, roomy code l m_left r_kept left_held); falls = omega arith }; outside = tt })
+          (record { done = record { stands = (refl, roomy code l m_left r_kept left_held); falls = omega arith }; lasting = tt })

@@ -20,7 +20,7 @@ use Rattle.dg_meaning.specs.Facts.{Alteration, kinds_of}
 use Rattle.dg_base.specs.declared.program.PlaceKind.{PlaceKind}
 use Rattle.dg_base.specs.declared.program.Mode.{Mode}
 use Rattle.std.specs.Prelude.{slice_get}
-use Rattle.dg_outside.specs.declared.outside.Outside.{Outside}
+use Rattle.dg_lasting.specs.declared.lasting.Lasting.{Lasting}
 use Rattle.dg_mid.specs.Actions.{terms_of, registers_of, world_of, said_by}
 use Rattle.dg_base.specs.declared.run.Limits.{Limits}
 use Rattle.dg_base.specs.declared.run.Ending.{Ending}
@@ -54,7 +54,7 @@ use Rattle.dg_machine.specs.Tables.{IsOf}
 use Rattle.dg_machine.specs.Built.{OpBuilt, OpsBuilt, IsBuilt, IsQuiet, IsQuietOp}
 use Rattle.dg_machine.specs.Layout.{HasRoom, HasPut, Holds, Roomy}
 use Rattle.dg_machine.specs.Measure.{with_way}
-use Rattle.dg_machine.specs.Standing.{CodeIs, Stands, Falls, DoesOp, DoesMark, Asks, AsksLast, EntersRule, IsThere, GoesOn, KeepsOne, FailsTo, LeavesAround, HasStatus, Around, HasOutside, StandsWith}
+use Rattle.dg_machine.specs.Standing.{CodeIs, Stands, Falls, DoesOp, DoesMark, Asks, AsksLast, EntersRule, IsThere, GoesOn, KeepsOne, FailsTo, LeavesAround, HasStatus, Around, HasLasting, StandsWith}
 use Rattle.dg_machine.specs.inside.Reading.{ReadsNone}
 use Rattle.dg_machine.specs.inside.Running.{rests, DoesMarks, HasText, GoalDone, GoalLost}
 use Rattle.std.proofs.Common.{map}
@@ -67,7 +67,7 @@ use Rattle.dg_machine.specs.Refs.{AreRefs}
 use Rattle.dg_machine.proofs.Opens.{roomy}
 use Rattle.dg_machine.proofs.Hands.{nothing_more, no_jump}
 use Rattle.dg_machine.proofs.Leads.{charged_led}
-use Rattle.dg_machine.proofs.Outsides.{DrawsNone, quiet_draws, run_outside, enter_outside}
+use Rattle.dg_machine.proofs.Lasting.{DrawsNone, quiet_draws, run_lasting, enter_lasting}
 use Rattle.dg_machine.proofs.Leaving.{block_is}
 use Rattle.dg_texts.proofs.Texts.{render_grows}
 use Rattle.dg_machine.proofs.Prints.{said_done, said_lost}
@@ -119,61 +119,61 @@ quiet_mark : (g : Setting) (m : Mid) (x : Op) (rest : List Op) → is_goal x ≡
 quiet_mark g m (op.Do a) rest e = absurd (cc)
 quiet_mark g m x rest e = refl
 
-pub marks_run : (tb : Tables) (code : Code) (old new : Memory) (out : Outside) (now : Now) (ops : Bor (List Op)) (x : Op) (rest : List Op) → ops.now ≡ x ∷ rest → is_goal x ≡ false → IsQuietOp x → DoesMark code old ops x rest new now → DoesMarks tb code old out (Runs ops) new out now
+pub marks_run : (tb : Tables) (code : Code) (old new : Memory) (out : Lasting) (now : Now) (ops : Bor (List Op)) (x : Op) (rest : List Op) → ops.now ≡ x ∷ rest → is_goal x ≡ false → IsQuietOp x → DoesMark code old ops x rest new now → DoesMarks tb code old out (Runs ops) new out now
 marks_run tb code old new out now ops x rest split e quiet does g is_of l (RunsOf m) o sk t h w =
     let is : m.ops ≡ x ∷ rest = h.0.0 ∙ split in
     let built : OpsBuilt (x ∷ rest) = subst OpsBuilt split h.0.1 in
     let done = does g l (record m { ops = rest }) o built.0 (refl, built.1) h.1 in
     record {
       stands = subst (λ xs. Stands code l new now (runs (setting g code l) xs m)) (sym is) done.stands;
-      outside = subst (λ xs. HasOutside out g l (runs (setting g code l) xs m)) (sym is) (run_outside out g l code x (record m { ops = rest }) built.0 (quiet_draws x quiet) w);
+      lasting = subst (λ xs. HasLasting out g l (runs (setting g code l) xs m)) (sym is) (run_lasting out g l code x (record m { ops = rest }) built.0 (quiet_draws x quiet) w);
       falls = λ over. done.falls;
       quiet = ap (λ ps. said_to ps (step (setting g code l) (RunsOf m))) (ap (said_in (setting g code l) m) is ∙ quiet_mark (setting g code l) m x rest e);
     }
 marks_run tb code old new out now ops x rest split e quiet does g is_of l s o sk t h w = absurd h
 
 -- what is gathered is kept
-pub marks_keep : (tb : Tables) (code : Code) (old new : Memory) (out out' : Outside) (now : Now) (ops : Bor (List Op)) (t : Term) (rest : List Op) → ops.now ≡ op.Keep t ∷ rest → KeepsOne code old out ops new now out' → DoesMarks tb code old out (Runs ops) new out' now
+pub marks_keep : (tb : Tables) (code : Code) (old new : Memory) (out out' : Lasting) (now : Now) (ops : Bor (List Op)) (t : Term) (rest : List Op) → ops.now ≡ op.Keep t ∷ rest → KeepsOne code old out ops new now out' → DoesMarks tb code old out (Runs ops) new out' now
 marks_keep tb code old new out out' now ops t rest split keeps g is_of l (RunsOf m) o sk e h w =
     let is : m.ops ≡ op.Keep t ∷ rest = h.0.0 ∙ split in
     let kept = keeps g l (record m { ops = rest }) h.1 w in
     record {
       stands = subst (λ xs. Stands code l new now (runs (setting g code l) xs m)) (sym is) kept.done.stands;
-      outside = subst (λ xs. HasOutside out' g l (runs (setting g code l) xs m)) (sym is) kept.outside;
+      lasting = subst (λ xs. HasLasting out' g l (runs (setting g code l) xs m)) (sym is) kept.lasting;
       falls = λ over. kept.done.falls;
       quiet = ap (λ ps. said_to ps (step (setting g code l) (RunsOf m))) (ap (said_in (setting g code l) m) is);
     }
 marks_keep tb code old new out out' now ops t rest split keeps g is_of l s o sk e h w = absurd h
 
-pub marks_none : (tb : Tables) (code : Code) (r : Memory) (out : Outside) (ops : Bor (List Op)) → length ops.now < 1 → DoesMarks tb code r out (Runs ops) r out Fails
+pub marks_none : (tb : Tables) (code : Code) (r : Memory) (out : Lasting) (ops : Bor (List Op)) → length ops.now < 1 → DoesMarks tb code r out (Runs ops) r out Fails
 marks_none tb code r out ops lt g is_of l (RunsOf m) o sk t h w =
     let none : m.ops ≡ [] = h.0.0 ∙ empty_list ops.now lt in
     record {
       stands = subst (λ xs. Stands code l r Fails (runs (setting g code l) xs m)) (sym none) h.1;
-      outside = subst (λ xs. HasOutside out g l (runs (setting g code l) xs m)) (sym none) w;
+      lasting = subst (λ xs. HasLasting out g l (runs (setting g code l) xs m)) (sym none) w;
       falls = λ over. omega arith;
       quiet = ap (λ ps. said_to ps (step (setting g code l) (RunsOf m))) (ap (said_in (setting g code l) m) none);
     }
 marks_none tb code r out ops lt g is_of l s o sk t h w = absurd h
 
-pub marks_enter : (tb : Tables) (code : Code) (old new : Memory) (out : Outside) (now : Now) (ops : Bor (List Op)) → EntersRule tb code old old.call ops new now → DoesMarks tb code old out (Enters ops) new out now
-marks_enter tb code old new out now ops enters g is_of l (EntersOf c m) o sk t h w = let done = enters g is_of l m c h.0 h.1 h.2 in record { stands = done.stands; outside = enter_outside out g l code c m w; falls = λ over. done.falls; quiet = refl }
+pub marks_enter : (tb : Tables) (code : Code) (old new : Memory) (out : Lasting) (now : Now) (ops : Bor (List Op)) → EntersRule tb code old old.call ops new now → DoesMarks tb code old out (Enters ops) new out now
+marks_enter tb code old new out now ops enters g is_of l (EntersOf c m) o sk t h w = let done = enters g is_of l m c h.0 h.1 h.2 in record { stands = done.stands; lasting = enter_lasting out g l code c m w; falls = λ over. done.falls; quiet = refl }
 marks_enter tb code old new out now ops enters g is_of l s o sk t h w = absurd h
 
-pub marks_resume : (tb : Tables) (code : Code) (old new : Memory) (out out' : Outside) (now : Now) → GoesOn code old out old.way new now out' → DoesMarks tb code old out Resumes new out' now
-marks_resume tb code old new out out' now goes g is_of l (ResumesOf on m) o sk t h w = let gone = goes g l m on sk.0 h.0 h.1 w in record { stands = gone.done.stands; outside = gone.outside; falls = λ over. gone.done.falls; quiet = refl }
+pub marks_resume : (tb : Tables) (code : Code) (old new : Memory) (out out' : Lasting) (now : Now) → GoesOn code old out old.way new now out' → DoesMarks tb code old out Resumes new out' now
+marks_resume tb code old new out out' now goes g is_of l (ResumesOf on m) o sk t h w = let gone = goes g l m on sk.0 h.0 h.1 w in record { stands = gone.done.stands; lasting = gone.lasting; falls = λ over. gone.done.falls; quiet = refl }
 marks_resume tb code old new out out' now goes g is_of l s o sk t h w = absurd h
 
-pub marks_fail : (tb : Tables) (code : Code) (old new : Memory) (out out' : Outside) (now : Now) → FailsTo code old out new now out' → DoesMarks tb code old out Fails new out' now
-marks_fail tb code old new out out' now fails g is_of l (FailsOf m) o sk t h w = let failed = fails g l m h w in record { stands = failed.done.stands; outside = failed.outside; falls = λ over. failed.done.falls; quiet = refl }
+pub marks_fail : (tb : Tables) (code : Code) (old new : Memory) (out out' : Lasting) (now : Now) → FailsTo code old out new now out' → DoesMarks tb code old out Fails new out' now
+marks_fail tb code old new out out' now fails g is_of l (FailsOf m) o sk t h w = let failed = fails g l m h w in record { stands = failed.done.stands; lasting = failed.lasting; falls = λ over. failed.done.falls; quiet = refl }
 marks_fail tb code old new out out' now fails g is_of l s o sk t h w = absurd h
 
-pub marks_leave : (tb : Tables) (code : Code) (old new : Memory) (out : Outside) (now : Now) (height : ℕ) (ops : Bor (List Op)) → LeavesAround code old height ops new now → DoesMarks tb code old out (Leaves height ops) new out now
+pub marks_leave : (tb : Tables) (code : Code) (old new : Memory) (out : Lasting) (now : Now) (height : ℕ) (ops : Bor (List Op)) → LeavesAround code old height ops new now → DoesMarks tb code old out (Leaves height ops) new out now
 marks_leave tb code old new out now height ops leaves g is_of l (RunsOf m) o sk t h w =
     let done = leaves g l m o h in
     record {
       stands = done.stands;
-      outside = subst (λ xs. HasOutside out g l (runs (setting g code l) xs m)) (sym h.0.0) (run_outside out g l code op.Commit (record m { ops = ops.now }) tt tt w);
+      lasting = subst (λ xs. HasLasting out g l (runs (setting g code l) xs m)) (sym h.0.0) (run_lasting out g l code op.Commit (record m { ops = ops.now }) tt tt w);
       falls = λ over. done.falls;
       quiet = ap (λ ps. said_to ps (step (setting g code l) (RunsOf m))) (ap (said_in (setting g code l) m) h.0.0);
     }
@@ -184,11 +184,11 @@ back_within : (cs : List ChoiceOf) (ps : List Place) (m : Mid) → goes_back cs 
 back_within [] ps m = refl
 back_within (c ∷ cs) ps m = refl
 
-pub marks_miss : (tb : Tables) (code : Code) (old new : Memory) (out out' : Outside) (now : Now) → FailsTo code old out new now out' → DoesMarks tb code old out Misses new out' now
+pub marks_miss : (tb : Tables) (code : Code) (old new : Memory) (out out' : Lasting) (now : Now) → FailsTo code old out new now out' → DoesMarks tb code old out Misses new out' now
 marks_miss tb code old new out out' now fails g is_of l (FailsOf m) o sk t h w =
     let failed = fails g l (record m { inner = h.around }) h.held w in
     let same = back_within m.choices h.around m in
-    record { stands = subst (Stands code l new now) same failed.done.stands; outside = subst (HasOutside out' g l) same failed.outside; falls = λ over. failed.done.falls; quiet = refl }
+    record { stands = subst (Stands code l new now) same failed.done.stands; lasting = subst (HasLasting out' g l) same failed.lasting; falls = λ over. failed.done.falls; quiet = refl }
 marks_miss tb code old new out out' now fails g is_of l s o sk t h w = absurd h
 
 -- ## What memory holds before a step
@@ -346,7 +346,7 @@ quiet_random g m a b into rest =
     let m' = more (cells g.game.program (terms_of (action.Random a b into))) m in
     let v = value_of g.game.program (vars_of m.frames) a in
     let u = value_of g.game.program (vars_of m.frames) b in
-    quiet_throws (of_numbers (thrown (die g.game.dice m.outside.dice)) (walk m.state.subst v) (walk m.state.subst u)) (value_of g.game.program (vars_of m.frames) into) (registers_of m') (worked (looked_up (registers_of m') v + looked_up (registers_of m') u) (world_of [] m'))
+    quiet_throws (of_numbers (thrown (die g.game.dice m.lasting.dice)) (walk m.state.subst v) (walk m.state.subst u)) (value_of g.game.program (vars_of m.frames) into) (registers_of m') (worked (looked_up (registers_of m') v + looked_up (registers_of m') u) (world_of [] m'))
 
 quiet_alters : (g : Game) (k : PlaceKind) (a : Option Alteration) (w : World) → said_by (changes g k a [] w) ≡ prints w.events
 quiet_alters g k None w = refl
@@ -410,23 +410,23 @@ module _ (tb : Tables) (code : Code) (g : Game) (is_of : IsOf g.program tb) (l :
   built_here : OpsBuilt (x ∷ rest)
   built_here = subst OpsBuilt split at.1
 
-  -- an instruction that prints nothing here, with what is outside behind it
-  pub silent_with : (s : Spacer) (k : SinkView) (out : Outside) → said_in set m (x ∷ rest) ≡ [] → StandsWith code g l new now out (does set x (record m { ops = rest })) → GoalDone code g l new out now s s k k m
+  -- an instruction that prints nothing here, with what lasts behind it
+  pub silent_with : (s : Spacer) (k : SinkView) (out : Lasting) → said_in set m (x ∷ rest) ≡ [] → StandsWith code g l new now out (does set x (record m { ops = rest })) → GoalDone code g l new out now s s k k m
   silent_with s k out silent with_it =
       let none : said set (RunsOf m) ≡ [] = ap (λ ps. said_to ps (step set (RunsOf m))) (ap (said_in set m) is_first ∙ silent) in
       record {
         stands = subst (λ xs. Stands code l new now (runs set xs m)) (sym is_first) with_it.stands;
-        outside = subst (λ xs. HasOutside out g l (runs set xs m)) (sym is_first) with_it.outside;
+        lasting = subst (λ xs. HasLasting out g l (runs set xs m)) (sym is_first) with_it.lasting;
         writes = λ start ps text. subst (λ qs. HasText s start k (followed ps qs)) (sym none) text;
       }
 
-  -- the same of one that leaves what is outside
-  pub silent_done : (s : Spacer) (k : SinkView) (out : Outside) → MidOrdered m → Around out g l m → said_in set m (x ∷ rest) ≡ [] → DrawsNone x → DoesOp tb code old x rest new now → GoalDone code g l new out now s s k k m
+  -- the same of one that leaves what lasts
+  pub silent_done : (s : Spacer) (k : SinkView) (out : Lasting) → MidOrdered m → Around out g l m → said_in set m (x ∷ rest) ≡ [] → DrawsNone x → DoesOp tb code old x rest new now → GoalDone code g l new out now s s k k m
   silent_done s k out o w silent draws led =
       let stands = led g is_of l (record m { ops = rest }) o built_here.0 (refl, built_here.1) h in
-      silent_with s k out silent (record { stands = stands; outside = run_outside out g l code x (record m { ops = rest }) built_here.0 draws w })
+      silent_with s k out silent (record { stands = stands; lasting = run_lasting out g l code x (record m { ops = rest }) built_here.0 draws w })
 
-  pub quiet_done : (s : Spacer) (k : SinkView) (out : Outside) → MidOrdered m → Around out g l m → IsQuietOp x → DoesOp tb code old x rest new now → GoalDone code g l new out now s s k k m
+  pub quiet_done : (s : Spacer) (k : SinkView) (out : Lasting) → MidOrdered m → Around out g l m → IsQuietOp x → DoesOp tb code old x rest new now → GoalDone code g l new out now s s k k m
   quiet_done s k out o w quiet led = silent_done s k out o w (quiet_goal set m x rest quiet built_here.0) (quiet_draws x quiet) led
 
 said_ended : (ps : List Print) (e : Ending) → said_to ps (EndedOf e) ≡ []
@@ -434,14 +434,14 @@ said_ended [] e = refl
 said_ended (p ∷ ps) e = refl
 
 -- an instruction at which the run ends prints nothing
-pub ended_done : (code : Code) (g : Game) (l : Limits) (m : Mid) (new : Memory) (out : Outside) (e : Ending) (ops : List Op) (x : Op) (rest : List Op) (s : Spacer) (k : SinkView) → ops ≡ x ∷ rest → CodeIs ops m → does (setting g code l) x (record m { ops = rest }) ≡ EndedOf e → Roomy l new → GoalDone code g l new out (Ended e) s s k k m
+pub ended_done : (code : Code) (g : Game) (l : Limits) (m : Mid) (new : Memory) (out : Lasting) (e : Ending) (ops : List Op) (x : Op) (rest : List Op) (s : Spacer) (k : SinkView) → ops ≡ x ∷ rest → CodeIs ops m → does (setting g code l) x (record m { ops = rest }) ≡ EndedOf e → Roomy l new → GoalDone code g l new out (Ended e) s s k k m
 ended_done code g l m new out e ops x rest s k split at is room =
     let set = setting g code l in
     let ends : step set (RunsOf m) ≡ EndedOf e = ap (λ xs. runs set xs m) (at.0 ∙ split) ∙ is in
     let none : said set (RunsOf m) ≡ [] = ap (said_to (said_in set m m.ops)) ends ∙ said_ended (said_in set m m.ops) e in
     record {
       stands = subst (Stands code l new (Ended e)) (sym ends) (refl, room);
-      outside = subst (HasOutside out g l) (sym ends) tt;
+      lasting = subst (HasLasting out g l) (sym ends) tt;
       writes = λ start ps text. subst (λ qs. HasText s start k (followed ps qs)) (sym none) text;
     }
 
@@ -454,7 +454,7 @@ keeps_none g code l next = cond-false (nat_lt l.keep 0) (EndedOf ending.KeepLimi
 -- an action has taken so many cells, and goes on with what it prints
 module _ (code : Code) (g : Game) (l : Limits) (m : Mid) (r : Memory) (n : ℕ) (ops : List Op) (a : Action) (p : Print) (rest : Bor (List Op)) (split : ops ≡ op.Do a ∷ rest.now) (at : CodeIs ops m) (h : Holds code l r (more n m))
     (done_is : does (setting g code l) (op.Do a) (record m { ops = rest.now }) ≡ RunsOf (more n (record m { ops = rest.now }))) (said_is : said_in (setting g code l) m (op.Do a ∷ rest.now) ≡ p ∷ []) where
-  pub printed_done : (s s' : Spacer) (k k' : SinkView) (out : Outside) → Around out g l m → ((ps : List Print) → StandsFor s ps → StandsFor s' (ps ++ p ∷ [])) → ((ps : List Print) → StandsFor s ps → Wrote k k' (growth ps p)) → GoalDone code g l r out (Runs rest) s s' k k' m
+  pub printed_done : (s s' : Spacer) (k k' : SinkView) (out : Lasting) → Around out g l m → ((ps : List Print) → StandsFor s ps → StandsFor s' (ps ++ p ∷ [])) → ((ps : List Print) → StandsFor s ps → Wrote k k' (growth ps p)) → GoalDone code g l r out (Runs rest) s s' k k' m
   printed_done s s' k k' out w stands wrote =
       said_done code g l m r n ops a (p ∷ []) rest split at h done_is said_is s s' k k' out w
       (λ start ps text. record { stands = stands ps text.stands; wrote = subst (Wrote start k') (sym (render_grows ps p)) (wrote_on start k k' (render ps) (growth ps p) text.wrote (wrote ps text.stands)) })

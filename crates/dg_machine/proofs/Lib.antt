@@ -31,7 +31,7 @@ pub mod ListCopies
 pub mod Trying
 pub mod Answered
 pub mod Prints
-pub mod Outsides
+pub mod Lasting
 pub mod Gatherings
 mod Takings
 mod Listings

@@ -38,10 +38,10 @@ use Rattle.dg_mid.specs.declared.code.Op.TheVariants as op
 use Rattle.dg_mid.specs.declared.code.Action.TheVariants as action
 use Rattle.dg_mid.specs.Actions.{act_at, registers_of, world_of, said_by}
 use Rattle.dg_mid.specs.Left.{overfills, reads_in, reads, left_behind}
-use Rattle.dg_mid.specs.Reads.{outside_of}
+use Rattle.dg_mid.specs.Reads.{lasting_of}
 use Rattle.dg_mid.specs.State.{Mid, Status, vars_of, Runs as RunsOf, Enters as EntersOf, Resumes as ResumesOf, Fails as FailsOf, Ended as EndedOf}
 use Rattle.dg_mid.specs.Step.{Setting, setting, charged, more, done, does, runs, step, said, said_in, said_to, followed}
-use Rattle.dg_outside.specs.declared.outside.Outside.{Outside}
+use Rattle.dg_lasting.specs.declared.lasting.Lasting.{Lasting}
 use Rattle.dg_spacing.specs.declared.spacer.Spacer.{Spacer}
 use Rattle.dg_machine.specs.declared.memory.Memory.{Memory}
 use Rattle.dg_machine.specs.declared.now.Now.{Now}
@@ -52,14 +52,14 @@ use Rattle.dg_machine.specs.Layout.{Holds, HasPut, Lacks, Roomy}
 use Rattle.dg_machine.specs.inside.Reading.{line_behind}
 use Rattle.dg_machine.specs.Refs.{RefsAt}
 use Rattle.dg_machine.specs.inside.Running.{HasText, ReadsGoal, LosesLine, LosesText, BreaksGoal}
-use Rattle.dg_machine.specs.Standing.{CodeIs, Stands, HasOutside}
+use Rattle.dg_machine.specs.Standing.{CodeIs, Stands, HasLasting}
 use Rattle.dg_machine.specs.Tables.{IsOf}
 use Rattle.dg_machine.specs.Wording.{Gives}
 use Rattle.dg_machine.proofs.Compares.{act_led}
 use Rattle.dg_machine.proofs.Goals.{ended_done}
 use Rattle.dg_machine.proofs.Leads.{charged_on, charged_off}
 use Rattle.dg_machine.proofs.Opens.{fits, roomy}
-use Rattle.dg_machine.proofs.Outsides.{Has, has_charged, has_unifies, has_outside}
+use Rattle.dg_machine.proofs.Lasting.{Has, has_charged, has_unifies, has_lasting}
 use Rattle.dg_machine.proofs.Readings.{gave_nothing}
 
 pub line_on : (now : Now) → ((e : Ending) → now ≡ Ended e → ⊥) → line_behind now ≡ GapOf Line ∷ []
@@ -121,7 +121,7 @@ module _ (tb : Tables) (code : Code) (old : Memory) (ops : List Op) (t : Term) (
   reads_is g l m b at e = ap (reads_in (setting g code l) m) (at.0 ∙ split) ∙ ap not e
 
   -- the heap has no room for the term
-  pub over_goal : (out : Outside) (new : Memory) (s : Spacer) (k : SinkView) (i : SourceView) → ((l : Limits) (m : Mid) (p : CoreProgram) → IsOf p tb → Holds code l old m → Lacks (cells p (t ∷ [])) l m.state.heap new) → ReadsGoal tb code old out ops new out (Ended HeapLimit) s s k k i i
+  pub over_goal : (out : Lasting) (new : Memory) (s : Spacer) (k : SinkView) (i : SourceView) → ((l : Limits) (m : Mid) (p : CoreProgram) → IsOf p tb → Holds code l old m → Lacks (cells p (t ∷ [])) l m.state.heap new) → ReadsGoal tb code old out ops new out (Ended HeapLimit) s s k k i i
   unfolding gave_nothing
   over_goal out new s k i lacks = record {
     gave = gave_nothing i (Ended HeapLimit);
@@ -131,7 +131,7 @@ module _ (tb : Tables) (code : Code) (old : Memory) (ops : List Op) (t : Term) (
         let x = lacks l m g.program is_of held in
         let over = charged_off set n (reader m) (done set (act_at g [] (action.Input t) (more n (reader m))) (more n (reader m))) (fits code l m old held) x.over in
         let read = reads_is g l m true at (room_over set m.state.heap n (fits code l m old held) x.over) in
-        (ended_done code g l m new out HeapLimit ops (op.Do (action.Input t)) rest s k split at over x.roomy, ap (λ b. if b then behind_first m.outside.typed else m.outside.typed) read ∙ typed);
+        (ended_done code g l m new out HeapLimit ops (op.Do (action.Input t)) rest s k split at over x.roomy, ap (λ b. if b then behind_first m.lasting.typed else m.lasting.typed) read ∙ typed);
   }
 
   module _ (mid : Memory) (put : (l : Limits) (m : Mid) (p : CoreProgram) → IsOf p tb → Holds code l old m → HasPut code l (cells p (t ∷ [])) (map (value_of p (vars_of m.frames)) (t ∷ [])) m mid) where
@@ -142,14 +142,14 @@ module _ (tb : Tables) (code : Code) (old : Memory) (ops : List Op) (t : Term) (
     will_read g is_of l m at held = reads_is g l m false at (room_for (setting g code l) m.state.heap (term_cells g) (within g is_of l m held))
 
     -- no byte is left
-    pub end_goal : (out : Outside) (s : Spacer) (k : SinkView) (i i' : SourceView) → IsOver i.left i'.left → i.faults ≤ i'.faults → ReadsGoal tb code old out ops mid out (Ended InputEnded) s s k k i i'
+    pub end_goal : (out : Lasting) (s : Spacer) (k : SinkView) (i i' : SourceView) → IsOver i.left i'.left → i.faults ≤ i'.faults → ReadsGoal tb code old out ops mid out (Ended InputEnded) s s k k i i'
     end_goal out s k i i' over later = record {
       gave = record { taken = []; ended = true; over = λ e. tt; left = λ bytes none. at_end i.left over.0 bytes none; told = λ bytes none. told_none i.left i'.left over.0 over.1 bytes none; later = later };
       does = λ bytes none g is_of l m o e at held w typed.
           let set = setting g code l in
           let n = term_cells g in
           let m' = more n (reader m) in
-          let empty : m.outside.typed ≡ [] = typed ∙ none in
+          let empty : m.lasting.typed ≡ [] = typed ∙ none in
           let here = put l m g.program is_of held in
           let ends = charged_on set n (reader m) (done set (act_at g [] (action.Input t) m') m') (within g is_of l m held) ∙ ap (λ b. done set (takes_line g b (value_of g.program (vars_of m.frames) t) (registers_of m') (world_of [] m')) m') empty in
           (ended_done code g l m mid out InputEnded ops (op.Do (action.Input t)) rest s k split at ends (roomy code l (more n m) mid here.held), ap (left_behind set (RunsOf m)) empty ∙ nothing_left (reads set (RunsOf m)) ∙ sym none);
@@ -170,8 +170,8 @@ module _ (tb : Tables) (code : Code) (old : Memory) (ops : List Op) (t : Term) (
       left = took.gave;
       later = later;
       loses = λ bytes is g is_of l m at held typed start ps text.
-          let line : IsLine spelling m.outside.typed bytes = subst (λ b. IsLine spelling b bytes) (sym typed) (took.holds bytes is) in
-          (inr (broke start ps text), ap (λ b. if b then behind_first m.outside.typed else m.outside.typed) (will_read g is_of l m at held) ∙ line.behind);
+          let line : IsLine spelling m.lasting.typed bytes = subst (λ b. IsLine spelling b bytes) (sym typed) (took.holds bytes is) in
+          (inr (broke start ps text), ap (λ b. if b then behind_first m.lasting.typed else m.lasting.typed) (will_read g is_of l m at held) ∙ line.behind);
     }
 
     pub line_breaks : (s s' : Spacer) (k k' : SinkView) (i i' : SourceView) (spelling : List ℕ) (r : Result Now Fault) → Took i.left i'.left (IsLine spelling) → i.faults ≤ i'.faults → IfErr r (λ fault. (fault ≡ Write) × ((start : SinkView) (ps : List Print) → HasText s start k ps → BrokeOff start k' (render ps))) → IfErr r (λ fault. BreaksGoal fault tb code old ops s s' k k' i i')
@@ -181,35 +181,35 @@ module _ (tb : Tables) (code : Code) (old : Memory) (ops : List Op) (t : Term) (
     -- a line is read
     module _ (new : Memory) (now : Now) (into : Ref) (spelling : List ℕ) (arg : (vs : List Value) → RefsAt (meaning_of mid.arena) mid.args.items vs → (meaning_of mid.arena).value into ≡ Some (get_or vs 0 (leaf Nil)))
         (given : (letters : List ℕ) → IsShort letters → spelling ≡ encode_utf8_all letters → Gives code (spelled_list tb.words.items (spellings_of letters)) mid into rest new now) where
-      pub line_goal : (out : Outside) (s s' : Spacer) (k k' : SinkView) (i i' : SourceView) → Took i.left i'.left (IsLine spelling) → i.faults ≤ i'.faults → ((start : SinkView) (ps : List Print) → HasText s start k ps → HasText s' start k' (followed ps (line_behind now))) → ReadsGoal tb code old out ops new out now s s' k k' i i'
+      pub line_goal : (out : Lasting) (s s' : Spacer) (k k' : SinkView) (i i' : SourceView) → Took i.left i'.left (IsLine spelling) → i.faults ≤ i'.faults → ((start : SinkView) (ps : List Print) → HasText s start k ps → HasText s' start k' (followed ps (line_behind now))) → ReadsGoal tb code old out ops new out now s s' k k' i i'
       line_goal out s s' k k' i i' took later text = record {
         gave = record { taken = took.taken; ended = false; over = λ e. absurd (cc (e)); left = took.gave; told = λ bytes h. as_told i i' bytes h; later = later };
         does = λ bytes is g is_of l m o e at held w typed.
             let set = setting g code l in
             let n = term_cells g in
             let m' = more n (reader m) in
-            let line : IsLine spelling m.outside.typed bytes = subst (λ b. IsLine spelling b bytes) (sym typed) (took.holds bytes is) in
+            let line : IsLine spelling m.lasting.typed bytes = subst (λ b. IsLine spelling b bytes) (sym typed) (took.holds bytes is) in
             let v = value_of g.program (vars_of m.frames) t in
             let here = put l m g.program is_of held in
             let built : OpsBuilt (op.Do (action.Input t) ∷ rest) = subst OpsBuilt split at.1 in
-            let u = line_value g.program.words (first_line m.outside.typed) in
-            let world = line_world g m.outside.typed (world_of [] m') in
-            let gave = given (letters_of (first_line m.outside.typed)) (line_short (first_line m.outside.typed)) line.spelled g l m' v world (refl, built.1) here.held (arg (v ∷ []) here.args) in
-            let gives_it : Stands code l new now (done set (gives v u (registers_of m') world) m') = subst (λ ws. Stands code l new now (done set (gives v (spelled_list ws (spellings_of (letters_of (first_line m.outside.typed)))) (registers_of m') world) m')) is_of.words gave in
-            let act_is : act_at g [] (action.Input t) m' ≡ gives v u (registers_of m') world = takes_some g m.outside.typed v (registers_of m') (world_of [] m') line.some in
+            let u = line_value g.program.words (first_line m.lasting.typed) in
+            let world = line_world g m.lasting.typed (world_of [] m') in
+            let gave = given (letters_of (first_line m.lasting.typed)) (line_short (first_line m.lasting.typed)) line.spelled g l m' v world (refl, built.1) here.held (arg (v ∷ []) here.args) in
+            let gives_it : Stands code l new now (done set (gives v u (registers_of m') world) m') = subst (λ ws. Stands code l new now (done set (gives v (spelled_list ws (spellings_of (letters_of (first_line m.lasting.typed)))) (registers_of m') world) m')) is_of.words gave in
+            let act_is : act_at g [] (action.Input t) m' ≡ gives v u (registers_of m') world = takes_some g m.lasting.typed v (registers_of m') (world_of [] m') line.some in
             let stands = act_led code g l (action.Input t) (reader m) mid new now here.held (subst (λ a. Stands code l new now (done set a m')) (sym act_is) gives_it) in
             let first : m.ops ≡ op.Do (action.Input t) ∷ rest = at.0 ∙ split in
             let there : Stands code l new now (step set (RunsOf m)) = subst (λ xs. Stands code l new now (runs set xs m)) (sym first) stands in
             let says : said set (RunsOf m) ≡ line_behind now = ap (λ ps. said_to ps (step set (RunsOf m))) (ap (said_in set m) first ∙ ap said_by act_is) ∙ said_line code l new now (step set (RunsOf m)) there in
-            let m1 : Mid = record m { outside = outside_of world } in
-            let has = has_charged m1.outside m1.gathered set n (reader m) (done set (gives v u (registers_of m') world) m') (has_unifies m1.outside m1.gathered set (more_heap (copy_cells u) (registers_of m')) ((v, u) ∷ []) world m' refl refl) in
-            let outside = has_outside out g l m1 (does set (op.Do (action.Input t)) (reader m)) (subst (λ a. Has m1.outside m1.gathered (charged set n (reader m) (done set a m'))) (sym act_is) has) w in (
+            let m1 : Mid = record m { lasting = lasting_of world } in
+            let has = has_charged m1.lasting m1.gathered set n (reader m) (done set (gives v u (registers_of m') world) m') (has_unifies m1.lasting m1.gathered set (more_heap (copy_cells u) (registers_of m')) ((v, u) ∷ []) world m' refl refl) in
+            let lasting = has_lasting out g l m1 (does set (op.Do (action.Input t)) (reader m)) (subst (λ a. Has m1.lasting m1.gathered (charged set n (reader m) (done set a m'))) (sym act_is) has) w in (
               record {
                 stands = there;
-                outside = subst (λ xs. HasOutside out g l (runs set xs m)) (sym first) outside;
+                lasting = subst (λ xs. HasLasting out g l (runs set xs m)) (sym first) lasting;
                 writes = λ start ps before. subst (λ qs. HasText s' start k' (followed ps qs)) (sym says) (text start ps before);
               },
-              ap (λ b. if b then behind_first m.outside.typed else m.outside.typed) (will_read g is_of l m at held) ∙ line.behind,
+              ap (λ b. if b then behind_first m.lasting.typed else m.lasting.typed) (will_read g is_of l m at held) ∙ line.behind,
             );
       }
 

@@ -12,8 +12,8 @@ use Rattle.dg_meaning.specs.Unify.{Unified, size}
 use Rattle.dg_meaning.specs.inside.Unify.{unify}
 use Rattle.dg_meaning.specs.Values.{Value}
 use Rattle.dg_meaning.specs.World.{Game, World}
-use Rattle.dg_outside.specs.Outside.{Closes}
-use Rattle.dg_outside.specs.declared.outside.Outside.{Outside}
+use Rattle.dg_lasting.specs.Lasting.{Closes}
+use Rattle.dg_lasting.specs.declared.lasting.Lasting.{Lasting}
 use Rattle.dg_unify.specs.declared.bindings.Ref.{Ref}
 use Rattle.dg_mid.specs.declared.code.Code.{Code}
 use Rattle.dg_mid.specs.declared.code.Gathered.TheVariants.{List as InList}
@@ -32,12 +32,12 @@ use Rattle.dg_machine.proofs.Gatherings.{gathered_held}
 use Rattle.dg_machine.proofs.Leads.{charged_led, charged_off}
 use Rattle.dg_machine.proofs.Opens.{fits}
 use Rattle.dg_machine.proofs.Answered.{done_copies}
-use Rattle.dg_machine.proofs.Outsides.{has_outside, has_unifies}
+use Rattle.dg_machine.proofs.Lasting.{has_lasting, has_unifies}
 use Rattle.dg_machine.proofs.Takings.{GoesLate, late_falls, NewestIs, newest_in, many, left_around}
 
 -- ## The newest gathering as a list
 
-module _ (code : Code) (g : Game) (l : Limits) (m : Mid) (r : Memory) (out : Outside) (cells : List Cell) (first : slice_get out.gathered.rows 0 ≡ Some cells) (h : Holds code l r m) (w : Around out g l m) where
+module _ (code : Code) (g : Game) (l : Limits) (m : Mid) (r : Memory) (out : Lasting) (cells : List Cell) (first : slice_get out.gathered.rows 0 ≡ Some cells) (h : Holds code l r m) (w : Around out g l m) where
   abbrev pub newest : NewestIs out.gathered.rows cells m.gathered
   newest = newest_in out g l m cells first w
 
@@ -66,14 +66,14 @@ module _ (code : Code) (g : Game) (l : Limits) (m : Mid) (r : Memory) (out : Out
   takes_cells into = done_copies code g l into listed rest_m looked refl
 
   -- the heap has too little room for it
-  pub list_none : (b : ℕ) (into : Value) (new : Memory) (out' : Outside) → Lacks (copy_cells listed) l m.state.heap new → FallsWith code g l (with_way r (Takes b)) Resumes new (Ended HeapLimit) out' (takes_newest (setting g code l) InList into m.gathered m)
+  pub list_none : (b : ℕ) (into : Value) (new : Memory) (out' : Lasting) → Lacks (copy_cells listed) l m.state.heap new → FallsWith code g l (with_way r (Takes b)) Resumes new (Ended HeapLimit) out' (takes_newest (setting g code l) InList into m.gathered m)
   list_none b into new out' lacks =
       let over = charged_off (setting g code l) (copy_cells listed) rest_m (next into) (fits code l m r h) lacks.over in
       subst (FallsWith code g l (with_way r (Takes b)) Resumes new (Ended HeapLimit) out') (sym (takes_list into ∙ takes_cells into ∙ over))
-      (record { done = record { stands = (refl, lacks.roomy); falls = omega arith }; outside = tt })
+      (record { done = record { stands = (refl, lacks.roomy); falls = omega arith }; lasting = tt })
 
   -- it is unified, where the gathering was dropped
-  module _ (out' : Outside) (height : ℕ) (count : height ≡ length out.gathered.rows - 1) (closes : Closes height out out') where
+  module _ (out' : Lasting) (height : ℕ) (count : height ≡ length out.gathered.rows - 1) (closes : Closes height out out') where
     pub list_held : (mid : Memory) (list : Ref) → HasCopied code l listed m mid list → Holds code l (record mid { gathered = height }) (copied_in listed rest_m)
     list_held mid list made = gathered_held code l (copied_in listed m) newest.others mid height made.held (many code g l m r out out' cells height first count closes h w)
 
@@ -85,5 +85,5 @@ module _ (code : Code) (g : Game) (l : Limits) (m : Mid) (r : Memory) (out : Out
         let there : Stands code l new now (took_list into) = subst (Stands code l new now) (sym (takes_cells into)) led in
         subst (FallsWith code g l (with_way r (Takes b)) Resumes new now out') (sym (takes_list into)) (record {
           done = record { stands = there; falls = late_falls code l b r new now (took_list into) late there same };
-          outside = has_outside out' g l rest_m (took_list into) (has_unifies rest_m.outside rest_m.gathered set (behind_copy listed (registers_of rest_m)) ((into, copy_of listed (registers_of rest_m)) ∷ []) looked rest_m refl refl) (left_around code g l m r out out' cells height first count closes h w);
+          lasting = has_lasting out' g l rest_m (took_list into) (has_unifies rest_m.lasting rest_m.gathered set (behind_copy listed (registers_of rest_m)) ((into, copy_of listed (registers_of rest_m)) ∷ []) looked rest_m refl refl) (left_around code g l m r out out' cells height first count closes h w);
         })

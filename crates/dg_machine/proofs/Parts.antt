@@ -27,10 +27,10 @@ use Rattle.dg_unify.specs.declared.bindings.Ref.{Ref}
 use Rattle.dg_arena.specs.Held.{meaning_of}
 use Rattle.dg_machine.specs.declared.now.Frame.{Frame}
 use Rattle.dg_machine.specs.Layout.{WayAt, ChoicesAt, Holds, Roomy, CanRestore, WentBack}
-use Rattle.dg_machine.specs.Standing.{CodeIs, Falls, Around, HasOutside, StandsWith}
-use Rattle.dg_outside.specs.Outside.{Closes}
-use Rattle.dg_outside.specs.declared.outside.Outside.{Outside}
-use Rattle.dg_machine.proofs.Outsides.{closed_back}
+use Rattle.dg_machine.specs.Standing.{CodeIs, Falls, Around, HasLasting, StandsWith}
+use Rattle.dg_lasting.specs.Lasting.{Closes}
+use Rattle.dg_lasting.specs.declared.lasting.Lasting.{Lasting}
+use Rattle.dg_machine.proofs.Lasting.{closed_back}
 use Rattle.dg_machine.proofs.StopLemmas.{named_in_front, tags_length, choices_length, among_same, among_tail}
 use Rattle.dg_machine.proofs.Cuts.{FirstBelow, among_cut, below_first, back_to}
 use Rattle.dg_machine.proofs.Opens.{named_end, roomy}
@@ -186,7 +186,7 @@ module _ (code : Code) (l : Limits) (m : Mid) (r mid : Memory) (k : Choice) (h :
   pub cut_roomy : vec_capacity mid.choices ≡ vec_capacity r.choices → Roomy l mid
   cut_roomy capacity = subst (Roomy l) (sym same) (dropped_roomy l r mid (roomy code l m r h) capacity)
 
-  module _ (g : Game) (o : MidOrdered m) (new : Memory) (out out' : Outside) (w : Around out g l m) (closes : Closes new.gathered out out') (back : (c : ChoiceOf) (ds : List ChoiceOf) → CanRestore code mid k c ds → WentBack code l (Some k.way) new (more 0 m) (c ∷ ds)) where
+  module _ (g : Game) (o : MidOrdered m) (new : Memory) (out out' : Lasting) (w : Around out g l m) (closes : Closes new.gathered out out') (back : (c : ChoiceOf) (ds : List ChoiceOf) → CanRestore code mid k c ds → WentBack code l (Some k.way) new (more 0 m) (c ∷ ds)) where
     ordered : StopsNamed m.next_tag m.state.heap m.choices (kept.within ++ kept.part ∷ kept.around)
     ordered = subst (StopsNamed m.next_tag m.state.heap m.choices) kept.is o.named.stops_are
 
@@ -204,7 +204,7 @@ module _ (code : Code) (l : Limits) (m : Mid) (r mid : Memory) (k : Choice) (h :
         let found : stop_to kept.part.place.tag m.stops ≡ Some (kept.part, kept.around) = ap (stop_to kept.part.place.tag) kept.is ∙ stop_found m.next_tag m.state.heap m.choices kept.within kept.part kept.around ordered in
         ap (λ t. stops (setting g code l) t (more 0 m)) stop ∙ ap (λ x. stops_at (setting g code l) x (more 0 m)) found
 
-    closed : HasOutside out' g l (RunsOf (stopped (setting g code l) kept.part kept.around (more 0 m)))
+    closed : HasLasting out' g l (RunsOf (stopped (setting g code l) kept.part kept.around (more 0 m)))
     closed = closed_back code g l k.way new out out' (more 0 m) (choice_of kept.part kept.around ∷ cut_choices kept.part.place m.choices) went closes w
 
     -- it goes on behind the part
@@ -212,7 +212,7 @@ module _ (code : Code) (l : Limits) (m : Mid) (r mid : Memory) (k : Choice) (h :
     stops_to b ops built goes at =
         let block : kept.part.block ≡ b = subst (λ w. WayAt code (meaning_of new.arena) new.args.items w (GoesOf kept.part.block)) goes went.0 in
         subst (StandsWith code g l new (Runs ops) out') (sym leads)
-        (record { stands = (block_is code b ops.now (stopped (setting g code l) kept.part kept.around (more 0 m)) built at (ap (block_at code) block), went.1); outside = closed })
+        (record { stands = (block_is code b ops.now (stopped (setting g code l) kept.part kept.around (more 0 m)) built at (ap (block_at code) block), went.1); lasting = closed })
 
     goes_at : (w : Way) (b : ℕ) → WayAt code (meaning_of new.arena) new.args.items w (GoesOf b) → (n : ℕ) × (w ≡ Goes n)
     goes_at (Goes n) b at = (n, refl)

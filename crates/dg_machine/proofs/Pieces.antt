@@ -15,7 +15,7 @@ use Rattle.dg_mid.specs.declared.code.Op.{Op}
 use Rattle.dg_mid.specs.declared.code.Op.TheVariants as op
 use Rattle.dg_mid.specs.declared.code.Action.TheVariants as action
 use Rattle.dg_mid.specs.declared.code.Code.{Code}
-use Rattle.dg_mid.specs.Actions.{act_at, registers_of, world_of, outside_in}
+use Rattle.dg_mid.specs.Actions.{act_at, registers_of, world_of, lasting_in}
 use Rattle.dg_mid.specs.State.{Mid, vars_of, Runs as RunsOf, Ended as EndedOf}
 use Rattle.dg_mid.specs.Step.{Setting, setting, more, done, does, said_in, followed, keeps_within}
 use Rattle.dg_spacing.specs.declared.spacer.Spacer.{Spacer}
@@ -27,7 +27,7 @@ use Rattle.dg_machine.specs.Layout.{Holds, Lacks}
 use Rattle.dg_machine.specs.inside.Running.{HasText}
 use Rattle.dg_machine.proofs.Opens.{fits}
 use Rattle.dg_machine.proofs.Leads.{charged_on, charged_off}
-use Rattle.dg_machine.proofs.Outsides.{all_outside}
+use Rattle.dg_machine.proofs.Lasting.{all_lasting}
 use Rattle.dg_machine.proofs.Goals.{keeps_none}
 
 -- ## Pieces
@@ -75,8 +75,8 @@ module _ (code : Code) (g : Game) (l : Limits) (t : Term) (m : Mid) (new : Memor
   pub value_done : Holds code l new (more n_v m) → does set_v (op.Do (action.Print t)) m ≡ RunsOf (more n_v m)
   value_done held =
       charged_on set_v n_v m (done set_v (act_at g [] (action.Print t) mid_v) mid_v) (fits code l mid_v new held)
-      ∙ ap (λ k. keeps_within set_v k (RunsOf (outside_in (all_printed pieces_v world_v) mid_v))) (all_keep pieces_v world_v)
-      ∙ ap (λ o. keeps_within set_v 0 (RunsOf (record mid_v { outside = o }))) (all_outside pieces_v world_v)
+      ∙ ap (λ k. keeps_within set_v k (RunsOf (lasting_in (all_printed pieces_v world_v) mid_v))) (all_keep pieces_v world_v)
+      ∙ ap (λ o. keeps_within set_v 0 (RunsOf (record mid_v { lasting = o }))) (all_lasting pieces_v world_v)
       ∙ keeps_none g code l (RunsOf mid_v)
 
   pub value_said : (rest : List Op) → said_in set_v m (op.Do (action.Print t) ∷ rest) ≡ as_prints pieces_v

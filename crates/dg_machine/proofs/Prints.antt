@@ -11,13 +11,13 @@ use Rattle.dg_mid.specs.declared.code.Action.{Action}
 use Rattle.dg_mid.specs.declared.code.Code.{Code}
 use Rattle.dg_mid.specs.State.{Mid, Runs as RunsOf}
 use Rattle.dg_mid.specs.Step.{Setting, setting, more, does, runs, step, said, said_in, said_to, followed}
-use Rattle.dg_outside.specs.declared.outside.Outside.{Outside}
+use Rattle.dg_lasting.specs.declared.lasting.Lasting.{Lasting}
 use Rattle.dg_spacing.specs.declared.spacer.Spacer.{Spacer}
 use Rattle.dg_machine.specs.declared.now.Now.TheVariants.{Runs}
 use Rattle.dg_machine.specs.declared.memory.Memory.{Memory}
 use Rattle.dg_machine.specs.Built.{OpsBuilt}
 use Rattle.dg_machine.specs.Layout.{Holds}
-use Rattle.dg_machine.specs.Standing.{CodeIs, Stands, Around, HasOutside}
+use Rattle.dg_machine.specs.Standing.{CodeIs, Stands, Around, HasLasting}
 use Rattle.dg_machine.specs.inside.Running.{HasText, GoalDone, GoalLost}
 
 said_runs : (ps : List Print) (m : Mid) → said_to ps (RunsOf m) ≡ ps
@@ -41,12 +41,12 @@ module _ (code : Code) (g : Game) (l : Limits) (m : Mid) (r : Memory) (n : ℕ) 
   says : said set_p (RunsOf m) ≡ qs
   says = ap (λ s. said_to (said_in set_p m m.ops) s) step_is ∙ ap (λ ps. said_to ps (RunsOf behind_p)) (ap (said_in set_p m) first_is ∙ said_is) ∙ said_runs qs behind_p
 
-  pub said_done : (s s' : Spacer) (k k' : SinkView) (out : Outside) → Around out g l m → ((start : SinkView) (ps : List Print) → HasText s start k ps → HasText s' start k' (followed ps qs)) → GoalDone code g l r out (Runs rest) s s' k k' m
+  pub said_done : (s s' : Spacer) (k k' : SinkView) (out : Lasting) → Around out g l m → ((start : SinkView) (ps : List Print) → HasText s start k ps → HasText s' start k' (followed ps qs)) → GoalDone code g l r out (Runs rest) s s' k k' m
   said_done s s' k k' out w wrote =
       let built : OpsBuilt (op.Do a ∷ rest.now) = subst OpsBuilt split at.1 in
       record {
         stands = subst (Stands code l r (Runs rest)) (sym step_is) ((refl, built.1), h);
-        outside = subst (HasOutside out g l) (sym step_is) w;
+        lasting = subst (HasLasting out g l) (sym step_is) w;
         writes = λ start ps text. subst (λ xs. HasText s' start k' (followed ps xs)) (sym says) (wrote start ps text);
       }
 

@@ -14,7 +14,7 @@ use Rattle.dg_mid.specs.declared.code.Code.{Code}
 use Rattle.dg_mid.specs.Left.{reads_in, reads, left_behind}
 use Rattle.dg_mid.specs.State.{Mid, Status, Runs as RunsOf, Enters as EntersOf, Resumes as ResumesOf, Fails as FailsOf, Ended as EndedOf}
 use Rattle.dg_mid.specs.Step.{Setting, setting, at_goal, takes_goal}
-use Rattle.dg_outside.specs.declared.outside.Outside.{Outside}
+use Rattle.dg_lasting.specs.declared.lasting.Lasting.{Lasting}
 use Rattle.dg_spacing.specs.declared.spacer.Spacer.{Spacer}
 use Rattle.dg_machine.specs.declared.now.Now.{Now}
 use Rattle.dg_machine.specs.declared.memory.Memory.{Memory}
@@ -54,11 +54,11 @@ line_reads s m (x ∷ ops) b = refl
 unfoldable pub gave_nothing : (i : SourceView) (now : Now) → Gave i i now
 gave_nothing i now = record { taken = []; ended = false; over = λ e. absurd (cc (e)); left = λ rest h. h; told = λ rest h. as_told i i rest h; later = omega arith }
 
-pub goes_unread : (t : Tables) (code : Code) (old : Memory) (out : Outside) (ops : List Op) (new : Memory) (out' : Outside) (after : Now) (s s' : Spacer) (k k' : SinkView) (i : SourceView) → NoLine ops → DoesGoal t code old out ops new out' after s s' k k' → ReadsGoal t code old out ops new out' after s s' k k' i i
+pub goes_unread : (t : Tables) (code : Code) (old : Memory) (out : Lasting) (ops : List Op) (new : Memory) (out' : Lasting) (after : Now) (s s' : Spacer) (k k' : SinkView) (i : SourceView) → NoLine ops → DoesGoal t code old out ops new out' after s s' k k' → ReadsGoal t code old out ops new out' after s s' k k' i i
 unfolding gave_nothing
 goes_unread t code old out ops new out' after s s' k k' i none does = record {
   gave = gave_nothing i after;
-  does = λ rest h g is_of l m o e at held w typed. (does g is_of l m o e at held w, left_as (setting g code l) (RunsOf m) m.outside.typed (line_reads (setting g code l) m m.ops (subst NoLine (sym at.0) none)) ∙ typed);
+  does = λ rest h g is_of l m o e at held w typed. (does g is_of l m o e at held w, left_as (setting g code l) (RunsOf m) m.lasting.typed (line_reads (setting g code l) m m.ops (subst NoLine (sym at.0) none)) ∙ typed);
 }
 
 pub loses_unread : (t : Tables) (code : Code) (old : Memory) (ops : List Op) (s : Spacer) (k k' : SinkView) (i : SourceView) → NoLine ops → LosesGoal t code old ops s k k' → LosesText t code old ops s k k' i i
@@ -66,7 +66,7 @@ loses_unread t code old ops s k k' i none loses = record {
   taken = [];
   left = λ rest h. h;
   later = omega arith;
-  loses = λ rest h g is_of l m at held typed start ps text. (inl (loses g is_of l m at held start ps text), left_as (setting g code l) (RunsOf m) m.outside.typed (line_reads (setting g code l) m m.ops (subst NoLine (sym at.0) none)) ∙ typed);
+  loses = λ rest h g is_of l m at held typed start ps text. (inl (loses g is_of l m at held start ps text), left_as (setting g code l) (RunsOf m) m.lasting.typed (line_reads (setting g code l) m m.ops (subst NoLine (sym at.0) none)) ∙ typed);
 }
 
 -- bytes that may be left

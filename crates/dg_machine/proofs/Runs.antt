@@ -32,7 +32,7 @@ use Rattle.dg_mid.specs.Left.{reads, left_behind}
 use Rattle.dg_mid.specs.Runs.{after, left_after}
 use Rattle.dg_mid.proofs.Whole.{is_at}
 use Rattle.dg_mid.proofs.Shown.{shows_all, shows_faults, until_left}
-use Rattle.dg_mid.proofs.Outsides.{Leads}
+use Rattle.dg_mid.proofs.Lasting.{Leads}
 use Rattle.dg_mid.proofs.Typed.{typed_stays, left_at, stops_there}
 use Rattle.dg_mid.proofs.Heights.{all_ordered}
 use Rattle.dg_spacing.specs.declared.spacer.Spacer.{Spacer}
@@ -42,8 +42,8 @@ use Rattle.dg_machine.specs.declared.now.Now.TheVariants.{Runs, Enters, Resumes,
 use Rattle.dg_machine.specs.declared.memory.Memory.{Memory}
 use Rattle.dg_machine.specs.Layout.{Holds}
 use Rattle.dg_machine.specs.Measure.{left_of}
-use Rattle.dg_machine.specs.Standing.{CodeIs, Stands, HasOutside}
-use Rattle.dg_outside.specs.declared.outside.Outside.{Outside}
+use Rattle.dg_machine.specs.Standing.{CodeIs, Stands, HasLasting}
+use Rattle.dg_lasting.specs.declared.lasting.Lasting.{Lasting}
 use Rattle.dg_mid.proofs.Seeks.{all_seek}
 use Rattle.dg_machine.specs.Built.{IsBuilt}
 use Rattle.dg_machine.specs.declared.tables.Tables.{Tables}
@@ -82,27 +82,27 @@ module _ (code : Code) (g : Game) (l : Limits) (typed : List ℕ) where
   abbrev set : Setting
   set = setting g code l
 
-  pub settled_nowhere : (r : Memory) (out : Outside) (now : Now) (steps : ℕ) → Stands code l r now (after set typed steps).now → HasOutside out g l (after set typed steps).now → HasSettled code g l typed steps r out now
-  settled_nowhere r out now steps h w = record { further = steps; stands = h; outside = w; goals = refl; prints = refl; left = refl }
+  pub settled_nowhere : (r : Memory) (out : Lasting) (now : Now) (steps : ℕ) → Stands code l r now (after set typed steps).now → HasLasting out g l (after set typed steps).now → HasSettled code g l typed steps r out now
+  settled_nowhere r out now steps h w = record { further = steps; stands = h; lasting = w; goals = refl; prints = refl; left = refl }
 
   -- one more step
-  pub one_mark : IsBuilt code → (tb : Tables) → IsOf g.program tb → (r new : Memory) (out out' : Outside) (now next : Now) (steps : ℕ) → rests now ≡ false → DoesMarks tb code r out now new out' next → Stands code l r now (after set typed steps).now → HasOutside out g l (after set typed steps).now → MarkDone code g l r now new out' next (after set typed steps).now
+  pub one_mark : IsBuilt code → (tb : Tables) → IsOf g.program tb → (r new : Memory) (out out' : Lasting) (now next : Now) (steps : ℕ) → rests now ≡ false → DoesMarks tb code r out now new out' next → Stands code l r now (after set typed steps).now → HasLasting out g l (after set typed steps).now → MarkDone code g l r now new out' next (after set typed steps).now
   one_mark built tb is_of r new out out' now next steps e does h w = does g is_of l (after set typed steps).now (all_ordered set typed steps) (all_seek set built.leave typed steps) (at_mark code l r now (after set typed steps).now e h).no_goal h w
 
-  pub settled_on : IsBuilt code → (tb : Tables) → IsOf g.program tb → (mid new : Memory) (out out' : Outside) (now next : Now) (steps : ℕ) → rests now ≡ false → DoesMarks tb code mid out now new out' next → HasSettled code g l typed steps mid out now → HasSettled code g l typed steps new out' next
+  pub settled_on : IsBuilt code → (tb : Tables) → IsOf g.program tb → (mid new : Memory) (out out' : Lasting) (now next : Now) (steps : ℕ) → rests now ≡ false → DoesMarks tb code mid out now new out' next → HasSettled code g l typed steps mid out now → HasSettled code g l typed steps new out' next
   settled_on built tb is_of mid new out out' now next steps e does h =
-      let done = one_mark built tb is_of mid new out out' now next h.further e does h.stands h.outside in
+      let done = one_mark built tb is_of mid new out out' now next h.further e does h.stands h.lasting in
       let mark = at_mark code l mid now (after set typed h.further).now e h.stands in
       record {
         further = suc h.further;
         stands = done.stands;
-        outside = done.outside;
+        lasting = done.lasting;
         goals = ap (λ b. one_if b + (after set typed h.further).goals) mark.no_goal ∙ (let same : 0 + (after set typed h.further).goals ≡ (after set typed h.further).goals = omega arith in same) ∙ h.goals;
         prints = ap (followed (after set typed h.further).prints) done.quiet ∙ h.prints;
         left = mark_leaves set (after set typed h.further).now (left_after set typed h.further) mark.no_goal ∙ h.left;
       }
 
-  pub mark_falls : IsBuilt code → (tb : Tables) → IsOf g.program tb → (r new : Memory) (out out' : Outside) (now next : Now) (steps : ℕ) → rests now ≡ false → DoesMarks tb code r out now new out' next → Stands code l r now (after set typed steps).now → HasOutside out g l (after set typed steps).now → left_of new next < left_of r now
+  pub mark_falls : IsBuilt code → (tb : Tables) → IsOf g.program tb → (r new : Memory) (out out' : Lasting) (now next : Now) (steps : ℕ) → rests now ≡ false → DoesMarks tb code r out now new out' next → Stands code l r now (after set typed steps).now → HasLasting out g l (after set typed steps).now → left_of new next < left_of r now
   mark_falls built tb is_of r new out out' now next steps e does h w = (one_mark built tb is_of r new out out' now next steps e does h w).falls (at_mark code l r now (after set typed steps).now e h).goes_on
 
   -- ## Goals
@@ -119,35 +119,35 @@ module _ (code : Code) (g : Game) (l : Limits) (typed : List ℕ) where
   goal_at r ops s h = absurd h
 
   -- the typed bytes of a machine that is at a goal
-  pub typed_at : (steps : ℕ) (m : Mid) → (after set typed steps).now ≡ RunsOf m → m.outside.typed ≡ left_after set typed steps
+  pub typed_at : (steps : ℕ) (m : Mid) → (after set typed steps).now ≡ RunsOf m → m.lasting.typed ≡ left_after set typed steps
   typed_at steps m is = subst (Leads (λ o. o.typed ≡ left_after set typed steps) (λ e. Unit {0})) is (typed_stays set typed steps)
 
   -- the next goal was taken, and steps behind it
-  pub took_goal : (tb : Tables) → IsOf g.program tb → (old mid new : Memory) (out out' behind : Outside) (ops : Bor (List Op)) (next now : Now) (s s' : Spacer) (k k' : SinkView) (i i' : SourceView) (goals : ℕ) (start : SinkView) (rest : List ℕ) → at_goal ops.now ≡ true →
+  pub took_goal : (tb : Tables) → IsOf g.program tb → (old mid new : Memory) (out out' behind : Lasting) (ops : Bor (List Op)) (next now : Now) (s s' : Spacer) (k k' : SinkView) (i i' : SourceView) (goals : ℕ) (start : SinkView) (rest : List ℕ) → at_goal ops.now ≡ true →
       (does : ReadsGoal tb code old out ops.now mid out' next s s' k k' i i') → Settles tb code mid out' next new behind now → LeftBehind does.gave.ended i' rest → IsAt code g l typed old out (Runs ops) goals s start k (does.gave.taken ++ rest) → IsAt code g l typed new behind now (1 + goals) s' start k' rest
   took_goal tb is_of old mid new out out' behind ops next now s s' k k' i i' goals start rest e does settles left h =
       let at = goal_at old ops (after set typed h.steps).now h.stands in
       let ordered : StatusOrdered (RunsOf at.mid) = subst StatusOrdered at.is (all_ordered set typed h.steps) in
       let bytes = typed_at h.steps at.mid at.is in
-      let both = does.does rest left g is_of l at.mid ordered e at.code_is at.held (subst (HasOutside out g l) at.is h.outside) (bytes ∙ h.left_is) in
+      let both = does.does rest left g is_of l at.mid ordered e at.code_is at.held (subst (HasLasting out g l) at.is h.lasting) (bytes ∙ h.left_is) in
       let done = both.0 in
       let behind_it : left_after set typed (suc h.steps) ≡ rest = ap (λ x. left_behind set x (left_after set typed h.steps)) at.is ∙ ap (left_behind set (RunsOf at.mid)) (sym bytes) ∙ both.1 in
       let stands : Stands code l mid next (after set typed (suc h.steps)).now = subst (λ x. Stands code l mid next (step set x)) (sym at.is) done.stands in
-      let settled = settles g is_of l typed (suc h.steps) stands (subst (λ x. HasOutside out' g l (step set x)) (sym at.is) done.outside) in
+      let settled = settles g is_of l typed (suc h.steps) stands (subst (λ x. HasLasting out' g l (step set x)) (sym at.is) done.lasting) in
       let taken : takes_goal (after set typed h.steps).now ≡ true = ap takes_goal at.is ∙ ap at_goal at.code_is.0 ∙ e in
       let one : (after set typed (suc h.steps)).goals ≡ 1 + goals = ap (λ b. one_if b + (after set typed h.steps).goals) taken ∙ ap (λ n. 1 + n) h.goals_is in
       let text : HasText s' start k' (after set typed (suc h.steps)).prints = subst (λ x. HasText s' start k' (followed (after set typed h.steps).prints (said set x))) (sym at.is) (done.writes start (after set typed h.steps).prints h.text) in
       record {
         steps = settled.further;
         stands = settled.stands;
-        outside = settled.outside;
+        lasting = settled.lasting;
         goals_is = settled.goals ∙ one;
         text = subst (HasText s' start k') (sym settled.prints) text;
         left_is = settled.left ∙ behind_it;
       }
 
   -- the output was lost at the next goal
-  pub lost_goal : (tb : Tables) → IsOf g.program tb → (old : Memory) (out : Outside) (ops : Bor (List Op)) (s : Spacer) (k k' : SinkView) (i i' : SourceView) (goals : ℕ) (start : SinkView) (rest : List ℕ) → at_goal ops.now ≡ true →
+  pub lost_goal : (tb : Tables) → IsOf g.program tb → (old : Memory) (out : Lasting) (ops : Bor (List Op)) (s : Spacer) (k k' : SinkView) (i i' : SourceView) (goals : ℕ) (start : SinkView) (rest : List ℕ) → at_goal ops.now ≡ true →
       (loses : LosesText tb code old ops.now s k k' i i') → IsLeft i'.left rest → IsAt code g l typed old out (Runs ops) goals s start k (loses.taken ++ rest) → IsLost code g l typed goals start k' rest
   lost_goal tb is_of old out ops s k k' i i' goals start rest e loses is h =
       let at = goal_at old ops (after set typed h.steps).now h.stands in
@@ -167,7 +167,7 @@ module _ (code : Code) (g : Game) (l : Limits) (typed : List ℕ) where
       }
 
   -- the input was lost there
-  pub unread_goal : (tb : Tables) → IsOf g.program tb → (old : Memory) (out : Outside) (ops : Bor (List Op)) (s s' : Spacer) (k k' : SinkView) (i i' : SourceView) (goals : ℕ) (start : SinkView) (left : List ℕ) → LosesLine tb code old ops.now s s' k k' i i' → IsAt code g l typed old out (Runs ops) goals s start k left → IsUnread code g l typed goals s' start k' left
+  pub unread_goal : (tb : Tables) → IsOf g.program tb → (old : Memory) (out : Lasting) (ops : Bor (List Op)) (s s' : Spacer) (k k' : SinkView) (i i' : SourceView) (goals : ℕ) (start : SinkView) (left : List ℕ) → LosesLine tb code old ops.now s s' k k' i i' → IsAt code g l typed old out (Runs ops) goals s start k left → IsUnread code g l typed goals s' start k' left
   unread_goal tb is_of old out ops s s' k k' i i' goals start left loses h =
       let at = goal_at old ops (after set typed h.steps).now h.stands in
       record {

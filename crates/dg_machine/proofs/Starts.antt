@@ -22,8 +22,8 @@ use Rattle.dg_machine.specs.declared.memory.Memory.{Memory}
 use Rattle.dg_machine.specs.declared.tables.Tables.{Tables}
 use Rattle.dg_machine.specs.Tables.{IsOf}
 use Rattle.dg_base.specs.declared.program.CoreProgram.{CoreProgram}
-use Rattle.dg_outside.specs.Outside.{StartsOutside}
-use Rattle.dg_outside.specs.declared.outside.Outside.{Outside}
+use Rattle.dg_lasting.specs.Lasting.{StartsLasting}
+use Rattle.dg_lasting.specs.declared.lasting.Lasting.{Lasting}
 use Rattle.dg_machine.specs.Built.{OpsBuilt, IsBuilt}
 use Rattle.dg_machine.specs.Stops.{StopIs, Among}
 use Rattle.dg_machine.proofs.StopLemmas.{none_open}
@@ -95,17 +95,17 @@ no_text : (s : Spacer) (k : SinkView) → StandsFor s [] → HasText s k k []
 unfolding render
 no_text s k new = record { stands = new; wrote = wrote_nothing k }
 
-pub at_start : (code : Code) (p : CoreProgram) (dice : List ℕ) (l : Limits) (typed : List ℕ) (r : Memory) (out : Outside) (block : Bor (List Op)) (s : Spacer) (k : SinkView) → IsBuilt code → block.now ≡ block_at code 1 → HoldsWith code l r at_rest [] [] [] [] None → r.gathered ≡ 0 → StandsFor s [] → StartsOutside p l dice out → IsAt code (game p dice) l typed r out (Runs block) 0 s k k typed
+pub at_start : (code : Code) (p : CoreProgram) (dice : List ℕ) (l : Limits) (typed : List ℕ) (r : Memory) (out : Lasting) (block : Bor (List Op)) (s : Spacer) (k : SinkView) → IsBuilt code → block.now ≡ block_at code 1 → HoldsWith code l r at_rest [] [] [] [] None → r.gathered ≡ 0 → StandsFor s [] → StartsLasting p l dice out → IsAt code (game p dice) l typed r out (Runs block) 0 s k k typed
 at_start code p dice l typed r out block s k built is held none new starts = record {
   steps = 0;
-  outside = (starts.stands (game p dice) typed refl refl, starts.keep, starts.aux);
+  lasting = (starts.stands (game p dice) typed refl refl, starts.keep, starts.aux);
   stands = ((sym is, subst OpsBuilt (sym is) (built.blocks 1)), (held, sym none));
   goals_is = refl;
   text = no_text s k new;
   left_is = refl;
 }
 
-pub somewhere_first : (tb : Tables) (code : Code) (p : CoreProgram) (dice : List ℕ) (l : Limits) (r : Memory) (out : Outside) (block : Bor (List Op)) (i : SourceView) → IsOf p tb → IsBuilt code → block.now ≡ block_at code 1 → HoldsWith code l r at_rest [] [] [] [] None → r.gathered ≡ 0 → StartsOutside p l dice out → IsSomewhereAt tb code r out (Runs block) i
+pub somewhere_first : (tb : Tables) (code : Code) (p : CoreProgram) (dice : List ℕ) (l : Limits) (r : Memory) (out : Lasting) (block : Bor (List Op)) (i : SourceView) → IsOf p tb → IsBuilt code → block.now ≡ block_at code 1 → HoldsWith code l r at_rest [] [] [] [] None → r.gathered ≡ 0 → StartsLasting p l dice out → IsSomewhereAt tb code r out (Runs block) i
 somewhere_first tb code p dice l r out block i is_of built is held none starts typed told = record {
   found = record {
     somewhere = record {
@@ -116,13 +116,13 @@ somewhere_first tb code p dice l r out block i is_of built is held none starts t
       steps = 0;
       stands = ((sym is, subst OpsBuilt (sym is) (built.blocks 1)), (held, sym none));
     };
-    outside = (starts.stands (game p dice) typed refl refl, starts.keep, starts.aux);
+    lasting = (starts.stands (game p dice) typed refl refl, starts.keep, starts.aux);
   };
   left_is = refl;
 }
 
 -- room is left whether a run has ended or has met a fault
-pub roomy_after : (tb : Tables) (code : Code) (g : Game) (l : Limits) (old new : Memory) (out : Outside) (start : Now) (steps : ℕ) (s s' : Spacer) (k k' : SinkView) (i i' : SourceView) (result : Result (Ending × ℕ) Fault) → IsOf g.program tb → IfOk result (λ end. Finishes tb code old out start steps s k i end.0 end.1 new s' k' i') → IfErr result (λ f. BreaksRun f tb code old out start steps s k i new s' k' i') →
+pub roomy_after : (tb : Tables) (code : Code) (g : Game) (l : Limits) (old new : Memory) (out : Lasting) (start : Now) (steps : ℕ) (s s' : Spacer) (k k' : SinkView) (i i' : SourceView) (result : Result (Ending × ℕ) Fault) → IsOf g.program tb → IfOk result (λ end. Finishes tb code old out start steps s k i end.0 end.1 new s' k' i') → IfErr result (λ f. BreaksRun f tb code old out start steps s k i new s' k' i') →
     ((typed : List ℕ) → IsAt code g l typed old out start 0 s k k typed) → Roomy l new
 roomy_after tb code g l old new out start steps s s' k k' i i' (Ok end) is_of ok err at = (ok.ends g is_of l ok.typed k (at ok.typed)).roomy
 roomy_after tb code g l old new out start steps s s' k k' i i' (Err Read) is_of ok err at = (err.fails g is_of l err.typed k (at err.typed)).roomy

@@ -12,7 +12,7 @@ use Rattle.dg_base.specs.declared.program.Term.TheOpen as term
 use Rattle.dg_base.specs.declared.program.Term.TheVariants.{Pair as Pair-Term, Closure as Closure-Term, outs-Closure, rolls-Pair, rolls-Closure}
 use Rattle.dg_base.specs.declared.program.ClosureBody.{ClosureBody}
 use Rattle.dg_base.specs.declared.program.CoreProgram.{CoreProgram}
-use Rattle.dg_meaning.specs.Values.{Value, Closure, Node, parts_of, value_of, value_of_var, captured_by}
+use Rattle.dg_meaning.specs.Values.{Value, Closure, Node, node_parts, value_of, value_of_var, captured_values}
 use Rattle.dg_meaning.specs.Cells.{captured_count, node_cells, cells}
 use Rattle.dg_unify.specs.Store.{State, Store, Kept, Charged, Made, told, told_parts, Holds}
 use Rattle.dg_unify.specs.declared.bindings.Ref.{Ref}
@@ -45,7 +45,7 @@ captured_is p t place is =
     same_items (slice_get t.captured.items place) (slice_get p.closures place)
     (sym (slice_get-map (λ (v : Captured). v.vars.items) t.captured.items place) ∙ ap (λ (l : List (List ℕ)). slice_get l place) is.captured ∙ slice_get-map (λ (c : ClosureBody). c.captured) p.closures place)
 
-captured_parts : (vs : List Value) (o : Option ClosureBody) → captured_by vs o ≡ parts_of (map (value_of_var vs) (captured_in o))
+captured_parts : (vs : List Value) (o : Option ClosureBody) → captured_values vs o ≡ node_parts (map (value_of_var vs) (captured_in o))
 captured_parts vs None = refl
 captured_parts vs (Some c) = refl
 
@@ -53,7 +53,7 @@ captured_many : (o : Option ClosureBody) → captured_count o ≡ length (captur
 captured_many None = refl
 captured_many (Some c) = refl
 
-value_closure : (p : CoreProgram) (vs : List Value) (place : ℕ) → value_of p vs (Closure-Term place) ≡ Node (Closure place) (parts_of (map (value_of_var vs) (captured_in (slice_get p.closures place))))
+value_closure : (p : CoreProgram) (vs : List Value) (place : ℕ) → value_of p vs (Closure-Term place) ≡ Node (Closure place) (node_parts (map (value_of_var vs) (captured_in (slice_get p.closures place))))
 unfolding out-Term denote.Hole.Carrier.out
 value_closure p vs place = ap (Node (Closure place)) (captured_parts vs (slice_get p.closures place))
 
@@ -105,7 +105,7 @@ module _ (p : CoreProgram) (t : Tables) (vs : List Value) (place : ℕ) (is : Is
   pub closure_made : (s u v : Store) (refs : List Ref) (r : Ref) → Kept s u → u.state ≡ s.state → RefsAt u refs (map (value_of_var vs) (captured_at t place)) → length refs ≡ length (captured_at t place) → Made (3 + length refs) u v r (Node (Closure place) (told_parts u refs)) → Made (cells_of p (Closure-Term place)) s v r (value_of p vs (Closure-Term place))
   closure_made s u v refs r kept same h count m =
       let n : 3 + length refs ≡ cells_of p (Closure-Term place) = ap (λ k. 3 + k) count ∙ sym closure_cells in
-      let parts : told_parts u refs ≡ parts_of (map (value_of_var vs) (captured_in (slice_get p.closures place))) = ap parts_of (told_all u refs (map (value_of_var vs) (captured_at t place)) h) ∙ ap (λ l. parts_of (map (value_of_var vs) l)) (captured_is p t place is) in
+      let parts : told_parts u refs ≡ node_parts (map (value_of_var vs) (captured_in (slice_get p.closures place))) = ap node_parts (told_all u refs (map (value_of_var vs) (captured_at t place)) h) ∙ ap (λ l. node_parts (map (value_of_var vs) l)) (captured_is p t place is) in
       let c = m.charged in
       record {
         charged = subst (λ k. Charged k s v) n (record { fits = subst (λ (x : State). x.heap + (3 + length refs) ≤ s.heap_limit) same (subst (λ k. u.state.heap + (3 + length refs) ≤ k) kept.heap_limit c.fits); state = subst (λ (x : State). v.state ≡ record x { heap = x.heap + (3 + length refs) }) same c.state });

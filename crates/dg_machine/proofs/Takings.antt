@@ -12,8 +12,8 @@ use Rattle.dg_meaning.specs.Values.{Value, Num, leaf}
 use Rattle.dg_meaning.specs.ValueCells.{cells_of}
 use Rattle.dg_meaning.specs.World.{Game, World, Gathering}
 use Rattle.dg_lists.specs.Formed.{IsFormed}
-use Rattle.dg_outside.specs.Outside.{row_of, Closes}
-use Rattle.dg_outside.specs.declared.outside.Outside.{Outside}
+use Rattle.dg_lasting.specs.Lasting.{row_of, Closes}
+use Rattle.dg_lasting.specs.declared.lasting.Lasting.{Lasting}
 use Rattle.dg_mid.specs.declared.code.Code.{Code}
 use Rattle.dg_mid.specs.declared.code.Op.{Op}
 use Rattle.dg_mid.specs.Code.{block_at}
@@ -37,7 +37,7 @@ use Rattle.dg_machine.proofs.Compares.{gives_none, gives_some}
 use Rattle.dg_machine.proofs.Gatherings.{gathered_held}
 use Rattle.dg_machine.proofs.Hands.{few, at_most_one}
 use Rattle.dg_machine.proofs.Opens.{on_arena}
-use Rattle.dg_machine.proofs.Outsides.{has_outside, has_unifies}
+use Rattle.dg_machine.proofs.Lasting.{has_lasting, has_unifies}
 
 -- ## What falls
 
@@ -80,7 +80,7 @@ front_of rows cells (x ∷ xs) first are formed = record {
   formed = formed 0 x (omega arith);
 }
 
-pub newest_in : (out : Outside) (g : Game) (l : Limits) (m : Mid) (cells : List Cell) → slice_get out.gathered.rows 0 ≡ Some cells → Around out g l m → NewestIs out.gathered.rows cells m.gathered
+pub newest_in : (out : Lasting) (g : Game) (l : Limits) (m : Mid) (cells : List Cell) → slice_get out.gathered.rows 0 ≡ Some cells → Around out g l m → NewestIs out.gathered.rows cells m.gathered
 newest_in out g l m cells first w = front_of out.gathered.rows cells m.gathered first w.0.1.0 w.0.1.1
 
 none_in : (rows : List (List Cell)) (gs : List Gathering) → rows ≡ [] → rows ≡ map row_of gs → gs ≡ []
@@ -92,13 +92,13 @@ some_row [] cells h = cc
 some_row (row ∷ rows) cells h = omega arith
 
 -- where none is open it fails
-pub takes_none : (code : Code) (g : Game) (l : Limits) (m : Mid) (whole : Gathered) (into : Value) (b : ℕ) (r : Memory) (out : Outside) → out.gathered.rows ≡ [] → Holds code l r m → Around out g l m → FallsWith code g l (with_way r (Takes b)) Resumes r Fails out (takes_newest (setting g code l) whole into m.gathered m)
+pub takes_none : (code : Code) (g : Game) (l : Limits) (m : Mid) (whole : Gathered) (into : Value) (b : ℕ) (r : Memory) (out : Lasting) → out.gathered.rows ≡ [] → Holds code l r m → Around out g l m → FallsWith code g l (with_way r (Takes b)) Resumes r Fails out (takes_newest (setting g code l) whole into m.gathered m)
 takes_none code g l m whole into b r out none h w =
     subst (λ gs. FallsWith code g l (with_way r (Takes b)) Resumes r Fails out (takes_newest (setting g code l) whole into gs m)) (sym (none_in out.gathered.rows m.gathered none w.0.1.0))
-    (record { done = record { stands = h; falls = omega arith }; outside = w })
+    (record { done = record { stands = h; falls = omega arith }; lasting = w })
 
 -- the newest is dropped
-module _ (code : Code) (g : Game) (l : Limits) (m : Mid) (r : Memory) (out out' : Outside) (cells : List Cell) (height : ℕ) (first : slice_get out.gathered.rows 0 ≡ Some cells) (count : height ≡ length out.gathered.rows - 1) (closes : Closes height out out') (h : Holds code l r m) (w : Around out g l m) where
+module _ (code : Code) (g : Game) (l : Limits) (m : Mid) (r : Memory) (out out' : Lasting) (cells : List Cell) (height : ℕ) (first : slice_get out.gathered.rows 0 ≡ Some cells) (count : height ≡ length out.gathered.rows - 1) (closes : Closes height out out') (h : Holds code l r m) (w : Around out g l m) where
   abbrev pub x : NewestIs out.gathered.rows cells m.gathered
   x = newest_in out g l m cells first w
 
@@ -122,8 +122,8 @@ module _ (code : Code) (g : Game) (l : Limits) (m : Mid) (r : Memory) (out out' 
   pub left_around : Around out' g l left_m
   left_around = (
     closes.stands g (world_of [] m) (world_of [] left_m) w.0 (record { count = 1; is = ap (λ gs. record (world_of [] m) { gathered = drop 1 gs }) (sym x.is) }) many,
-    ap (λ (o : Outside). o.world.area.keep) closes.is ∙ w.1,
-    ap (λ (o : Outside). o.gathered.aux) closes.is ∙ w.2,
+    ap (λ (o : Lasting). o.world.area.keep) closes.is ∙ w.1,
+    ap (λ (o : Lasting). o.gathered.aux) closes.is ∙ w.2,
   )
 
   pub takes_is : (whole : Gathered) (into : Value) → takes_newest (setting g code l) whole into m.gathered m ≡ takes_newest (setting g code l) whole into (x.newest ∷ x.others) m
@@ -141,7 +141,7 @@ module _ (code : Code) (g : Game) (l : Limits) (m : Mid) (r : Memory) (out out' 
     pub sum_none : None ≡ total x.newest.values → FallsWith code g l (with_way r (Takes b)) Resumes (record r { gathered = height }) Fails out' (takes_newest (setting g code l) Sum into m.gathered m)
     sum_none none =
         subst (FallsWith code g l (with_way r (Takes b)) Resumes (record r { gathered = height }) Fails out') (sym (takes_is Sum into ∙ gives_none (setting g code l) into left_m summed refl (total x.newest.values) none))
-        (record { done = record { stands = left_held; falls = omega arith }; outside = left_around })
+        (record { done = record { stands = left_held; falls = omega arith }; lasting = left_around })
 
     pub sum_some : (n : ℕ) (new : Memory) (now : Now) → Some n ≡ total x.newest.values → GoesLate now → choices_left new.choices.items ≡ choices_left r.choices.items →
         Stands code l new now (unified (setting g code l) (unify left_m.state.subst into (leaf (Num n))) left_m (RunsOf (bound (unify left_m.state.subst into (leaf (Num n))) left_m))) → FallsWith code g l (with_way r (Takes b)) Resumes new now out' (takes_newest (setting g code l) Sum into m.gathered m)
@@ -153,12 +153,12 @@ module _ (code : Code) (g : Game) (l : Limits) (m : Mid) (r : Memory) (out out' 
         let there : Stands code l new now s = subst (Stands code l new now) (sym is) stands in
         subst (FallsWith code g l (with_way r (Takes b)) Resumes new now out') (sym (takes_is Sum into ∙ ap (λ o. done set (gives_number o into (registers_of left_m) summed) left_m) (sym some))) (record {
           done = record { stands = there; falls = late_falls code l b r new now s late there same };
-          outside = has_outside out' g l left_m s (has_unifies left_m.outside left_m.gathered set (registers_of left_m) ((into, leaf (Num n)) ∷ []) summed left_m refl refl) left_around;
+          lasting = has_lasting out' g l left_m s (has_unifies left_m.lasting left_m.gathered set (registers_of left_m) ((into, leaf (Num n)) ∷ []) summed left_m refl refl) left_around;
         })
 
 -- ## The choice goes on
 
-pub goes_takes : (code : Code) (g : Game) (l : Limits) (m : Mid) (b : ℕ) (r new : Memory) (now : Now) (out out' : Outside) (ops : List Op) (on : WayOf) → WayAt code (meaning_of r.arena) r.args.items (Takes b) on → IsBuilt code → ops ≡ block_at code b → TakesOut code b r out ops new now out' → Holds code l r m → Around out g l m →
+pub goes_takes : (code : Code) (g : Game) (l : Limits) (m : Mid) (b : ℕ) (r new : Memory) (now : Now) (out out' : Lasting) (ops : List Op) (on : WayOf) → WayAt code (meaning_of r.arena) r.args.items (Takes b) on → IsBuilt code → ops ≡ block_at code b → TakesOut code b r out ops new now out' → Holds code l r m → Around out g l m →
     FallsWith code g l (with_way r (Takes b)) Resumes new now out' (goes_on (setting g code l) on m)
 goes_takes code g l m b r new now out out' ops (TakesOf b' into) at built is out_of h w =
     subst (λ xs. FallsWith code g l (with_way r (Takes b)) Resumes new now out' (takes (setting g code l) into xs m)) (is ∙ ap (block_at code) (sym at.0)) (out_of g l m into built is (refl, at.1, at.2) h w)

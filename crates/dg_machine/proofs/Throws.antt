@@ -9,23 +9,23 @@ use Rattle.dg_meaning.specs.Moves.{throws}
 use Rattle.dg_meaning.specs.inside.Unify.{unify}
 use Rattle.dg_meaning.specs.Values.{Value, Num, leaf}
 use Rattle.dg_meaning.specs.World.{Game, World, drew}
-use Rattle.dg_outside.specs.declared.outside.Outside.{Outside}
+use Rattle.dg_lasting.specs.declared.lasting.Lasting.{Lasting}
 use Rattle.dg_terms.specs.Throwing.{Throws}
 use Rattle.dg_mid.specs.declared.code.Code.{Code}
 use Rattle.dg_mid.specs.declared.code.Op.TheVariants as op
 use Rattle.dg_mid.specs.declared.code.Action.{Action}
 use Rattle.dg_mid.specs.Actions.{terms_of, act_at, registers_of}
-use Rattle.dg_mid.specs.Reads.{outside_of}
+use Rattle.dg_mid.specs.Reads.{lasting_of}
 use Rattle.dg_mid.specs.State.{Mid, Status, Runs as RunsOf, Ended as EndedOf}
 use Rattle.dg_mid.specs.Step.{setting, more, charged, bound, does, done, unified}
 use Rattle.dg_machine.specs.declared.now.Now.{Now}
 use Rattle.dg_machine.specs.declared.now.Now.TheVariants.{Ended}
 use Rattle.dg_machine.specs.declared.memory.Memory.{Memory}
 use Rattle.dg_machine.specs.Layout.{Holds}
-use Rattle.dg_machine.specs.Standing.{Stands, Around, HasOutside, StandsWith}
+use Rattle.dg_machine.specs.Standing.{Stands, Around, HasLasting, StandsWith}
 use Rattle.dg_machine.proofs.Opens.{fits}
 use Rattle.dg_machine.proofs.Leads.{charged_on}
-use Rattle.dg_machine.proofs.Outsides.{has_outside, has_unifies}
+use Rattle.dg_machine.proofs.Lasting.{has_lasting, has_unifies}
 use Rattle.dg_machine.proofs.Unifying.{done_unifies_in}
 
 abbrev IsNone : Option ℕ → Type 0
@@ -51,39 +51,39 @@ threw_some (Some j) words n k dice h = record { is = sym h.1; drawn = h.0 }
 
 -- a machine with so many dice words drawn
 abbrev pub with_drawn : ℕ → Mid → Mid
-with_drawn n m = record m { outside = record m.outside { dice = n } }
+with_drawn n m = record m { lasting = record m.lasting { dice = n } }
 
--- what is outside stands for the world in which so many were drawn
-pub drawn_world : (out new : Outside) (g : Game) (l : Limits) (m : Mid) (n : ℕ) → new ≡ record out { dice = new.dice } → Around out g l m → HasDrawn new.dice g.dice n → Around new g l (with_drawn n m)
+-- what lasts stands for the world in which so many were drawn
+pub drawn_world : (out new : Lasting) (g : Game) (l : Limits) (m : Mid) (n : ℕ) → new ≡ record out { dice = new.dice } → Around out g l m → HasDrawn new.dice g.dice n → Around new g l (with_drawn n m)
 drawn_world out new g l m n others w drawn = let v = w.0 in subst (λ x. Around x g l (with_drawn n m)) (sym others) ((v.0, v.1, drawn, v.3), w.1, w.2)
 
 -- the number is unified with the value
-module _ (code : Code) (g : Game) (l : Limits) (m : Mid) (v : Value) (k n : ℕ) (world : World) (is : outside_of (drew 1 world) ≡ (with_drawn n m).outside) where
-  pub threw_stands : (new : Memory) (now : Now) (out : Outside) → Around out g l (with_drawn n m) →
+module _ (code : Code) (g : Game) (l : Limits) (m : Mid) (v : Value) (k n : ℕ) (world : World) (is : lasting_of (drew 1 world) ≡ (with_drawn n m).lasting) where
+  pub threw_stands : (new : Memory) (now : Now) (out : Lasting) → Around out g l (with_drawn n m) →
       Stands code l new now (unified (setting g code l) (unify m.state.subst v (leaf (Num k))) (with_drawn n m) (RunsOf (bound (unify m.state.subst v (leaf (Num k))) (with_drawn n m)))) →
       StandsWith code g l new now out (done (setting g code l) (throws (Some k) v (registers_of m) world) m)
   threw_stands new now out w h =
       let set = setting g code l in
       let es = (v, leaf (Num k)) ∷ [] in
       let s = done set (throws (Some k) v (registers_of m) world) m in
-      let stands : Stands code l new now s = subst (Stands code l new now) (sym (done_unifies_in set es m (with_drawn n m).outside (drew 1 world) is)) h in
-      record { stands = stands; outside = has_outside out g l (with_drawn n m) s (has_unifies (with_drawn n m).outside m.gathered set (registers_of m) es (drew 1 world) m is refl) w }
+      let stands : Stands code l new now s = subst (Stands code l new now) (sym (done_unifies_in set es m (with_drawn n m).lasting (drew 1 world) is)) h in
+      record { stands = stands; lasting = has_lasting out g l (with_drawn n m) s (has_unifies (with_drawn n m).lasting m.gathered set (registers_of m) es (drew 1 world) m is refl) w }
 
 -- ## Behind cells that were taken
 
--- where the run has ended, what is outside stands for nothing
-pub ended_outside : (code : Code) (g : Game) (l : Limits) (r : Memory) (e : Ending) (s : Status) (out : Outside) → Stands code l r (Ended e) s → HasOutside out g l s
-ended_outside code g l r e (EndedOf x) out h = tt
-ended_outside code g l r e s out h = absurd h
+-- where the run has ended, what lasts stands for nothing
+pub ended_lasting : (code : Code) (g : Game) (l : Limits) (r : Memory) (e : Ending) (s : Status) (out : Lasting) → Stands code l r (Ended e) s → HasLasting out g l s
+ended_lasting code g l r e (EndedOf x) out h = tt
+ended_lasting code g l r e s out h = absurd h
 
 -- an instruction is done behind its cells
-pub led_with : (code : Code) (g : Game) (l : Limits) (n : ℕ) (m : Mid) (next : Status) (mid new : Memory) (now : Now) (out : Outside) → Holds code l mid (more n m) → StandsWith code g l new now out next → StandsWith code g l new now out (charged (setting g code l) n m next)
+pub led_with : (code : Code) (g : Game) (l : Limits) (n : ℕ) (m : Mid) (next : Status) (mid new : Memory) (now : Now) (out : Lasting) → Holds code l mid (more n m) → StandsWith code g l new now out next → StandsWith code g l new now out (charged (setting g code l) n m next)
 led_with code g l n m next mid new now out held y =
     let within = fits code l (more n m) mid held in
     subst (StandsWith code g l new now out) (sym (charged_on (setting g code l) n m next (omega (arith, within)))) y
 
 -- so is an action
-pub act_led_with : (code : Code) (g : Game) (l : Limits) (a : Action) (m : Mid) (mid new : Memory) (now : Now) (out : Outside) → let n = cells g.program (terms_of a) in
+pub act_led_with : (code : Code) (g : Game) (l : Limits) (a : Action) (m : Mid) (mid new : Memory) (now : Now) (out : Lasting) → let n = cells g.program (terms_of a) in
     Holds code l mid (more n m) → StandsWith code g l new now out (done (setting g code l) (act_at g [] a (more n m)) (more n m)) → StandsWith code g l new now out (does (setting g code l) (op.Do a) m)
 act_led_with code g l a m mid new now out held y =
     let n = cells g.program (terms_of a) in

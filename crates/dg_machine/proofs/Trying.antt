@@ -17,11 +17,11 @@ use Rattle.dg_meaning.specs.Path.{Registers, Unifies}
 use Rattle.dg_meaning.specs.Unify.{Equations, Unified, solve}
 use Rattle.dg_meaning.specs.Values.{Value, Object, leaf}
 use Rattle.dg_meaning.specs.World.{Game, World, worked}
-use Rattle.dg_outside.specs.Finding.{counted}
+use Rattle.dg_lasting.specs.Finding.{counted}
 use Rattle.dg_meaning.specs.inside.Finding.{may_find}
-use Rattle.dg_outside.specs.Outside.{outline}
-use Rattle.dg_outside.specs.declared.outside.Outside.{Outside}
-use Rattle.dg_outside.proofs.Finds.{counted_first, counted_none, same_copy, behind_simple}
+use Rattle.dg_lasting.specs.Lasting.{outline}
+use Rattle.dg_lasting.specs.declared.lasting.Lasting.{Lasting}
+use Rattle.dg_lasting.proofs.Finds.{counted_first, counted_none, same_copy, behind_simple}
 use Rattle.dg_world.specs.Tables.{Outline, simple_value}
 use Rattle.dg_world.specs.Worlds.{StandsFor}
 use Rattle.dg_unify.specs.Store.{Store, label_of}
@@ -31,7 +31,7 @@ use Rattle.dg_mid.specs.declared.code.Op.TheVariants as op
 use Rattle.dg_mid.specs.declared.code.Code.{Code}
 use Rattle.dg_mid.specs.Actions.{found_at, registers_of, world_of}
 use Rattle.dg_mid.specs.Code.{block_at}
-use Rattle.dg_mid.specs.Reads.{outside_of}
+use Rattle.dg_mid.specs.Reads.{lasting_of}
 use Rattle.dg_mid.specs.State.{Place, Find as FindOf, Way as WayOf, Tries as TriesOf, Mid, Runs as RunsOf, Fails as FailsOf, inner_for, place_of}
 use Rattle.dg_mid.specs.Heights.{MidOrdered, PlacesNamed}
 use Rattle.dg_mid.specs.Step.{setting, commits, cut_to, runs, step, bound, done, unified, if_agreed, goes_on, inside, trying, trying_cells, tries}
@@ -56,7 +56,7 @@ use Rattle.dg_machine.proofs.Matching.{zip_none}
 use Rattle.dg_machine.proofs.Unifying.{done_unifies}
 
 -- a choice of objects goes on
-pub go_tries : (code : Code) (g : Game) (l : Limits) (m : Mid) (out : Outside) (k : Search) (from end : ℕ) (r new : Memory) (now : Now) (on : WayOf) → WaySeeks g code on → Around out g l m → WayAt code (meaning_of r.arena) r.args.items (Tries k from end) on →
+pub go_tries : (code : Code) (g : Game) (l : Limits) (m : Mid) (out : Lasting) (k : Search) (from end : ℕ) (r new : Memory) (now : Now) (on : WayOf) → WaySeeks g code on → Around out g l m → WayAt code (meaning_of r.arena) r.args.items (Tries k from end) on →
     TriesFirst code out r k from end new now → Holds code l r m → Falls code l (with_way r (Tries k from end)) Resumes new now (goes_on (setting g code l) on m)
 go_tries code g l m out k from end r new now (TriesOf f objects) seeks around at tried h = tried g l m f objects seeks around at.0 at.1 h
 go_tries code g l m out k from end r new now on seeks around at tried h = absurd at
@@ -82,8 +82,8 @@ lands_leaves code k height all rest built is one split l r m f p many next high 
     ((same, parts.1), record { innermost = p; around = m.inner; is = ap (λ b. inner_for b p m.inner) (many ∙ one); held = h }, high)
 
 -- what is set of an object, where it may be asked
-pub found_here : (g : Game) (l : Limits) (m : Mid) (out : Outside) (place k : Option ℕ) (object : ℕ) (is : Option Value) → ((o : Outline) (facts : List Fact) → StandsFor out.world o facts → may_find o.kinds k ≡ true → is ≡ found facts k object) → place ≡ k → may_find (kinds_of g.program) place ≡ true → Around out g l m → found m.outside.facts place object ≡ is
-found_here g l m out place k object is h e may w = ap (λ q. found m.outside.facts q object) e ∙ sym (h (outline g.program out.world.area.keep) m.outside.facts w.0.0.stands (subst (λ q. may_find (kinds_of g.program) q ≡ true) e may))
+pub found_here : (g : Game) (l : Limits) (m : Mid) (out : Lasting) (place k : Option ℕ) (object : ℕ) (is : Option Value) → ((o : Outline) (facts : List Fact) → StandsFor out.world o facts → may_find o.kinds k ≡ true → is ≡ found facts k object) → place ≡ k → may_find (kinds_of g.program) place ≡ true → Around out g l m → found m.lasting.facts place object ≡ is
+found_here g l m out place k object is h e may w = ap (λ q. found m.lasting.facts q object) e ∙ sym (h (outline g.program out.world.area.keep) m.lasting.facts w.0.0.stands (subst (λ q. may_find (kinds_of g.program) q ≡ true) e may))
 
 -- values without parts
 pub simple_is : (x : Simple) → leaf (label_of x) ≡ simple_value x
@@ -116,7 +116,7 @@ args_some s rs vs n b at count is e = let some = is_more n (sym is ∙ e) in let
 -- what trying an object comes to
 record FindsSo (args : List Value) (o : ℕ) (r : Registers) (x : Simple) (w : World) : Type 0 where
   world : World
-  same : outside_of world ≡ outside_of w
+  same : lasting_of world ≡ lasting_of w
   is : finds args o r (simple_value x) w ≡ Unifies r (zip args (leaf (Object o) ∷ simple_value x ∷ [])) world
 
 finds_so : (args : List Value) (o : ℕ) (r : Registers) (x : Simple) (w : World) → 1 ≤ length args → FindsSo args o r x w
@@ -141,7 +141,7 @@ module _ (code : Code) (g : Game) (l : Limits) (m : Mid) (f : FindOf) (p : Place
   tried_w = begun (registers_of lm) 1 (world_of [] lm)
 
   -- nothing is set of it
-  pub tried_none : found m.outside.facts f.place object ≡ None → done (setting g code l) (found_at [] f object lm) lm ≡ FailsOf lm
+  pub tried_none : found m.lasting.facts f.place object ≡ None → done (setting g code l) (found_at [] f object lm) lm ≡ FailsOf lm
   tried_none e = ap (λ fact. done (setting g code l) (finds_if_set f.args object (registers_of lm) fact tried_w) lm) e
 
   none_found : (args : List Value) (fact : Option Value) → args ≡ [] → done (setting g code l) (finds_if_set args object (registers_of lm) fact tried_w) lm ≡ FailsOf lm
@@ -150,10 +150,10 @@ module _ (code : Code) (g : Game) (l : Limits) (m : Mid) (f : FindOf) (p : Place
 
   -- nothing is asked
   pub tried_nothing : f.args ≡ [] → done (setting g code l) (found_at [] f object lm) lm ≡ FailsOf lm
-  tried_nothing e = none_found f.args (found m.outside.facts f.place object) e
+  tried_nothing e = none_found f.args (found m.lasting.facts f.place object) e
 
   -- it is unified with the arguments
-  module _ (x : Simple) (is : found m.outside.facts f.place object ≡ Some (simple_value x)) (le : 1 ≤ length f.args) where
+  module _ (x : Simple) (is : found m.lasting.facts f.place object ≡ Some (simple_value x)) (le : 1 ≤ length f.args) where
     abbrev es : Equations
     es = zip f.args (leaf (Object object) ∷ simple_value x ∷ [])
 

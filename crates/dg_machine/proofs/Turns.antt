@@ -27,15 +27,15 @@ use Rattle.dg_machine.specs.declared.now.Now.TheVariants.{Runs, Enters, Resumes,
 use Rattle.dg_machine.specs.declared.memory.Memory.{Memory}
 use Rattle.dg_machine.specs.Built.{OpsBuilt, IsBuilt, IsQuietOp}
 use Rattle.dg_machine.specs.Layout.{HasRoom, Holds, Roomy}
-use Rattle.dg_machine.specs.Standing.{Stands, HasOutside, DoesOp}
-use Rattle.dg_outside.specs.declared.outside.Outside.{Outside}
+use Rattle.dg_machine.specs.Standing.{Stands, HasLasting, DoesOp}
+use Rattle.dg_lasting.specs.declared.lasting.Lasting.{Lasting}
 use Rattle.dg_machine.specs.declared.tables.Tables.{Tables}
 use Rattle.dg_machine.specs.Tables.{IsOf}
 use Rattle.dg_machine.specs.inside.Running.{rests, IsQuick, HasText, DoesMarks, ReadsGoal, Settles, Takes, IsAt, IsLost, IsUnread, IsSomewhere, IsSomewhereWith, IsSomewhereLeft, IsSomewhereAt, IsSomewhereStill, HasEnded, Finishes, IsLostWithin, IsUnreadWithin, BreaksGoal, BreaksTurn, BreaksRun}
 use Rattle.dg_machine.specs.inside.Reading.{IsEnd, LeftBehind, ReadsNone}
 use Rattle.dg_machine.proofs.Opens.{roomy}
 use Rattle.dg_machine.proofs.Goals.{quiet_done}
-use Rattle.dg_machine.proofs.Outsides.{quiet_draws, run_outside}
+use Rattle.dg_machine.proofs.Lasting.{quiet_draws, run_lasting}
 use Rattle.dg_machine.proofs.Readings.{gave_nothing, gave_on, goes_unread, none_first, some_behind, left_still}
 use Rattle.dg_machine.proofs.Runs.{goal_at, one_mark, typed_at, took_goal, lost_goal, unread_goal}
 
@@ -61,32 +61,32 @@ quiet_unread : (x : Op) → IsQuietOp x → ReadsNone x
 quiet_unread (op.Do (action.Input t)) quiet = quiet
 quiet_unread x quiet = tt
 
--- an instruction that prints nothing, and leaves what is outside, reads nothing
-pub quiet_reads : (tb : Tables) (code : Code) (old new : Memory) (out : Outside) (all : List Op) (x : Op) (rest : List Op) (next : Now) (s : Spacer) (k : SinkView) (i : SourceView) → all ≡ x ∷ rest → IsQuietOp x → DoesOp tb code old x rest new next → ReadsGoal tb code old out all new out next s s k k i i
+-- an instruction that prints nothing, and leaves what lasts, reads nothing
+pub quiet_reads : (tb : Tables) (code : Code) (old new : Memory) (out : Lasting) (all : List Op) (x : Op) (rest : List Op) (next : Now) (s : Spacer) (k : SinkView) (i : SourceView) → all ≡ x ∷ rest → IsQuietOp x → DoesOp tb code old x rest new next → ReadsGoal tb code old out all new out next s s k k i i
 quiet_reads tb code old new out all x rest next s k i split quiet does =
     goes_unread tb code old out all new out next s s k k i (none_first all x rest split (quiet_unread x quiet))
     (λ g is_of l m o e at h w. quiet_done tb code g is_of l m old new next all x rest split at h s k out o w quiet does)
 
 -- and the machine is somewhere behind it
-pub quiet_somewhere : (tb : Tables) (code : Code) (old new : Memory) (out : Outside) (ops : Bor (List Op)) (x : Op) (rest : List Op) (next : Now) → ops.now ≡ x ∷ rest → IsQuietOp x → DoesOp tb code old x rest new next → IsSomewhereWith tb code old out (Runs ops) → IsSomewhereWith tb code new out next
+pub quiet_somewhere : (tb : Tables) (code : Code) (old new : Memory) (out : Lasting) (ops : Bor (List Op)) (x : Op) (rest : List Op) (next : Now) → ops.now ≡ x ∷ rest → IsQuietOp x → DoesOp tb code old x rest new next → IsSomewhereWith tb code old out (Runs ops) → IsSomewhereWith tb code new out next
 quiet_somewhere tb code old new out ops x rest next split quiet does found =
     let h = found.somewhere in
     let set = setting h.game code h.limits in
     let at = goal_at code h.game h.limits h.typed old ops (after set h.typed h.steps).now h.stands in
     let m = at.mid in
     let ordered : StatusOrdered (RunsOf m) = subst StatusOrdered at.is (all_ordered set h.typed h.steps) in
-    let w : HasOutside out h.game h.limits (RunsOf m) = subst (HasOutside out h.game h.limits) at.is found.outside in
+    let w : HasLasting out h.game h.limits (RunsOf m) = subst (HasLasting out h.game h.limits) at.is found.lasting in
     let first : m.ops ≡ x ∷ rest = at.code_is.0 ∙ split in
     let built : OpsBuilt (x ∷ rest) = subst OpsBuilt split at.code_is.1 in
     let stands = does h.game h.tabled h.limits (record m { ops = rest }) ordered built.0 (refl, built.1) at.held in
-    let outside = run_outside out h.game h.limits code x (record m { ops = rest }) built.0 (quiet_draws x quiet) w in
+    let lasting = run_lasting out h.game h.limits code x (record m { ops = rest }) built.0 (quiet_draws x quiet) w in
     record {
       somewhere = record { game = h.game; tabled = h.tabled; limits = h.limits; typed = h.typed; steps = suc h.steps; stands = subst (λ y. Stands code h.limits new next (step set y)) (sym at.is) (subst (λ xs. Stands code h.limits new next (runs set xs m)) (sym first) stands) };
-      outside = subst (λ y. HasOutside out h.game h.limits (step set y)) (sym at.is) (subst (λ xs. HasOutside out h.game h.limits (runs set xs m)) (sym first) outside);
+      lasting = subst (λ y. HasLasting out h.game h.limits (step set y)) (sym at.is) (subst (λ xs. HasLasting out h.game h.limits (runs set xs m)) (sym first) lasting);
     }
 
 -- behind a goal it is somewhere still
-pub somewhere_behind : (tb : Tables) (code : Code) (old new : Memory) (out out' : Outside) (ops : Bor (List Op)) (next : Now) (s s' : Spacer) (k k' : SinkView) (i i' : SourceView) (rest : List ℕ) → at_goal ops.now ≡ true → (does : ReadsGoal tb code old out ops.now new out' next s s' k k' i i') → LeftBehind does.gave.ended i' rest →
+pub somewhere_behind : (tb : Tables) (code : Code) (old new : Memory) (out out' : Lasting) (ops : Bor (List Op)) (next : Now) (s s' : Spacer) (k k' : SinkView) (i i' : SourceView) (rest : List ℕ) → at_goal ops.now ≡ true → (does : ReadsGoal tb code old out ops.now new out' next s s' k k' i i') → LeftBehind does.gave.ended i' rest →
     IsSomewhereAt tb code old out (Runs ops) i → IsSomewhereLeft tb code new out' next rest
 somewhere_behind tb code old new out out' ops next s s' k k' i i' rest e does left before =
     let here = before (does.gave.taken ++ rest) (does.gave.left rest left) in
@@ -96,49 +96,49 @@ somewhere_behind tb code old new out out' ops next s s' k k' i i' rest e does le
     let at = goal_at code h.game h.limits h.typed old ops (after set h.typed h.steps).now h.stands in
     let ordered : StatusOrdered (RunsOf at.mid) = subst StatusOrdered at.is (all_ordered set h.typed h.steps) in
     let bytes = typed_at code h.game h.limits h.typed h.steps at.mid at.is in
-    let both = does.does rest left h.game h.tabled h.limits at.mid ordered e at.code_is at.held (subst (HasOutside out h.game h.limits) at.is found.outside) (bytes ∙ here.left_is) in
+    let both = does.does rest left h.game h.tabled h.limits at.mid ordered e at.code_is at.held (subst (HasLasting out h.game h.limits) at.is found.lasting) (bytes ∙ here.left_is) in
     let done = both.0 in
     record {
       found = record {
         somewhere = record { game = h.game; tabled = h.tabled; limits = h.limits; typed = h.typed; steps = suc h.steps; stands = subst (λ x. Stands code h.limits new next (step set x)) (sym at.is) done.stands };
-        outside = subst (λ x. HasOutside out' h.game h.limits (step set x)) (sym at.is) done.outside;
+        lasting = subst (λ x. HasLasting out' h.game h.limits (step set x)) (sym at.is) done.lasting;
       };
       left_is = ap (λ x. left_behind set x (left_after set h.typed h.steps)) at.is ∙ ap (left_behind set (RunsOf at.mid)) (sym bytes) ∙ both.1;
     }
 
 -- some machine is there
-pub somewhere_first : (tb : Tables) (code : Code) (r : Memory) (out : Outside) (now : Now) (i : SourceView) → IsSomewhereAt tb code r out now i → IsSomewhereWith tb code r out now
+pub somewhere_first : (tb : Tables) (code : Code) (r : Memory) (out : Lasting) (now : Now) (i : SourceView) → IsSomewhereAt tb code r out now i → IsSomewhereWith tb code r out now
 somewhere_first tb code r out now i h = let rest = some_left i.left in (h rest.0 rest.1).found
 
 -- and behind a step that takes none
-pub somewhere_marked : (tb : Tables) (code : Code) → IsBuilt code → (r new : Memory) (out out' : Outside) (now next : Now) → rests now ≡ false → DoesMarks tb code r out now new out' next → IsSomewhereWith tb code r out now → IsSomewhereWith tb code new out' next
+pub somewhere_marked : (tb : Tables) (code : Code) → IsBuilt code → (r new : Memory) (out out' : Lasting) (now next : Now) → rests now ≡ false → DoesMarks tb code r out now new out' next → IsSomewhereWith tb code r out now → IsSomewhereWith tb code new out' next
 somewhere_marked tb code built r new out out' now next e does found =
     let h = found.somewhere in
-    let done = one_mark code h.game h.limits h.typed built tb h.tabled r new out out' now next h.steps e does h.stands found.outside in
-    record { somewhere = record { game = h.game; tabled = h.tabled; limits = h.limits; typed = h.typed; steps = suc h.steps; stands = done.stands }; outside = done.outside }
+    let done = one_mark code h.game h.limits h.typed built tb h.tabled r new out out' now next h.steps e does h.stands found.lasting in
+    record { somewhere = record { game = h.game; tabled = h.tabled; limits = h.limits; typed = h.typed; steps = suc h.steps; stands = done.stands }; lasting = done.lasting }
 
 -- and behind steps that take no goal
-pub somewhere_settled : (tb : Tables) (code : Code) (old new : Memory) (out out' : Outside) (before now : Now) → Settles tb code old out before new out' now → IsSomewhereWith tb code old out before → IsSomewhereWith tb code new out' now
+pub somewhere_settled : (tb : Tables) (code : Code) (old new : Memory) (out out' : Lasting) (before now : Now) → Settles tb code old out before new out' now → IsSomewhereWith tb code old out before → IsSomewhereWith tb code new out' now
 somewhere_settled tb code old new out out' before now settles found =
     let h = found.somewhere in
-    let x = settles h.game h.tabled h.limits h.typed h.steps h.stands found.outside in
-    record { somewhere = record { game = h.game; tabled = h.tabled; limits = h.limits; typed = h.typed; steps = x.further; stands = x.stands }; outside = x.outside }
+    let x = settles h.game h.tabled h.limits h.typed h.steps h.stands found.lasting in
+    record { somewhere = record { game = h.game; tabled = h.tabled; limits = h.limits; typed = h.typed; steps = x.further; stands = x.stands }; lasting = x.lasting }
 
 -- and where bytes are left
-pub left_settled : (tb : Tables) (code : Code) (old new : Memory) (out out' : Outside) (before now : Now) (rest : List ℕ) → Settles tb code old out before new out' now → IsSomewhereLeft tb code old out before rest → IsSomewhereLeft tb code new out' now rest
+pub left_settled : (tb : Tables) (code : Code) (old new : Memory) (out out' : Lasting) (before now : Now) (rest : List ℕ) → Settles tb code old out before new out' now → IsSomewhereLeft tb code old out before rest → IsSomewhereLeft tb code new out' now rest
 unfolding somewhere_settled
 left_settled tb code old new out out' before now rest settles h =
     let x = h.found.somewhere in
-    record { found = somewhere_settled tb code old new out out' before now settles h.found; left_is = (settles x.game x.tabled x.limits x.typed x.steps x.stands h.found.outside).left ∙ h.left_is }
+    record { found = somewhere_settled tb code old new out out' before now settles h.found; left_is = (settles x.game x.tabled x.limits x.typed x.steps x.stands h.found.lasting).left ∙ h.left_is }
 
 module _ (code : Code) (g : Game) (l : Limits) (typed : List ℕ) where
   abbrev set : Setting
   set = setting g code l
 
-  pub settled_at : (tb : Tables) → IsOf g.program tb → (old new : Memory) (out out' : Outside) (before now : Now) (goals : ℕ) (s : Spacer) (start k : SinkView) (left : List ℕ) → Settles tb code old out before new out' now → IsAt code g l typed old out before goals s start k left → IsAt code g l typed new out' now goals s start k left
+  pub settled_at : (tb : Tables) → IsOf g.program tb → (old new : Memory) (out out' : Lasting) (before now : Now) (goals : ℕ) (s : Spacer) (start k : SinkView) (left : List ℕ) → Settles tb code old out before new out' now → IsAt code g l typed old out before goals s start k left → IsAt code g l typed new out' now goals s start k left
   settled_at tb is_of old new out out' before now goals s start k left settles h =
-      let x = settles g is_of l typed h.steps h.stands h.outside in
-      record { steps = x.further; stands = x.stands; outside = x.outside; goals_is = x.goals ∙ h.goals_is; text = subst (HasText s start k) (sym x.prints) h.text; left_is = x.left ∙ h.left_is }
+      let x = settles g is_of l typed h.steps h.stands h.lasting in
+      record { steps = x.further; stands = x.stands; lasting = x.lasting; goals_is = x.goals ∙ h.goals_is; text = subst (HasText s start k) (sym x.prints) h.text; left_is = x.left ∙ h.left_is }
 
   -- the run has ended
   ended_in : (r : Memory) (e : Ending) (goals left : ℕ) (s : Spacer) (start k : SinkView) (rest : List ℕ) (steps : ℕ) (x : Status) → (after set typed steps).now ≡ x → (after set typed steps).goals ≡ goals → HasText s start k (after set typed steps).prints → left_after set typed steps ≡ rest → Stands code l r (Ended e) x →
@@ -147,7 +147,7 @@ module _ (code : Code) (g : Game) (l : Limits) (typed : List ℕ) where
   ended_in r e goals left s start k rest steps x is goals_is text left_is h = absurd h
 
   -- no budget is left at a goal
-  limited_at : (r : Memory) (out : Outside) (now : Now) (goals left : ℕ) (s : Spacer) (start k : SinkView) (rest : List ℕ) → rests now ≡ true → ((e : Ending) → now ≡ Ended e → ⊥) → left ≡ 0 → IsAt code g l typed r out now goals s start k rest → HasEnded code g l typed goals StepLimit left r s start k rest
+  limited_at : (r : Memory) (out : Lasting) (now : Now) (goals left : ℕ) (s : Spacer) (start k : SinkView) (rest : List ℕ) → rests now ≡ true → ((e : Ending) → now ≡ Ended e → ⊥) → left ≡ 0 → IsAt code g l typed r out now goals s start k rest → HasEnded code g l typed goals StepLimit left r s start k rest
   limited_at r out (Runs ops) goals left s start k rest e other none h =
       let at = goal_at code g l typed r ops (after set typed h.steps).now h.stands in
       record { steps = h.steps; ends = inr (refl, none, ap takes_goal at.is ∙ ap at_goal at.code_is.0 ∙ e); goals_is = h.goals_is; text = h.text; left_is = h.left_is; roomy = roomy code l at.mid r at.held }
@@ -158,17 +158,17 @@ module _ (code : Code) (g : Game) (l : Limits) (typed : List ℕ) where
   limited_at r out Misses goals left s start k rest e other none h = absurd (cc)
   limited_at r out Fails goals left s start k rest e other none h = absurd (cc)
 
-  no_more : (r : Memory) (out : Outside) (now : Now) (n : ℕ) (s : Spacer) (start k : SinkView) (rest : List ℕ) → IsAt code g l typed r out now (n + 0) s start k rest → IsAt code g l typed r out now n s start k rest
+  no_more : (r : Memory) (out : Lasting) (now : Now) (n : ℕ) (s : Spacer) (start k : SinkView) (rest : List ℕ) → IsAt code g l typed r out now (n + 0) s start k rest → IsAt code g l typed r out now n s start k rest
   no_more r out now n s start k rest h = let none : n + 0 ≡ n = omega arith in subst (λ m. IsAt code g l typed r out now m s start k rest) none h
 
   -- the same of a machine that is told to be so
-  finished : (r : Memory) (out : Outside) (now : Now) (e : Ending) (n left : ℕ) (s : Spacer) (start k : SinkView) (rest : List ℕ) → now ≡ Ended e → IsAt code g l typed r out now (n + 0) s start k rest → HasEnded code g l typed n e left r s start k rest
+  finished : (r : Memory) (out : Lasting) (now : Now) (e : Ending) (n left : ℕ) (s : Spacer) (start k : SinkView) (rest : List ℕ) → now ≡ Ended e → IsAt code g l typed r out now (n + 0) s start k rest → HasEnded code g l typed n e left r s start k rest
   finished r out now e n left s start k rest is h =
       let at = subst (λ x. IsAt code g l typed r out x n s start k rest) is (no_more r out now n s start k rest h) in
       ended_in r e n left s start k rest at.steps (after set typed at.steps).now refl at.goals_is at.text at.left_is at.stands
 
   -- the output was lost at the next goal, within the budget
-  lost : (r new : Memory) (out : Outside) (now : Now) (ops : Bor (List Op)) (n budget : ℕ) (s : Spacer) (start k k' : SinkView) (left rest : List ℕ) → ((l : Limits) (m : Mid) → Holds code l r m → Roomy l new) → now ≡ Runs ops → suc n ≤ budget → (IsAt code g l typed r out (Runs ops) n s start k left → IsLost code g l typed n start k' rest) → IsAt code g l typed r out now (n + 0) s start k left →
+  lost : (r new : Memory) (out : Lasting) (now : Now) (ops : Bor (List Op)) (n budget : ℕ) (s : Spacer) (start k k' : SinkView) (left rest : List ℕ) → ((l : Limits) (m : Mid) → Holds code l r m → Roomy l new) → now ≡ Runs ops → suc n ≤ budget → (IsAt code g l typed r out (Runs ops) n s start k left → IsLost code g l typed n start k' rest) → IsAt code g l typed r out now (n + 0) s start k left →
       IsLostWithin code g l typed budget new start k' rest
   lost r new out now ops n budget s start k k' left rest room is le loses h =
       let here = subst (λ x. IsAt code g l typed r out x n s start k left) is (no_more r out now n s start k left h) in
@@ -176,7 +176,7 @@ module _ (code : Code) (g : Game) (l : Limits) (typed : List ℕ) where
       record { goals = n; within = omega (arith, le); lost = loses here; roomy = room l at.mid at.held }
 
   -- or the input
-  not_read : (r new : Memory) (out : Outside) (now : Now) (ops : Bor (List Op)) (n budget : ℕ) (s s' : Spacer) (start k k' : SinkView) (left : List ℕ) → ((l : Limits) (m : Mid) → Holds code l r m → Roomy l new) → now ≡ Runs ops → suc n ≤ budget → (IsAt code g l typed r out (Runs ops) n s start k left → IsUnread code g l typed n s' start k' left) → IsAt code g l typed r out now (n + 0) s start k left →
+  not_read : (r new : Memory) (out : Lasting) (now : Now) (ops : Bor (List Op)) (n budget : ℕ) (s s' : Spacer) (start k k' : SinkView) (left : List ℕ) → ((l : Limits) (m : Mid) → Holds code l r m → Roomy l new) → now ≡ Runs ops → suc n ≤ budget → (IsAt code g l typed r out (Runs ops) n s start k left → IsUnread code g l typed n s' start k' left) → IsAt code g l typed r out now (n + 0) s start k left →
       IsUnreadWithin code g l typed budget new s' start k' left
   not_read r new out now ops n budget s s' start k k' left room is le fails h =
       let here = subst (λ x. IsAt code g l typed r out x n s start k left) is (no_more r out now n s start k left h) in
@@ -185,7 +185,7 @@ module _ (code : Code) (g : Game) (l : Limits) (typed : List ℕ) where
 
 -- ## One goal
 
-module _ (tb : Tables) (code : Code) (old mid new : Memory) (out out' behind : Outside) (ops : Bor (List Op)) (next now : Now) (s s' : Spacer) (k k' : SinkView) (i i' : SourceView) (e : at_goal ops.now ≡ true) (does : ReadsGoal tb code old out ops.now mid out' next s s' k k' i i') (settles : Settles tb code mid out' next new behind now) (stays : IsEnd next → IsEnd now) where
+module _ (tb : Tables) (code : Code) (old mid new : Memory) (out out' behind : Lasting) (ops : Bor (List Op)) (next now : Now) (s s' : Spacer) (k k' : SinkView) (i i' : SourceView) (e : at_goal ops.now ≡ true) (does : ReadsGoal tb code old out ops.now mid out' next s s' k k' i i') (settles : Settles tb code mid out' next new behind now) (stays : IsEnd next → IsEnd now) where
   pub turn_takes : Takes tb code 1 old out (Runs ops) s k i new behind now s' k' i'
   turn_takes = record {
     gave = record { taken = does.gave.taken; ended = does.gave.ended; over = λ x. stays (does.gave.over x); left = does.gave.left; told = does.gave.told; later = does.gave.later };
@@ -198,7 +198,7 @@ module _ (tb : Tables) (code : Code) (old mid new : Memory) (out out' behind : O
       left_settled tb code mid new out' behind next now rest settles (somewhere_behind tb code old mid out out' ops next s s' k k' i i' rest e does left before)
 
 -- or a fault
-pub turn_breaks : (fault : Fault) (tb : Tables) (code : Code) (old : Memory) (out : Outside) (ops : Bor (List Op)) (s s' : Spacer) (k k' : SinkView) (i i' : SourceView) → at_goal ops.now ≡ true → BreaksGoal fault tb code old ops.now s s' k k' i i' → BreaksTurn fault tb code old out (Runs ops) s k i s' k' i'
+pub turn_breaks : (fault : Fault) (tb : Tables) (code : Code) (old : Memory) (out : Lasting) (ops : Bor (List Op)) (s s' : Spacer) (k k' : SinkView) (i i' : SourceView) → at_goal ops.now ≡ true → BreaksGoal fault tb code old ops.now s s' k k' i i' → BreaksTurn fault tb code old out (Runs ops) s k i s' k' i'
 turn_breaks Read tb code old out ops s s' k k' i i' e loses = record {
   failed = loses.failed;
   unread = λ g is_of l typed goals start left at. unread_goal code g l typed tb is_of old out ops s s' k k' i i' goals start left loses at;
@@ -212,9 +212,9 @@ turn_breaks Write tb code old out ops s s' k k' i i' e loses = record {
 
 -- ## From a start
 
-module _ (tb : Tables) (code : Code) (old : Memory) (out : Outside) (before : Now) (s : Spacer) (k : SinkView) (i : SourceView) where
+module _ (tb : Tables) (code : Code) (old : Memory) (out : Lasting) (before : Now) (s : Spacer) (k : SinkView) (i : SourceView) where
   -- the first steps take no goal
-  pub takes_none : (n : ℕ) (new : Memory) (out' : Outside) (now : Now) → ((x : ℕ) → n + x ≡ x) → Settles tb code old out before new out' now → Takes tb code n old out before s k i new out' now s k i
+  pub takes_none : (n : ℕ) (new : Memory) (out' : Lasting) (now : Now) → ((x : ℕ) → n + x ≡ x) → Settles tb code old out before new out' now → Takes tb code n old out before s k i new out' now s k i
   unfolding gave_nothing
   takes_none n new out' now none settles = record {
     gave = gave_nothing i now;
@@ -222,7 +222,7 @@ module _ (tb : Tables) (code : Code) (old : Memory) (out : Outside) (before : No
   }
 
   -- so many goals more
-  pub takes_on : (n m n' : ℕ) (mid new : Memory) (out1 out2 : Outside) (now next : Now) (ops : Bor (List Op)) (s1 s2 : Spacer) (k1 k2 : SinkView) (i1 i2 : SourceView) → now ≡ Runs ops → ((x : ℕ) → m + (n + x) ≡ n' + x) → Takes tb code n old out before s k i mid out1 now s1 k1 i1 → Takes tb code m mid out1 (Runs ops) s1 k1 i1 new out2 next s2 k2 i2 →
+  pub takes_on : (n m n' : ℕ) (mid new : Memory) (out1 out2 : Lasting) (now next : Now) (ops : Bor (List Op)) (s1 s2 : Spacer) (k1 k2 : SinkView) (i1 i2 : SourceView) → now ≡ Runs ops → ((x : ℕ) → m + (n + x) ≡ n' + x) → Takes tb code n old out before s k i mid out1 now s1 k1 i1 → Takes tb code m mid out1 (Runs ops) s1 k1 i1 new out2 next s2 k2 i2 →
       Takes tb code n' old out before s k i new out2 next s2 k2 i2
   unfolding gave_on
   takes_on n m n' mid new out1 out2 now next ops s1 s2 k1 k2 i1 i2 is one first second =
@@ -237,7 +237,7 @@ module _ (tb : Tables) (code : Code) (old : Memory) (out : Outside) (before : No
             subst (λ x. IsAt code g l typed new out2 next x s2 start k2 rest) (one goals) (second.takes rest h g is_of l typed (n + goals) start mid_at);
       }
 
-  module _ (n : ℕ) (mid : Memory) (out1 : Outside) (now : Now) (s1 : Spacer) (k1 : SinkView) (i1 : SourceView) (took : Takes tb code n old out before s k i mid out1 now s1 k1 i1) where
+  module _ (n : ℕ) (mid : Memory) (out1 : Lasting) (now : Now) (s1 : Spacer) (k1 : SinkView) (i1 : SourceView) (took : Takes tb code n old out before s k i mid out1 now s1 k1 i1) where
     -- the run has ended there
     pub finishes : (budget left : ℕ) (e : Ending) → now ≡ Ended e → n ≡ budget - left → left ≤ budget → Finishes tb code old out before budget s k i e left mid s1 k1 i1
     finishes budget left e is same le =

@@ -13,8 +13,8 @@ use Rattle.dg_mid.specs.declared.code.Op.{Op}
 use Rattle.dg_mid.specs.declared.code.Action.TheVariants as action
 use Rattle.dg_mid.specs.declared.code.Code.{Code}
 use Rattle.dg_mid.specs.Actions.{registers_of, world_of, act_at}
-use Rattle.dg_mid.specs.Reads.{outside_of}
-use Rattle.dg_mid.specs.State.{Outside as OutsideOf, Mid, Runs as RunsOf, vars_of}
+use Rattle.dg_mid.specs.Reads.{lasting_of}
+use Rattle.dg_mid.specs.State.{Lasting as LastingOf, Mid, Runs as RunsOf, vars_of}
 use Rattle.dg_mid.specs.Step.{Setting, setting, charged, bound, unified, if_agreed, made_in, done}
 use Rattle.dg_machine.specs.declared.now.Now.TheVariants.{Runs, Fails, Ended}
 use Rattle.dg_machine.specs.declared.memory.Memory.{Memory}
@@ -22,20 +22,20 @@ use Rattle.dg_machine.specs.Layout.{Matched, Unmatched}
 use Rattle.dg_machine.specs.Standing.{CodeIs, Stands}
 use Rattle.dg_machine.proofs.Leaving.{unified_on, unified_off}
 
--- values that are at hand are unified, and no cell is taken, where what is outside became so
-pub done_unifies_in : (g : Setting) (es : Equations) (m : Mid) (o : OutsideOf) (w : World) → outside_of w ≡ o → let m' = record m { outside = o } in done g (Unifies (registers_of m) es w) m ≡ unified g (solve m.state.subst es) m' (RunsOf (bound (solve m.state.subst es) m'))
+-- values that are at hand are unified, and no cell is taken, where what lasts became so
+pub done_unifies_in : (g : Setting) (es : Equations) (m : Mid) (o : LastingOf) (w : World) → lasting_of w ≡ o → let m' = record m { lasting = o } in done g (Unifies (registers_of m) es w) m ≡ unified g (solve m.state.subst es) m' (RunsOf (bound (solve m.state.subst es) m'))
 done_unifies_in g es m o w e =
     let none : m.state.heap - m.state.heap ≡ 0 = omega arith in
     let same : m.state.heap + 0 ≡ m.state.heap = omega arith in
     let u = solve m.state.subst es in
-    let m' = record m { outside = o } in
-    ap (λ x. charged g (m.state.heap - m.state.heap) m (unified g u (made_in (registers_of m) (record m { outside = x })) (RunsOf (bound u (made_in (registers_of m) (record m { outside = x })))))) e
+    let m' = record m { lasting = o } in
+    ap (λ x. charged g (m.state.heap - m.state.heap) m (unified g u (made_in (registers_of m) (record m { lasting = x })) (RunsOf (bound u (made_in (registers_of m) (record m { lasting = x })))))) e
     ∙ ap (λ k. charged g k m (unified g u (record m' { state = record m.state { heap = m.state.heap + k } }) (RunsOf (bound u (record m' { state = record m.state { heap = m.state.heap + k } }))))) none
     ∙ ap (λ k. unified g u (record m' { state = record m.state { heap = k } }) (RunsOf (bound u (record m' { state = record m.state { heap = k } })))) same
 
 -- the same where that is as it was
-pub done_unifies : (g : Setting) (es : Equations) (m : Mid) (w : World) → outside_of w ≡ m.outside → done g (Unifies (registers_of m) es w) m ≡ unified g (solve m.state.subst es) m (RunsOf (bound (solve m.state.subst es) m))
-done_unifies g es m w e = done_unifies_in g es m m.outside w e
+pub done_unifies : (g : Setting) (es : Equations) (m : Mid) (w : World) → lasting_of w ≡ m.lasting → done g (Unifies (registers_of m) es w) m ≡ unified g (solve m.state.subst es) m (RunsOf (bound (solve m.state.subst es) m))
+done_unifies g es m w e = done_unifies_in g es m m.lasting w e
 
 module _ (code : Code) (g : Game) (l : Limits) (u : Unified) (m : Mid) (new : Memory) where
   abbrev set_u : Setting

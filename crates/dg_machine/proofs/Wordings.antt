@@ -22,7 +22,7 @@ use Rattle.dg_texts.specs.Printing.{value_at}
 use Rattle.dg_texts.specs.Spelling.{TooMany}
 use Rattle.dg_mid.specs.declared.code.Code.{Code}
 use Rattle.dg_mid.specs.Actions.{registers_of}
-use Rattle.dg_mid.specs.Reads.{outside_of}
+use Rattle.dg_mid.specs.Reads.{lasting_of}
 use Rattle.dg_mid.specs.State.{Mid, Status, Runs as RunsOf}
 use Rattle.dg_mid.specs.Step.{Setting, setting, more, bound, charged, done, unified}
 use Rattle.dg_machine.specs.declared.memory.Memory.{Memory}
@@ -55,7 +55,7 @@ module _ (code : Code) (g : Game) (l : Limits) (m : Mid) (u v : Value) (w : Worl
   agreed_g = unify m.state.subst u v
 
   abbrev with_heap : ℕ → Mid
-  with_heap k = record m { outside = outside_of w; state = record m.state { heap = m.state.heap + k } }
+  with_heap k = record m { lasting = lasting_of w; state = record m.state { heap = m.state.heap + k } }
 
   -- the machine with the value made
   abbrev pub made_g : Mid

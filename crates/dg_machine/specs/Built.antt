@@ -84,7 +84,7 @@ pub record IsBuilt (code : Code) : Type 0 where
   pub blocks : (b : ℕ) → OpsBuilt (block_at code b)
   pub leave : (b : ℕ) → OpsLeave code (block_at code b)
 
--- An action prints nothing, reads nothing, leaves what is outside, and stops no part.
+-- An action prints nothing, reads nothing, leaves what lasts, and stops no part.
 abbrev pub IsQuiet : Action → Type 0
 IsQuiet (action.Text name) = ⊥
 IsQuiet (action.Gap kind) = ⊥

@@ -9,9 +9,9 @@ use Rattle.dg_meaning.specs.Facts.{kinds_of, value_at}
 use Rattle.dg_meaning.specs.Moves.{ask_objects, reads_if_set}
 use Rattle.dg_meaning.specs.Values.{Value}
 use Rattle.dg_meaning.specs.World.{Game, worked}
-use Rattle.dg_outside.specs.Finding.{counted}
+use Rattle.dg_lasting.specs.Finding.{counted}
 use Rattle.dg_meaning.specs.inside.Finding.{may_find}
-use Rattle.dg_outside.specs.declared.outside.Outside.{Outside}
+use Rattle.dg_lasting.specs.declared.lasting.Lasting.{Lasting}
 use Rattle.dg_unify.specs.declared.bindings.Ref.{Ref}
 use Rattle.dg_mid.specs.declared.code.Op.{Op}
 use Rattle.dg_mid.specs.declared.code.Code.{Code}
@@ -47,18 +47,18 @@ pub record HasCopied (code : Code) (l : Limits) (v : Value) (m : Mid) (new : Mem
 -- ## What is answered at once
 
 -- What is set of an object is read for the arguments behind the first at hand.
-abbrev pub ReadsObject : Code → Outside → Memory → Option ℕ → ℕ → List Op → Memory → Now → Type 0
+abbrev pub ReadsObject : Code → Lasting → Memory → Option ℕ → ℕ → List Op → Memory → Now → Type 0
 ReadsObject code out old place object rest new after = (g : Game) (l : Limits) (m : Mid) (v : Value) (us : List Value) (n : ℕ) →
     may_find (kinds_of g.program) place ≡ true → CodeIs rest m → Holds code l old m → RefsAt (meaning_of old.arena) old.args.items (v ∷ us) →
     Around out g l m → Stands code l new after (done (setting g code l)
-    (reads_if_set us (registers_of m) (found m.outside.facts place object) (worked n (world_of [] m))) m)
+    (reads_if_set us (registers_of m) (found m.lasting.facts place object) (worked n (world_of [] m))) m)
 
 -- The value of a global variable is read for the arguments at hand.
-abbrev pub ReadsGlobal : Code → Outside → Memory → ℕ → List Op → Memory → Now → Type 0
+abbrev pub ReadsGlobal : Code → Lasting → Memory → ℕ → List Op → Memory → Now → Type 0
 ReadsGlobal code out old place rest new after = (g : Game) (l : Limits) (m : Mid) (vs : List Value) →
     slice_get (kinds_of g.program) place ≡ Some Global → CodeIs rest m → Holds code l old m →
     RefsAt (meaning_of old.arena) old.args.items vs → Around out g l m → Stands code l new after (done (setting g code l)
-    (reads_if_set vs (registers_of m) (value_at m.outside.facts place 0) (world_of [] m)) m)
+    (reads_if_set vs (registers_of m) (value_at m.lasting.facts place 0) (world_of [] m)) m)
 
 -- ## Queries of objects
 
@@ -67,20 +67,20 @@ abbrev pub find_of : Option ℕ → List Value → Bool → ℕ → FindOf
 find_of place vs many next = record { place = place; args = vs; many = many; next = next }
 
 -- Objects are asked at a place that speaks of them, or without one, with the arguments at hand.
-abbrev pub SeeksObjects : Tables → Code → Outside → Memory → Option ℕ → Bool → ℕ → List Op → Memory → Now → Type 0
+abbrev pub SeeksObjects : Tables → Code → Lasting → Memory → Option ℕ → Bool → ℕ → List Op → Memory → Now → Type 0
 SeeksObjects t code out old place many next rest new after = (g : Game) → IsOf g.program t → (l : Limits) (m : Mid) (vs : List Value) →
     may_find (kinds_of g.program) place ≡ true → CodeIs rest m → Holds code l old m → RefsAt (meaning_of old.arena) old.args.items vs →
     Around out g l m → Stands code l new after (seeks (setting g code l) (find_of place vs many next)
     (ask_objects g place vs true [] (registers_of m) (world_of [] m)) m)
 
 -- A place, or without one all objects, is asked with the arguments at hand.
-abbrev pub SeeksPlace : Tables → Code → Outside → Memory → Option ℕ → Bool → ℕ → List Op → Memory → Now → Type 0
+abbrev pub SeeksPlace : Tables → Code → Lasting → Memory → Option ℕ → Bool → ℕ → List Op → Memory → Now → Type 0
 SeeksPlace t code out old place many next rest new after = (g : Game) → IsOf g.program t → (l : Limits) (m : Mid) (vs : List Value) → CodeIs rest m →
     Holds code l old m → RefsAt (meaning_of old.arena) old.args.items vs → Around out g l m →
     Stands code l new after (seeks (setting g code l) (find_of place vs many next) (asked_at g [] place vs m) m)
 
 -- An instruction that is built, with these behind it, is done, where something of the world is read.
-abbrev pub ReadsOp : Tables → Code → Outside → Memory → Op → List Op → Memory → Now → Type 0
+abbrev pub ReadsOp : Tables → Code → Lasting → Memory → Op → List Op → Memory → Now → Type 0
 ReadsOp t code out old x rest new after = (g : Game) → IsOf g.program t → (l : Limits) (m : Mid) → OpBuilt x → CodeIs rest m → Holds code l old m →
     Around out g l m → Stands code l new after (does (setting g code l) x m)
 
@@ -112,13 +112,13 @@ pub record Tried (code : Code) (l : Limits) (old new : Memory) (after : Now) (s 
   pub falls : left_of new after < lap * (choices_left old.choices.items + 1)
 
 -- An object is tried with the arguments at hand.
-abbrev pub TriesObject : Code → Outside → Memory → Search → ℕ → ℕ → Memory → Now → Type 0
+abbrev pub TriesObject : Code → Lasting → Memory → Search → ℕ → ℕ → Memory → Now → Type 0
 TriesObject code out old k object height new after = (g : Game) (l : Limits) (m : Mid) (f : FindOf) (p : Place) → WaySeeks g code (TriesOf f []) →
     Around out g l m → FindAt (meaning_of old.arena) old.args.items k f → p.height ≡ height → Holds code l old m →
     Tried code l old new after (done (setting g code l) (found_at [] f object (landed code f p m)) (landed code f p m))
 
 -- The first of the objects from one up to another is tried with the arguments at hand.
-abbrev pub TriesFirst : Code → Outside → Memory → Search → ℕ → ℕ → Memory → Now → Type 0
+abbrev pub TriesFirst : Code → Lasting → Memory → Search → ℕ → ℕ → Memory → Now → Type 0
 TriesFirst code out old k from end new after = (g : Game) (l : Limits) (m : Mid) (f : FindOf) (objects : List ℕ) →
     WaySeeks g code (TriesOf f objects) → Around out g l m → FindAt (meaning_of old.arena) old.args.items k f →
     objects ≡ counted from (end - from) → Holds code l old m →

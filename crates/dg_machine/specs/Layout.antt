@@ -11,7 +11,7 @@ use Rattle.dg_arena.specs.Held.{meaning_of, saves_of}
 use Rattle.dg_mid.specs.declared.code.Code.{Code}
 use Rattle.dg_mid.specs.declared.code.RuleCode.{RuleCode}
 use Rattle.dg_mid.specs.Code.{rules_at}
-use Rattle.dg_outside.specs.Finding.{counted}
+use Rattle.dg_lasting.specs.Finding.{counted}
 use Rattle.dg_mid.specs.State.{Place, Mid, Stop, Frame as FrameOf, Call as CallOf, Find as FindOf, Way as WayOf, Goes as GoesOf, Takes as TakesOf, Calls as CallsOf, Tries as TriesOf, Choice as ChoiceOf}
 use Rattle.dg_mid.specs.Step.{more, inside, new_stop, back_at, bound, trail_more}
 use Rattle.dg_mid.specs.Stops.{choices_of}

@@ -11,18 +11,18 @@ use Rattle.dg_meaning.specs.World.{Game}
 use Rattle.dg_meaning.specs.Transcript.{run, text_of}
 use Rattle.dg_meaning.specs.Shows.{LeftBetween, MayBegin, Shows, ShowsInputFault}
 use Rattle.dg_meaning.specs.Engines.{left_told}
-use Rattle.dg_outside.specs.Outside.{StartsOutside}
-use Rattle.dg_outside.specs.declared.outside.Outside.{Outside}
+use Rattle.dg_lasting.specs.Lasting.{StartsLasting}
+use Rattle.dg_lasting.specs.declared.lasting.Lasting.{Lasting}
 use Rattle.dg_mid.specs.Codes.{Codes}
 use Rattle.dg_mid.specs.declared.code.Code.{Code}
 use Rattle.dg_machine.specs.Tables.{IsOf}
 use Rattle.dg_machine.specs.declared.tables.Tables.{Tables}
 
--- Code, tables and what is outside are those of a program at its start, with these dice words.
-pub record IsReady (program : CoreProgram) (limits : Limits) (dice : List ℕ) (code : Code) (tables : Tables) (out : Outside) : Type 0 where
+-- Code, tables and what lasts are those of a program at its start, with these dice words.
+pub record IsReady (program : CoreProgram) (limits : Limits) (dice : List ℕ) (code : Code) (tables : Tables) (out : Lasting) : Type 0 where
   pub codes : Codes program code
   pub tabled : IsOf program tables
-  pub starts : StartsOutside program limits dice out
+  pub starts : StartsLasting program limits dice out
 
 -- Nothing was read, and nothing was written.
 pub record IsUntouched (i i' : SourceView) (k k' : SinkView) : Type 0 where

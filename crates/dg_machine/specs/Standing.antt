@@ -9,8 +9,8 @@ use Rattle.dg_meaning.specs.Choosing.{die}
 use Rattle.dg_meaning.specs.Substitutions.{walk}
 use Rattle.dg_meaning.specs.Moves.{gives_number, throws, looked_up, change_place}
 use Rattle.dg_meaning.specs.Facts.{kinds_of}
-use Rattle.dg_outside.specs.Outside.{InWorld, MayPick, picks_in}
-use Rattle.dg_outside.specs.declared.outside.Outside.{Outside}
+use Rattle.dg_lasting.specs.Lasting.{InWorld, MayPick, picks_in}
+use Rattle.dg_lasting.specs.declared.lasting.Lasting.{Lasting}
 use Rattle.dg_base.specs.declared.program.ArithOp.{ArithOp}
 use Rattle.dg_mid.specs.Actions.{registers_of, world_of}
 use Rattle.dg_meaning.specs.Values.{Value, Values}
@@ -81,22 +81,22 @@ Stands code l r Fails (FailsOf m) = Holds code l r m
 Stands code l r (Ended e) (EndedOf e') = (e' ≡ e) × Roomy l r
 Stands code l r now s = ⊥
 
--- What is outside stands for what a machine has of the world, and as much may be kept and gathered there as the limits say.
-abbrev pub Around : Outside → Game → Limits → Mid → Type 0
+-- What lasts stands for what a machine has of the world, and as much may be kept and gathered there as the limits say.
+abbrev pub Around : Lasting → Game → Limits → Mid → Type 0
 Around out g l m = InWorld out g (world_of [] m) × (out.world.area.keep ≡ l.keep) × (out.gathered.aux ≡ l.aux)
 
--- What is outside stands for what a status has of the world.
-abbrev pub HasOutside : Outside → Game → Limits → Status → Type 0
-HasOutside out g l (RunsOf m) = Around out g l m
-HasOutside out g l (EntersOf c m) = Around out g l m
-HasOutside out g l (ResumesOf way m) = Around out g l m
-HasOutside out g l (FailsOf m) = Around out g l m
-HasOutside out g l (EndedOf e) = Unit {0}
+-- What lasts stands for what a status has of the world.
+abbrev pub HasLasting : Lasting → Game → Limits → Status → Type 0
+HasLasting out g l (RunsOf m) = Around out g l m
+HasLasting out g l (EntersOf c m) = Around out g l m
+HasLasting out g l (ResumesOf way m) = Around out g l m
+HasLasting out g l (FailsOf m) = Around out g l m
+HasLasting out g l (EndedOf e) = Unit {0}
 
--- The machine stands for a status, and what is outside for what that has of the world.
-pub record StandsWith (code : Code) (g : Game) (l : Limits) (r : Memory) (now : Now) (out : Outside) (s : Status) : Type 0 where
+-- The machine stands for a status, and what lasts for what that has of the world.
+pub record StandsWith (code : Code) (g : Game) (l : Limits) (r : Memory) (now : Now) (out : Lasting) (s : Status) : Type 0 where
   pub stands : Stands code l r now s
-  pub outside : HasOutside out g l s
+  pub lasting : HasLasting out g l s
 
 -- Whatever the machine stands for before, it stands behind it for the step of that, in every game.
 abbrev pub Steps : Code → Memory → Now → Memory → Now → Type 0
@@ -110,19 +110,19 @@ DoesOp t code old x rest new after = (g : Game) → IsOf g.program t → (l : Li
     MidOrdered m → OpBuilt x → CodeIs rest m → Holds code l old m →
     Stands code l new after (does (setting g code l) x m)
 
--- The same of an instruction that changes what is outside.
-abbrev pub DoesWith : Tables → Code → Memory → Outside → Op → List Op → Memory → Now → Outside → Type 0
+-- The same of an instruction that changes what lasts.
+abbrev pub DoesWith : Tables → Code → Memory → Lasting → Op → List Op → Memory → Now → Lasting → Type 0
 DoesWith t code old out x rest new after out' = (g : Game) → IsOf g.program t → (l : Limits) (m : Mid) →
     OpBuilt x → CodeIs rest m → Holds code l old m →
     Around out g l m → StandsWith code g l new after out' (does (setting g code l) x m)
 
 -- A (stop) is done: it goes on behind the stoppable part that is open, without what was gathered inside it, or the run ends.
-abbrev pub DoesStop : Code → Memory → Outside → Memory → Now → Outside → Type 0
+abbrev pub DoesStop : Code → Memory → Lasting → Memory → Now → Lasting → Type 0
 DoesStop code old out new after out' = (g : Game) (l : Limits) (m : Mid) → MidOrdered m → Holds code l old m → Around out g l m →
     StandsWith code g l new after out' (does (setting g code l) (op.Do action.Stop) m)
 
 -- Behind it each site may pick once less at most.
-abbrev pub PicksOnce : Outside → Outside → Type 0
+abbrev pub PicksOnce : Lasting → Lasting → Type 0
 PicksOnce old new = (times : ℕ) → MayPick (times + 1) (picks_in old) → MayPick times (picks_in new)
 
 -- A step was done, and the number that falls between goals has fallen.
@@ -130,11 +130,11 @@ pub record Falls (code : Code) (l : Limits) (old : Memory) (before : Now) (new :
   pub stands : Stands code l new after s
   pub falls : left_of new after < left_of old before
 
--- A step that takes no goal was done, and what is outside stands for what it leads to.
-pub record FallsWith (code : Code) (g : Game) (l : Limits) (old : Memory) (before : Now) (new : Memory) (after : Now) (out' : Outside) (s : Status)
+-- A step that takes no goal was done, and what lasts stands for what it leads to.
+pub record FallsWith (code : Code) (g : Game) (l : Limits) (old : Memory) (before : Now) (new : Memory) (after : Now) (out' : Lasting) (s : Status)
     : Type 0 where
   pub done : Falls code l old before new after s
-  pub outside : HasOutside out' g l s
+  pub lasting : HasLasting out' g l s
 
 -- An instruction that takes no goal is done so.
 abbrev pub DoesMark : Code → Memory → Bor (List Op) → Op → List Op → Memory → Now → Type 0
@@ -191,32 +191,32 @@ GoesOnAt code b old ops new after = (g : Game) (l : Limits) (m : Mid) → Tidy c
     Falls code l (with_way old (Goes b)) Resumes new after (goes_on (setting g code l) (GoesOf b) m)
 
 -- The newest gathering is taken out so, for the second value at hand.
-abbrev pub TakesNewest : Code → Gathered → ℕ → Memory → Outside → List Op → Memory → Now → Outside → Type 0
+abbrev pub TakesNewest : Code → Gathered → ℕ → Memory → Lasting → List Op → Memory → Now → Lasting → Type 0
 TakesNewest code whole b old out rest new after out' = (g : Game) (l : Limits) (m : Mid) (v into : Value) → CodeIs rest m → Holds code l old m →
     RefsAt (meaning_of old.arena) old.args.items (v ∷ into ∷ []) → Around out g l m →
     FallsWith code g l (with_way old (Takes b)) Resumes new after out' (takes_newest (setting g code l) whole into m.gathered m)
 
 -- A gathering is taken out at these instructions.
-abbrev pub TakesOut : Code → ℕ → Memory → Outside → List Op → Memory → Now → Outside → Type 0
+abbrev pub TakesOut : Code → ℕ → Memory → Lasting → List Op → Memory → Now → Lasting → Type 0
 TakesOut code b old out ops new after out' = (g : Game) (l : Limits) (m : Mid) (into : Value) → IsBuilt code → ops ≡ block_at code b →
     WayAt code (meaning_of old.arena) old.args.items (Takes b) (TakesOf b into) → Holds code l old m → Around out g l m →
     FallsWith code g l (with_way old (Takes b)) Resumes new after out' (takes (setting g code l) into ops m)
 
 -- A choice goes on.
-abbrev pub GoesOn : Code → Memory → Outside → Way → Memory → Now → Outside → Type 0
+abbrev pub GoesOn : Code → Memory → Lasting → Way → Memory → Now → Lasting → Type 0
 GoesOn code old out way new after out' = (g : Game) (l : Limits) (m : Mid) (on : WayOf) → WaySeeks g code on →
     WayAt code (meaning_of old.arena) old.args.items way on → Holds code l old m → Around out g l m →
     FallsWith code g l (with_way old way) Resumes new after out' (goes_on (setting g code l) on m)
 
 -- A choice opens inside which the first value at hand is gathered, to be taken out for the second.
-abbrev pub GathersFor : Code → Memory → Outside → ℕ → List Op → Memory → Now → Outside → Type 0
+abbrev pub GathersFor : Code → Memory → Lasting → ℕ → List Op → Memory → Now → Lasting → Type 0
 GathersFor code old out alt rest new after out' = (g : Game) (l : Limits) (m : Mid) (v into : Value) → CodeIs rest m → Holds code l old m →
     RefsAt (meaning_of old.arena) old.args.items (v ∷ into ∷ []) → Around out g l m →
     let m' = gathering v into alt m in
     StandsWith code g l new after out' (charged (setting g code l) 10 m (gathers (setting g code l) m'.gathered (RunsOf m')))
 
 -- What the innermost construct gathers is gathered, and it fails.
-abbrev pub KeepsOne : Code → Memory → Outside → Bor (List Op) → Memory → Now → Outside → Type 0
+abbrev pub KeepsOne : Code → Memory → Lasting → Bor (List Op) → Memory → Now → Lasting → Type 0
 KeepsOne code old out ops new after out' = (g : Game) (l : Limits) (m : Mid) → Holds code l old m → Around out g l m →
     FallsWith code g l old (Runs ops) new after out' (keeps (setting g code l) m.inner m)
 
@@ -228,14 +228,14 @@ Calculates code by old rest new after = (g : Game) (l : Limits) (m : Mid) (u v w
     (worked (looked_up (registers_of m) u + looked_up (registers_of m) v) (world_of [] m))) m)
 
 -- A random number between two values at hand is unified with a third, and a dice word was drawn for it.
-abbrev pub ThrowsDie : Code → Memory → Outside → List Op → Memory → Now → Outside → Type 0
+abbrev pub ThrowsDie : Code → Memory → Lasting → List Op → Memory → Now → Lasting → Type 0
 ThrowsDie code old out rest new after out' = (g : Game) (l : Limits) (m : Mid) (u v w : Value) → CodeIs rest m → Holds code l old m →
     RefsAt (meaning_of old.arena) old.args.items (u ∷ v ∷ w ∷ []) → Around out g l m → StandsWith code g l new after out' (done (setting g code l)
-    (throws (of_numbers (thrown (die g.dice m.outside.dice)) (walk m.state.subst u) (walk m.state.subst v)) w (registers_of m)
+    (throws (of_numbers (thrown (die g.dice m.lasting.dice)) (walk m.state.subst u) (walk m.state.subst v)) w (registers_of m)
     (worked (looked_up (registers_of m) u + looked_up (registers_of m) v) (world_of [] m))) m)
 
 -- A place is changed with the values at hand.
-abbrev pub ChangesPlace : Tables → Code → Memory → Outside → ℕ → Bool → List Op → Memory → Now → Outside → Type 0
+abbrev pub ChangesPlace : Tables → Code → Memory → Lasting → ℕ → Bool → List Op → Memory → Now → Lasting → Type 0
 ChangesPlace t code old out place sets rest new after out' = (g : Game) → IsOf g.program t → (l : Limits) (m : Mid) (vs : List Value) → CodeIs rest m →
     Holds code l old m → RefsAt (meaning_of old.arena) old.args.items vs → Around out g l m → StandsWith code g l new after out' (done (setting g code l)
     (change_place g place (slice_get (kinds_of g.program) place) vs sets [] (registers_of m) (world_of [] m)) m)
@@ -272,7 +272,7 @@ QueriesLast code old many new after = (g : Game) (l : Limits) (m : Mid) (v : Val
     Stands code l new after (queries_last (setting g code l) (closure_at code (walk m.state.subst v)) us many m)
 
 -- It fails.
-abbrev pub FailsTo : Code → Memory → Outside → Memory → Now → Outside → Type 0
+abbrev pub FailsTo : Code → Memory → Lasting → Memory → Now → Lasting → Type 0
 FailsTo code old out new after out' = (g : Game) (l : Limits) (m : Mid) → Holds code l old m → Around out g l m →
     FallsWith code g l old Fails new after out' (goes_back m.choices m)
 

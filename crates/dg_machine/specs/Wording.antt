@@ -29,7 +29,7 @@ UnifiesMade code old into made rest new after = (g : Game) (l : Limits) (m : Mid
     (meaning_of old.arena).value into ≡ Some u → (meaning_of old.arena).value made ≡ Some v →
     Stands code l new after (unified (setting g code l) (unify m.state.subst u v) m (RunsOf (bound (unify m.state.subst u v) m)))
 
--- A value is made, which takes its cells, and unified with that of a Ref; what is outside may become as in any world.
+-- A value is made, which takes its cells, and unified with that of a Ref; what lasts may become as in any world.
 abbrev pub Gives : Code → Value → Memory → Ref → List Op → Memory → Now → Type 0
 Gives code v old into rest new after = (g : Game) (l : Limits) (m : Mid) (u : Value) (w : World) → CodeIs rest m → Holds code l old m →
     (meaning_of old.arena).value into ≡ Some u → Stands code l new after (done (setting g code l) (gives u v (registers_of m) w) m)

@@ -13,8 +13,8 @@ use crate::doing::code_at;
 use crate::memory::Memory;
 use crate::now::{Now, Way};
 use dg_base::Ending;
+use dg_lasting::Lasting;
 use dg_mid::{Code, Op};
-use dg_outside::Outside;
 
 impl Memory {
     /// A choice goes on at a block, and is kept where that begins so.
@@ -36,33 +36,33 @@ impl Memory {
 
     /// A choice goes on.
     #[inline(always)]
-    pub fn go_on<'p>(&mut self, code: &'p Code, outside: &mut Outside<'_>, way: Way) -> Now<'p>
+    pub fn go_on<'p>(&mut self, code: &'p Code, lasting: &mut Lasting<'_>, way: Way) -> Now<'p>
         requires room { HasRoom self.old }
         requires built { IsBuilt code.now }
         requires tidy { Tidy code.now }
         requires there { IsThere code.now self.old way }
-        ensures goes_on { GoesOn code.now self.old outside.old way self.new result outside.new }
-        ensures sites { outside.new.sites ≡ outside.old.sites }
+        ensures goes_on { GoesOn code.now self.old lasting.old way self.new result lasting.new }
+        ensures sites { lasting.new.sites ≡ lasting.old.sites }
     {
         match way {
             Way::Calls(call, pred, left) => self.call(code, call, pred, left),
             Way::Goes(block) => self.go_on_at(code_at(code, block)),
-            Way::Takes(block) => self.take_out(outside, code_at(code, block)),
-            Way::Tries(search, from, end) => self.try_first(code, outside, search, from, end),
+            Way::Takes(block) => self.take_out(lasting, code_at(code, block)),
+            Way::Tries(search, from, end) => self.try_first(code, lasting, search, from, end),
         }
     }
 
     /// It fails, and goes back to the newest choice, which is gone; what was gathered inside that is dropped.
     #[inline(always)]
-    pub fn fail(&mut self, outside: &mut Outside<'_>) -> Option<Way>
+    pub fn fail(&mut self, lasting: &mut Lasting<'_>) -> Option<Way>
         requires some { (code : TheCode) × (l : Limits) × (m : Mid) × Holds code l self.old m }
-        ensures fails { (code : TheCode) → FailsTo code self.old outside.old (found_in result self.new) (found_next result) outside.new }
-        ensures sites { outside.new.sites ≡ outside.old.sites }
+        ensures fails { (code : TheCode) → FailsTo code self.old lasting.old (found_in result self.new) (found_next result) lasting.new }
+        ensures sites { lasting.new.sites ≡ lasting.old.sites }
     {
         match self.back() {
             None => None,
             Some(way) => {
-                outside.close_to(self.gathered);
+                lasting.close_to(self.gathered);
                 Some(way)
             }
         }

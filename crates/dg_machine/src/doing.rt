@@ -29,8 +29,8 @@ use crate::now::{Call, Did, Now, Way};
 use crate::passing::pass;
 use crate::tables::Tables;
 use dg_base::{ArithOp, CompareOp, Ending, Term, TestKind};
+use dg_lasting::Lasting;
 use dg_mid::{BodyCode, Code, Head, Op, RuleCode};
-use dg_outside::Outside;
 use dg_unify::{Ref, View};
 
 /// The instructions of a block.
@@ -232,12 +232,12 @@ impl Memory {
     }
 
     /// A random number between two arguments, if there is one, is unified with a third.
-    fn throw<'p>(&mut self, outside: &mut Outside<'_>, rest: &'p [Op]) -> Now<'p>
+    fn throw<'p>(&mut self, lasting: &mut Lasting<'_>, rest: &'p [Op]) -> Now<'p>
         requires { (u v w : Value) × RefsAt (meaning_of self.old.arena) self.old.args.items (u ∷ v ∷ w ∷ []) }
-        ensures thrown { (code : TheCode) → ThrowsDie code self.old outside.old rest.now self.new result outside.new }
-        ensures sites { outside.new.sites ≡ outside.old.sites }
+        ensures thrown { (code : TheCode) → ThrowsDie code self.old lasting.old rest.now self.new result lasting.new }
+        ensures sites { lasting.new.sites ≡ lasting.old.sites }
     {
-        match self.throw_args(outside) {
+        match self.throw_args(lasting) {
             None => Now::Fails,
             Some(n) => match self.unify_number(n) {
                 Err(_) => Now::Ended(Ending::TrailLimit),
@@ -251,20 +251,20 @@ impl Memory {
     pub fn random<'p>(
         &mut self,
         tables: &Tables,
-        outside: &mut Outside<'_>,
+        lasting: &mut Lasting<'_>,
         a: &Term,
         b: &Term,
         into: &Term,
         rest: &'p [Op],
     ) -> Now<'p>
         requires { (code : TheCode) × (l : Limits) × (m : Mid) × Holds code l self.old m }
-        ensures does { (code : TheCode) → DoesWith tables.now code self.old outside.old (op.Do (action.Random a.now b.now into.now)) rest.now self.new result
-            outside.new }
-        ensures sites { outside.new.sites ≡ outside.old.sites }
+        ensures does { (code : TheCode) → DoesWith tables.now code self.old lasting.old (op.Do (action.Random a.now b.now into.now)) rest.now self.new result
+            lasting.new }
+        ensures sites { lasting.new.sites ≡ lasting.old.sites }
     {
         match self.put_three(tables, a, b, into) {
             Err(_) => Now::Ended(Ending::HeapLimit),
-            Ok(()) => self.throw(outside, rest),
+            Ok(()) => self.throw(lasting, rest),
         }
     }
 
@@ -272,21 +272,21 @@ impl Memory {
     fn change_place<'p>(
         &mut self,
         tables: &Tables,
-        outside: &mut Outside<'_>,
+        lasting: &mut Lasting<'_>,
         place: u16,
         sets: bool,
         rest: &'p [Op],
     ) -> Now<'p>
         requires { AreRefs (meaning_of self.old.arena) self.old.args.items }
-        ensures changes { (code : TheCode) → ChangesPlace tables.now code self.old outside.old place sets rest.now self.new result outside.new }
-        ensures sites { outside.new.sites ≡ outside.old.sites }
+        ensures changes { (code : TheCode) → ChangesPlace tables.now code self.old lasting.old place sets rest.now self.new result lasting.new }
+        ensures sites { lasting.new.sites ≡ lasting.old.sites }
     {
         let Some(kind) = tables.kind_of(place) else {
             return Now::Fails;
         };
         let objects = tables.objects.as_slice();
         let args = self.args.as_slice();
-        match outside.change(&mut self.arena, objects.len(), kind, place, args, sets) {
+        match lasting.change(&mut self.arena, objects.len(), kind, place, args, sets) {
             Err(_) => Now::Ended(Ending::KeepLimit),
             Ok(false) => Now::Fails,
             Ok(true) => Now::Runs(rest),
@@ -297,7 +297,7 @@ impl Memory {
     pub fn change<'p>(
         &mut self,
         tables: &Tables,
-        outside: &mut Outside<'_>,
+        lasting: &mut Lasting<'_>,
         place: u16,
         terms: &[Term],
         sets: bool,
@@ -305,13 +305,13 @@ impl Memory {
     ) -> Now<'p>
         requires some { (code : TheCode) × (l : Limits) × (m : Mid) × Holds code l self.old m }
         requires terms { AreArguments terms.now }
-        ensures does { (code : TheCode) → DoesWith tables.now code self.old outside.old (op.Do (action.Now place terms.now sets)) rest.now self.new result
-            outside.new }
-        ensures sites { outside.new.sites ≡ outside.old.sites }
+        ensures does { (code : TheCode) → DoesWith tables.now code self.old lasting.old (op.Do (action.Now place terms.now sets)) rest.now self.new result
+            lasting.new }
+        ensures sites { lasting.new.sites ≡ lasting.old.sites }
     {
         match self.put_args(tables, terms) {
             Err(_) => Now::Ended(Ending::HeapLimit),
-            Ok(()) => self.change_place(tables, outside, place, sets, rest),
+            Ok(()) => self.change_place(tables, lasting, place, sets, rest),
         }
     }
 

@@ -14,26 +14,26 @@ use crate::memory::Memory;
 use crate::now::{Now, Way};
 use crate::tables::Tables;
 use dg_base::{Ending, Term};
+use dg_lasting::Lasting;
 use dg_mid::Op;
-use dg_outside::Outside;
 
 impl Memory {
     /// A choice opens inside which the first value at hand is gathered, to be taken out for the second.
-    fn gather_args<'p>(&mut self, outside: &mut Outside<'_>, alt: u32, rest: &'p [Op]) -> Now<'p>
+    fn gather_args<'p>(&mut self, lasting: &mut Lasting<'_>, alt: u32, rest: &'p [Op]) -> Now<'p>
         requires room { HasRoom self.old }
         requires args { (v into : Value) × RefsAt (meaning_of self.old.arena) self.old.args.items (v ∷ into ∷ []) }
-        ensures gathers { (code : TheCode) → GathersFor code self.old outside.old alt rest.now self.new result outside.new }
-        ensures sites { outside.new.sites ≡ outside.old.sites }
+        ensures gathers { (code : TheCode) → GathersFor code self.old lasting.old alt rest.now self.new result lasting.new }
+        ensures sites { lasting.new.sites ≡ lasting.old.sites }
     {
         let height = self.arena.heap();
         let value = self.arg(0);
-        if let Err(_) = outside.open() {
+        if let Err(_) = lasting.open() {
             return match self.charge(10) {
                 Err(_) => Now::Ended(Ending::HeapLimit),
                 Ok(()) => Now::Ended(Ending::AuxLimit),
             };
         }
-        self.gathered = outside.gathered.height().0;
+        self.gathered = lasting.gathered.height().0;
         match self.open_keeping(Way::Takes(alt), 2, 0) {
             Err(_) => Now::Ended(Ending::HeapLimit),
             Ok(()) => {
@@ -47,28 +47,28 @@ impl Memory {
     pub fn collect<'p>(
         &mut self,
         tables: &Tables,
-        outside: &mut Outside<'_>,
+        lasting: &mut Lasting<'_>,
         term: &Term,
         into: &Term,
         alt: u32,
         rest: &'p [Op],
     ) -> Now<'p>
         requires { (code : TheCode) × (l : Limits) × (m : Mid) × Holds code l self.old m }
-        ensures does { (code : TheCode) → DoesWith tables.now code self.old outside.old (op.Collect term.now into.now alt) rest.now self.new result
-            outside.new }
-        ensures sites { outside.new.sites ≡ outside.old.sites }
+        ensures does { (code : TheCode) → DoesWith tables.now code self.old lasting.old (op.Collect term.now into.now alt) rest.now self.new result
+            lasting.new }
+        ensures sites { lasting.new.sites ≡ lasting.old.sites }
     {
         match self.put_both(tables, term, into) {
             Err(_) => Now::Ended(Ending::HeapLimit),
-            Ok(()) => self.gather_args(outside, alt, rest),
+            Ok(()) => self.gather_args(lasting, alt, rest),
         }
     }
 
     /// What the innermost construct gathers is gathered, and it fails.
-    pub fn keep<'p>(&mut self, outside: &mut Outside<'_>, ops: &'p [Op]) -> Now<'p>
+    pub fn keep<'p>(&mut self, lasting: &mut Lasting<'_>, ops: &'p [Op]) -> Now<'p>
         requires some { (code : TheCode) × (l : Limits) × (m : Mid) × Holds code l self.old m }
-        ensures keeps { (code : TheCode) → KeepsOne code self.old outside.old ops.entry self.new result outside.new }
-        ensures sites { outside.new.sites ≡ outside.old.sites }
+        ensures keeps { (code : TheCode) → KeepsOne code self.old lasting.old ops.entry self.new result lasting.new }
+        ensures sites { lasting.new.sites ≡ lasting.old.sites }
     {
         match self.inner_at_hand() {
             None => Now::Fails,
@@ -76,7 +76,7 @@ impl Memory {
                 self.inner = inner.around;
                 match inner.kept {
                     None => Now::Fails,
-                    Some(value) => match outside.gather(&mut self.arena, value) {
+                    Some(value) => match lasting.gather(&mut self.arena, value) {
                         Err(_) => Now::Ended(Ending::AuxLimit),
                         Ok(()) => Now::Fails,
                     },

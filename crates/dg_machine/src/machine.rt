@@ -3,7 +3,7 @@ ghost use Rattle.std.specs.Prelude.{◌≡◌, ◌≤◌, IfOk, IsErrOf, List, �
 ghost use Rattle.dg_base.specs.Causes.{Rose};
 ghost use Rattle.dg_base.specs.declared.program.CoreProgram.{CoreProgram};
 ghost use Rattle.dg_meaning.specs.Transcript.{line_of};
-ghost use Rattle.dg_outside.specs.Outside.{StartsOutside};
+ghost use Rattle.dg_lasting.specs.Lasting.{StartsLasting};
 ghost use Rattle.dg_mid.specs.Codes.{Codes};
 ghost use Rattle.dg_mid.specs.Potential.{Tidy};
 ghost use Rattle.dg_machine.specs.Built.{IsBuilt};
@@ -20,8 +20,8 @@ use crate::now::Now;
 use crate::steps::go;
 use crate::tables::Tables;
 use dg_base::{Ending, Fault, Limits, Outcome, Sink, Source};
+use dg_lasting::Lasting;
 use dg_mid::{Code, let_go};
-use dg_outside::Outside;
 use dg_spacing::Spacer;
 use std::alloc::{AllocError, Global};
 
@@ -88,24 +88,24 @@ impl Machine {
         let_go(alloc, self.code);
     }
 
-    /// Runs the code from its start, with what is outside at the start, on the typed bytes of a source, and writes the transcript. It takes no memory.
+    /// Runs the code from its start, with what lasts, as it is at the start, on the typed bytes of a source, and writes the transcript. It takes no memory.
     pub fn run<S: Source, K: Sink>(
         &mut self,
-        outside: &mut Outside<'_>,
+        lasting: &mut Lasting<'_>,
         source: &mut S,
         sink: &mut K,
     ) -> Result<Outcome, Fault>
         requires built { IsBuilt self.old.code }
         requires tidy { Tidy self.old.code }
-        requires outside { (p : CoreProgram) × (dice : List ℕ) × IsOf p self.old.tables × StartsOutside p self.old.limits dice outside.old }
+        requires lasting { (p : CoreProgram) × (dice : List ℕ) × IsOf p self.old.tables × StartsLasting p self.old.limits dice lasting.old }
         ensures shows { IfOk result (λ outcome. (p : CoreProgram) → (dice : List ℕ) → Codes p self.old.code → IsOf p self.old.tables →
-            StartsOutside p self.old.limits dice outside.old → ForTyped (S.view source.old).left (λ typed. HasShown (game p dice) typed
+            StartsLasting p self.old.limits dice lasting.old → ForTyped (S.view source.old).left (λ typed. HasShown (game p dice) typed
             self.old.limits outcome (left_told (S.view source.old) (S.view source.new)) (K.view sink.old) (K.view sink.new))) }
         ensures input { IsErrOf result Fault.Read → (p : CoreProgram) → (dice : List ℕ) → Codes p self.old.code → IsOf p self.old.tables →
-            StartsOutside p self.old.limits dice outside.old → ForTyped (S.view source.old).left (λ typed. HasLostInput (game p dice) typed
+            StartsLasting p self.old.limits dice lasting.old → ForTyped (S.view source.old).left (λ typed. HasLostInput (game p dice) typed
             self.old.limits (S.view source.new).left (K.view sink.old) (K.view sink.new)) }
         ensures output { IsErrOf result Fault.Write → (p : CoreProgram) → (dice : List ℕ) → Codes p self.old.code → IsOf p self.old.tables →
-            StartsOutside p self.old.limits dice outside.old → ForTyped (S.view source.old).left (λ typed. HasLostText (game p dice) typed
+            StartsLasting p self.old.limits dice lasting.old → ForTyped (S.view source.old).left (λ typed. HasLostText (game p dice) typed
             self.old.limits (S.view source.old) (S.view source.new) (K.view sink.old) (K.view sink.new)) }
         ensures read { IsErrOf result Fault.Read → Rose (S.view source.old).faults (S.view source.new).faults }
         ensures later { (S.view source.old).faults ≤ (S.view source.new).faults }
@@ -121,7 +121,7 @@ impl Machine {
             &mut self.memory,
             &self.code,
             &self.tables,
-            outside,
+            lasting,
             start,
             steps,
             source,

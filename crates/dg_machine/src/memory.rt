@@ -40,7 +40,7 @@ use crate::tables::Tables;
 use crate::terms::{join, match_heads, simple_value, var_value};
 use dg_arena::Arena;
 use dg_base::{ArithOp, CompareOp, Simple, Term, TestKind};
-use dg_outside::Outside;
+use dg_lasting::Lasting;
 use dg_terms::{calculate, in_order, number_of as number_shown, test, throw};
 use dg_unify::{Bindings, Full, Mark, Ref, View, unify};
 use std::alloc::{AllocError, Global};
@@ -510,17 +510,17 @@ impl Memory {
     }
 
     /// A random number from the first of three arguments to the second, if there is one; a dice word is then drawn.
-    pub fn throw_args(&self, outside: &mut Outside<'_>) -> Option<u16>
+    pub fn throw_args(&self, lasting: &mut Lasting<'_>) -> Option<u16>
         requires { (u v w : Value) × RefsAt (meaning_of self.now.arena) self.now.args.items (u ∷ v ∷ w ∷ []) }
         ensures thrown { (code : Code) → (l : Limits) → (m : Mid) → (u v w : Value) → Holds code l self.now m →
             RefsAt (meaning_of self.now.arena) self.now.args.items (u ∷ v ∷ w ∷ []) →
-            (words : List ℕ) → (n : ℕ) → HasDrawn outside.old.dice words n →
-            Throws (of_numbers (thrown (die words n)) (walk m.state.subst u) (walk m.state.subst v)) words n result outside.new.dice }
-        ensures others { outside.new ≡ record outside.old { dice = outside.new.dice } }
+            (words : List ℕ) → (n : ℕ) → HasDrawn lasting.old.dice words n →
+            Throws (of_numbers (thrown (die words n)) (walk m.state.subst u) (walk m.state.subst v)) words n result lasting.new.dice }
+        ensures others { lasting.new ≡ record lasting.old { dice = lasting.new.dice } }
     {
         let a = self.arg(0);
         let b = self.arg(1);
-        throw(&self.arena, &mut outside.dice, a, b)
+        throw(&self.arena, &mut lasting.dice, a, b)
     }
 
     /// Unifies the third argument with a number.

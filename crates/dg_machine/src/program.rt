@@ -8,14 +8,14 @@ ghost use Rattle.dg_base.specs.declared.run.Limits.{Limits};
 ghost use Rattle.dg_meaning.specs.Engines.{game, left_told, HasShown, HasLostInput};
 ghost use Rattle.dg_meaning.specs.inside.Engines.{ForTyped};
 ghost use Rattle.dg_mid.specs.Potential.{Tidy};
-ghost use Rattle.dg_outside.specs.Outside.{LacksAtStart};
+ghost use Rattle.dg_lasting.specs.Lasting.{LacksAtStart};
 ghost use Rattle.dg_machine.specs.Program.{IsReady, IsUntouched, HasLostText};
 
 use crate::machine::Machine;
 use crate::tables::Tables;
 use dg_base::{CoreProgram, Ending, Fault, Limits, Outcome, RunFault, Sink, Source, write_all};
+use dg_lasting::{Lack, Lasting};
 use dg_mid::{Code, let_go, to_mid};
-use dg_outside::{Lack, Outside};
 use std::alloc::Global;
 
 /// What is ready for a run is run.
@@ -23,20 +23,20 @@ fn run_code<S: Source, K: Sink>(
     alloc: Global,
     code: Code,
     tables: Tables,
-    outside: &mut Outside<'_>,
+    lasting: &mut Lasting<'_>,
     limits: &Limits,
     source: &mut S,
     sink: &mut K,
 ) -> Result<Outcome, RunFault>
     requires tidy { Tidy code }
-    requires ready { (p : CoreProgram) × (dice : List ℕ) × IsReady p limits.now dice code tables outside.old }
-    ensures shows { (p : CoreProgram) → (dice : List ℕ) → IsReady p limits.now dice code tables outside.old → IfOk result (λ outcome.
+    requires ready { (p : CoreProgram) × (dice : List ℕ) × IsReady p limits.now dice code tables lasting.old }
+    ensures shows { (p : CoreProgram) → (dice : List ℕ) → IsReady p limits.now dice code tables lasting.old → IfOk result (λ outcome.
         ForTyped (S.view source.old).left (λ typed. HasShown (game p dice) typed limits.now outcome
         (left_told (S.view source.old) (S.view source.new)) (K.view sink.old) (K.view sink.new))) }
-    ensures input { IsErrOf result RunFault.Read → (p : CoreProgram) → (dice : List ℕ) → IsReady p limits.now dice code tables outside.old →
+    ensures input { IsErrOf result RunFault.Read → (p : CoreProgram) → (dice : List ℕ) → IsReady p limits.now dice code tables lasting.old →
         ForTyped (S.view source.old).left (λ typed. HasLostInput (game p dice) typed limits.now (S.view source.new).left
         (K.view sink.old) (K.view sink.new)) }
-    ensures output { IsErrOf result RunFault.Write → (p : CoreProgram) → (dice : List ℕ) → IsReady p limits.now dice code tables outside.old →
+    ensures output { IsErrOf result RunFault.Write → (p : CoreProgram) → (dice : List ℕ) → IsReady p limits.now dice code tables lasting.old →
         ForTyped (S.view source.old).left (λ typed. HasLostText (game p dice) typed limits.now (S.view source.old) (S.view source.new)
         (K.view sink.old) (K.view sink.new)) }
     ensures memory { IsErrOf result RunFault.OutOfMemory → IsUntouched (S.view source.old) (S.view source.new) (K.view sink.old) (K.view sink.new) }
@@ -46,7 +46,7 @@ fn run_code<S: Source, K: Sink>(
     match Machine::new(alloc, code, tables, limits) {
         Err(_) => Err(RunFault::OutOfMemory),
         Ok(mut machine) => {
-            let result = machine.run(outside, source, sink);
+            let result = machine.run(lasting, source, sink);
             machine.let_go(alloc);
             match result {
                 Ok(outcome) => Ok(outcome),
@@ -102,13 +102,13 @@ pub fn run_program<S: Source, K: Sink>(
     ensures later { (S.view source.old).faults ≤ (S.view source.new).faults }
 {
     let tables = Tables::of(alloc, &program);
-    let outside = Outside::new(alloc, &program, limits, dice);
+    let lasting = Lasting::new(alloc, &program, limits, dice);
     let Ok(code) = to_mid(program, alloc) else {
         return Err(RunFault::OutOfMemory);
     };
-    match (tables, outside) {
-        (Ok(tables), Ok(mut outside)) => {
-            run_code(alloc, code, tables, &mut outside, limits, source, sink)
+    match (tables, lasting) {
+        (Ok(tables), Ok(mut lasting)) => {
+            run_code(alloc, code, tables, &mut lasting, limits, source, sink)
         }
         (Err(_), _) => {
             let_go(alloc, code);

@@ -1,4 +1,4 @@
-// Whether an instruction takes a goal, and whether it is quiet: it prints and reads nothing, and leaves what is outside.
+// Whether an instruction takes a goal, and whether it is quiet: it prints and reads nothing, and leaves what lasts.
 ghost use Rattle.std.specs.Prelude.{◌≡◌, true, false};
 ghost use Rattle.dg_mid.specs.Step.{at_goal, is_goal as takes_goal};
 ghost use Rattle.dg_machine.specs.Built.{IsQuiet, IsQuietOp, BeginsQuietly};
@@ -39,7 +39,7 @@ pub fn at_goal(ops: &[Op]) -> bool
     }
 }
 
-/// Whether an action prints and reads nothing, stops no part, and leaves what is outside.
+/// Whether an action prints and reads nothing, stops no part, and leaves what lasts.
 #[inline(always)]
 fn is_quiet_action(action: &Action) -> bool
     ensures quiet { result ≡ true → IsQuiet action.now }
@@ -58,7 +58,7 @@ fn is_quiet_action(action: &Action) -> bool
     }
 }
 
-/// Whether an instruction takes a goal, prints and reads nothing, and leaves what is outside.
+/// Whether an instruction takes a goal, prints and reads nothing, and leaves what lasts.
 #[inline(always)]
 fn is_quiet(op: &Op) -> bool
     ensures goal { result ≡ true → takes_goal op.now ≡ true }

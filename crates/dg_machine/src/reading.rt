@@ -10,7 +10,7 @@ ghost use Rattle.dg_mid.specs.declared.code.Op.TheVariants as op;
 ghost use Rattle.dg_mid.specs.declared.code.Action.TheVariants as action;
 ghost use Rattle.dg_mid.specs.State.{Mid};
 ghost use Rattle.dg_mid.specs.Step.{followed};
-ghost use Rattle.dg_outside.specs.declared.outside.Outside.{Outside};
+ghost use Rattle.dg_lasting.specs.declared.lasting.Lasting.{Lasting};
 ghost use Rattle.dg_machine.specs.Built.{OpsBuilt};
 ghost use Rattle.dg_machine.specs.Layout.{Holds, Roomy};
 ghost use Rattle.dg_machine.specs.inside.Reading.{ReadsNone, line_behind};
@@ -72,7 +72,7 @@ pub fn read_line<'p, S: Source, K: Sink>(
     requires some { (code : Code) × (l : Limits) × (m : Mid) × Holds code l memory.old m }
     requires whole { ops.now ≡ op.Do (action.Input term.now) ∷ rest.now }
     requires built { OpsBuilt rest.now }
-    ensures ok { (code : Code) → (out : Outside) → IfOk result (λ now. ReadsGoal tables.now code memory.old out ops.now memory.new out now
+    ensures ok { (code : Code) → (out : Lasting) → IfOk result (λ now. ReadsGoal tables.now code memory.old out ops.now memory.new out now
         spacer.old spacer.new (K.view sink.old) (K.view sink.new) (S.view source.old) (S.view source.new)) }
     ensures err { (code : Code) → IfErr result (λ fault. BreaksGoal fault tables.now code memory.old ops.now spacer.old spacer.new
         (K.view sink.old) (K.view sink.new) (S.view source.old) (S.view source.new)) }

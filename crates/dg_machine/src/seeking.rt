@@ -28,8 +28,8 @@ use crate::now::{Now, Search, Way};
 use crate::tables::Tables;
 use crate::terms::{match_heads, simple_value};
 use dg_base::{Cell, Ending, PlaceKind, Simple, Term};
+use dg_lasting::{Lasting, Subject, found, subject_of};
 use dg_mid::{Code, Op};
-use dg_outside::{Outside, Subject, found, subject_of};
 use dg_unify::{Full, Ref, unify};
 
 /// It fails where an object was tried.
@@ -127,15 +127,15 @@ impl Memory {
     /// Unifies what is set of an object with the second argument, if there is one; it fails where nothing is set.
     fn read_object<'p>(
         &mut self,
-        outside: &Outside<'_>,
+        lasting: &Lasting<'_>,
         place: Option<u16>,
         object: u16,
         rest: &'p [Op],
     ) -> Now<'p>
         requires { AreRefs (meaning_of self.old.arena) self.old.args.items }
-        ensures { (code : TheCode) → ReadsObject code outside.now self.old place object rest.now self.new result }
+        ensures { (code : TheCode) → ReadsObject code lasting.now self.old place object rest.now self.new result }
     {
-        let Some(value) = found(&outside.world, place, object) else {
+        let Some(value) = found(&lasting.world, place, object) else {
             return Now::Fails;
         };
         if self.args.len() < 2 {
@@ -149,12 +149,12 @@ impl Memory {
     }
 
     /// Unifies a copy of the value of a global variable with the first argument, if there is one; it fails where nothing is set.
-    fn read_global<'p>(&mut self, outside: &Outside<'_>, place: u16, rest: &'p [Op]) -> Now<'p>
+    fn read_global<'p>(&mut self, lasting: &Lasting<'_>, place: u16, rest: &'p [Op]) -> Now<'p>
         requires some { (code : TheCode) × (l : Limits) × (m : Mid) × Holds code l self.old m }
         requires args { AreRefs (meaning_of self.old.arena) self.old.args.items }
-        ensures { (code : TheCode) → ReadsGlobal code outside.now self.old place rest.now self.new result }
+        ensures { (code : TheCode) → ReadsGlobal code lasting.now self.old place rest.now self.new result }
     {
-        let Some(cells) = outside.world.kept(place) else {
+        let Some(cells) = lasting.world.kept(place) else {
             return Now::Fails;
         };
         if self.args.is_empty() {
@@ -174,12 +174,12 @@ impl Memory {
     fn seek_objects<'p>(
         &mut self,
         tables: &Tables,
-        outside: &Outside<'_>,
+        lasting: &Lasting<'_>,
         search: Search,
         rest: &'p [Op],
     ) -> Now<'p>
         requires { AreRefs (meaning_of self.old.arena) self.old.args.items }
-        ensures { (code : TheCode) → SeeksObjects tables.now code outside.now self.old search.place search.many search.next rest.now self.new result }
+        ensures { (code : TheCode) → SeeksObjects tables.now code lasting.now self.old search.place search.many search.next rest.now self.new result }
     {
         let Some(first) = self.first_argument() else {
             return Now::Fails;
@@ -190,7 +190,7 @@ impl Memory {
                 self.way = Way::Tries(search, 0, end);
                 Now::Resumes
             }
-            Subject::Thing(object) => self.read_object(outside, search.place, object, rest),
+            Subject::Thing(object) => self.read_object(lasting, search.place, object, rest),
             Subject::Other => Now::Fails,
         }
     }
@@ -199,30 +199,30 @@ impl Memory {
     fn seek<'p>(
         &mut self,
         tables: &Tables,
-        outside: &Outside<'_>,
+        lasting: &Lasting<'_>,
         search: Search,
         rest: &'p [Op],
     ) -> Now<'p>
         requires some { (code : TheCode) × (l : Limits) × (m : Mid) × Holds code l self.old m }
         requires args { AreRefs (meaning_of self.old.arena) self.old.args.items }
-        ensures { (code : TheCode) → SeeksPlace tables.now code outside.now self.old search.place search.many search.next rest.now self.new result }
+        ensures { (code : TheCode) → SeeksPlace tables.now code lasting.now self.old search.place search.many search.next rest.now self.new result }
     {
         let Some(place) = search.place else {
-            return self.seek_objects(tables, outside, search, rest);
+            return self.seek_objects(tables, lasting, search, rest);
         };
         let Some(kind) = tables.kind_of(place) else {
             return Now::Fails;
         };
         match kind {
             PlaceKind::Flag => {
-                if outside.world.holds(place, 0) {
+                if lasting.world.holds(place, 0) {
                     Now::Runs(rest)
                 } else {
                     Now::Fails
                 }
             }
-            PlaceKind::Global => self.read_global(outside, place, rest),
-            _ => self.seek_objects(tables, outside, search, rest),
+            PlaceKind::Global => self.read_global(lasting, place, rest),
+            _ => self.seek_objects(tables, lasting, search, rest),
         }
     }
 
@@ -230,19 +230,19 @@ impl Memory {
     pub fn find<'p>(
         &mut self,
         tables: &Tables,
-        outside: &Outside<'_>,
+        lasting: &Lasting<'_>,
         search: Search,
         terms: &[Term],
         rest: &'p [Op],
     ) -> Now<'p>
         requires some { (code : TheCode) × (l : Limits) × (m : Mid) × Holds code l self.old m }
         requires terms { AreArguments terms.now }
-        ensures { (code : TheCode) → ReadsOp tables.now code outside.now self.old (op.Find search.place terms.now search.many search.next) rest.now self.new
+        ensures { (code : TheCode) → ReadsOp tables.now code lasting.now self.old (op.Find search.place terms.now search.many search.next) rest.now self.new
             result }
     {
         match self.put_args(tables, terms) {
             Err(_) => Now::Ended(Ending::HeapLimit),
-            Ok(()) => self.seek(tables, outside, search, rest),
+            Ok(()) => self.seek(tables, lasting, search, rest),
         }
     }
 
@@ -250,19 +250,19 @@ impl Memory {
     fn try_object<'p>(
         &mut self,
         code: &'p Code,
-        outside: &Outside<'_>,
+        lasting: &Lasting<'_>,
         search: Search,
         object: u16,
         height: u32,
     ) -> Now<'p>
         requires built { IsBuilt code.now }
         requires args { AreRefs (meaning_of self.old.arena) self.old.args.items }
-        ensures { TriesObject code.now outside.now self.old search object height self.new result }
+        ensures { TriesObject code.now lasting.now self.old search object height self.new result }
     {
         if self.args.is_empty() {
             return missed(search.many);
         }
-        let Some(value) = found(&outside.world, search.place, object) else {
+        let Some(value) = found(&lasting.world, search.place, object) else {
             return missed(search.many);
         };
         match self.meet_object(object, value) {
@@ -276,7 +276,7 @@ impl Memory {
     pub fn try_first<'p>(
         &mut self,
         code: &'p Code,
-        outside: &Outside<'_>,
+        lasting: &Lasting<'_>,
         search: Search,
         from: u16,
         end: u16,
@@ -284,7 +284,7 @@ impl Memory {
         requires room { HasRoom self.old }
         requires built { IsBuilt code.now }
         requires args { AreRefs (meaning_of self.old.arena) self.old.args.items }
-        ensures { TriesFirst code.now outside.now self.old search from end self.new result }
+        ensures { TriesFirst code.now lasting.now self.old search from end self.new result }
     {
         if from >= end {
             return Now::Fails;
@@ -292,12 +292,12 @@ impl Memory {
         let height = self.arena.heap();
         let next = from + 1;
         if next == end {
-            return self.try_object(code, outside, search, from, height);
+            return self.try_object(code, lasting, search, from, height);
         }
         let count = self.args.len();
         match self.open(Way::Tries(search, next, end), count) {
             Err(_) => Now::Ended(Ending::HeapLimit),
-            Ok(()) => self.try_object(code, outside, search, from, height),
+            Ok(()) => self.try_object(code, lasting, search, from, height),
         }
     }
 }

@@ -16,8 +16,8 @@ ghost use Rattle.dg_machine.specs.declared.now.Now.TheVariants.{Runs, Fails};
 ghost use Rattle.dg_machine.specs.Built.{ActionBuilt, OpBuilt, OpsBuilt, IsBuilt, IsQuiet, IsQuietOp, BeginsQuietly};
 ghost use Rattle.dg_base.specs.declared.run.Limits.{Limits};
 ghost use Rattle.dg_mid.specs.State.{Mid};
-ghost use Rattle.dg_outside.specs.declared.outside.Outside.{Outside as TheOutside};
-ghost use Rattle.dg_outside.specs.Outside.{MayPick, picks_in};
+ghost use Rattle.dg_lasting.specs.declared.lasting.Lasting.{Lasting as TheLasting};
+ghost use Rattle.dg_lasting.specs.Lasting.{MayPick, picks_in};
 ghost use Rattle.dg_machine.specs.Layout.{HasRoom, Holds, Roomy};
 ghost use Rattle.dg_machine.specs.Standing.{DoesOp, DoesMark, HasStatus, PicksOnce};
 ghost use Rattle.dg_machine.specs.inside.Reading.{IsEnd, ReadsNone, NoLine};
@@ -33,8 +33,8 @@ use crate::reading::{line_term, read_line};
 use crate::selecting::select;
 use crate::tables::Tables;
 use dg_base::{Ending, Fault, GapKind, Sink, Source, Term, WriteFault};
+use dg_lasting::Lasting;
 use dg_mid::{Action, Code, Op};
-use dg_outside::Outside;
 use dg_spacing::{Event, Spacer};
 
 /// Whether a goal is next, or the run has ended.
@@ -82,7 +82,7 @@ fn mark_step<'p>(
     memory: &mut Memory,
     code: &'p Code,
     tables: &Tables,
-    outside: &mut Outside<'_>,
+    lasting: &mut Lasting<'_>,
     now: Now<'p>,
 ) -> Now<'p>
     requires built { IsBuilt code.now }
@@ -90,21 +90,21 @@ fn mark_step<'p>(
     requires some { HasStatus code.now memory.old now }
     requires mark { rests now ≡ false }
     requires on { IsFailing now → ⊥ }
-    ensures done { DoesMarks tables.now code.now memory.old outside.old now.entry memory.new outside.new result }
-    ensures sites { outside.new.sites ≡ outside.old.sites }
+    ensures done { DoesMarks tables.now code.now memory.old lasting.old now.entry memory.new lasting.new result }
+    ensures sites { lasting.new.sites ≡ lasting.old.sites }
 {
     match now {
         Now::Runs(ops) => match ops {
             [] => Now::Fails,
             [op, rest @ ..] => match op {
-                Op::Keep(_) => memory.keep(outside, ops),
+                Op::Keep(_) => memory.keep(lasting, ops),
                 op => do_mark(memory, code, ops, op, rest),
             },
         },
         Now::Enters(ops) => memory.enter_rule(tables, ops),
         Now::Resumes => {
             let way = memory.way;
-            memory.go_on(code, outside, way)
+            memory.go_on(code, lasting, way)
         }
         Now::Leaves(height, ops) => memory.leave_around(height, ops),
         now => now,
@@ -117,7 +117,7 @@ fn mark_apart<'p>(
     memory: &mut Memory,
     code: &'p Code,
     tables: &Tables,
-    outside: &mut Outside<'_>,
+    lasting: &mut Lasting<'_>,
     now: Now<'p>,
 ) -> Now<'p>
     requires built { IsBuilt code.now }
@@ -125,10 +125,10 @@ fn mark_apart<'p>(
     requires some { HasStatus code.now memory.old now }
     requires mark { rests now ≡ false }
     requires on { IsFailing now → ⊥ }
-    ensures done { DoesMarks tables.now code.now memory.old outside.old now.entry memory.new outside.new result }
-    ensures sites { outside.new.sites ≡ outside.old.sites }
+    ensures done { DoesMarks tables.now code.now memory.old lasting.old now.entry memory.new lasting.new result }
+    ensures sites { lasting.new.sites ≡ lasting.old.sites }
 {
-    let next = mark_step(memory, code, tables, outside, now);
+    let next = mark_step(memory, code, tables, lasting, now);
     next
 }
 
@@ -143,31 +143,31 @@ fn fails(now: Now<'_>) -> bool
 
 /// It fails, and the newest choice goes on.
 #[inline(never)]
-fn fail_on<'p>(memory: &mut Memory, code: &'p Code, outside: &mut Outside<'_>) -> Now<'p>
+fn fail_on<'p>(memory: &mut Memory, code: &'p Code, lasting: &mut Lasting<'_>) -> Now<'p>
     requires built { IsBuilt code.now }
     requires tidy { Tidy code.now }
-    requires some { (t : TheTables) × (now : Now) × IsFailing now × IsSomewhereWith t code.now memory.old outside.old now }
-    ensures comes { (t : TheTables) → (now : Now) → IsFailing now → Settles t code.now memory.old outside.old now memory.new outside.new result }
+    requires some { (t : TheTables) × (now : Now) × IsFailing now × IsSomewhereWith t code.now memory.old lasting.old now }
+    ensures comes { (t : TheTables) → (now : Now) → IsFailing now → Settles t code.now memory.old lasting.old now memory.new lasting.new result }
     ensures falls { left_of memory.new result < left_of memory.old Fails }
-    ensures sites { outside.new.sites ≡ outside.old.sites }
+    ensures sites { lasting.new.sites ≡ lasting.old.sites }
 {
-    match memory.fail(outside) {
+    match memory.fail(lasting) {
         None => Now::Ended(Ending::Failed),
-        Some(way) => memory.go_on(code, outside, way),
+        Some(way) => memory.go_on(code, lasting, way),
     }
 }
 
 /// The same, with a place of its own for what it comes to.
 #[inline(always)]
-fn fail_apart<'p>(memory: &mut Memory, code: &'p Code, outside: &mut Outside<'_>) -> Now<'p>
+fn fail_apart<'p>(memory: &mut Memory, code: &'p Code, lasting: &mut Lasting<'_>) -> Now<'p>
     requires built { IsBuilt code.now }
     requires tidy { Tidy code.now }
-    requires some { (t : TheTables) × (now : Now) × IsFailing now × IsSomewhereWith t code.now memory.old outside.old now }
-    ensures comes { (t : TheTables) → (now : Now) → IsFailing now → Settles t code.now memory.old outside.old now memory.new outside.new result }
+    requires some { (t : TheTables) × (now : Now) × IsFailing now × IsSomewhereWith t code.now memory.old lasting.old now }
+    ensures comes { (t : TheTables) → (now : Now) → IsFailing now → Settles t code.now memory.old lasting.old now memory.new lasting.new result }
     ensures falls { left_of memory.new result < left_of memory.old Fails }
-    ensures sites { outside.new.sites ≡ outside.old.sites }
+    ensures sites { lasting.new.sites ≡ lasting.old.sites }
 {
-    let next = fail_on(memory, code, outside);
+    let next = fail_on(memory, code, lasting);
     next
 }
 
@@ -204,7 +204,7 @@ fn is_quick(now: Now<'_>) -> bool
     }
 }
 
-/// Does such a step, which leaves what is outside.
+/// Does such a step, which leaves what lasts.
 #[inline(always)]
 fn quick_mark<'p>(memory: &mut Memory, code: &'p Code, tables: &Tables, now: Now<'p>) -> Now<'p>
     requires built { IsBuilt code.now }
@@ -212,7 +212,7 @@ fn quick_mark<'p>(memory: &mut Memory, code: &'p Code, tables: &Tables, now: Now
     requires some { HasStatus code.now memory.old now }
     requires mark { rests now ≡ false }
     requires quick { IsQuick now }
-    ensures { (out : TheOutside) → DoesMarks tables.now code.now memory.old out now.entry memory.new out result }
+    ensures { (out : TheLasting) → DoesMarks tables.now code.now memory.old out now.entry memory.new out result }
 {
     match now {
         Now::Enters(ops) => memory.enter_rule(tables, ops),
@@ -237,7 +237,7 @@ fn event_of(kind: GapKind) -> Event<'static>
     }
 }
 
-/// Does an action that prints nothing, and leaves what is outside.
+/// Does an action that prints nothing, and leaves what lasts.
 #[inline(never)]
 fn act<'p>(memory: &mut Memory, tables: &Tables, action: &'p Action, rest: &'p [Op]) -> Now<'p>
     requires some { (code : TheCode) × (l : Limits) × (m : Mid) × Holds code l memory.old m }
@@ -275,7 +275,7 @@ fn act_apart<'p>(
     now
 }
 
-/// Does an instruction that takes a goal, prints nothing, and leaves what is outside.
+/// Does an instruction that takes a goal, prints nothing, and leaves what lasts.
 #[inline(always)]
 fn do_quiet<'p>(
     memory: &mut Memory,
@@ -332,7 +332,7 @@ fn print_spaces<'p, K: Sink>(
 ) -> Result<Now<'p>, WriteFault>
     requires some { (code : TheCode) × (l : Limits) × (m : Mid) × Holds code l memory.old m }
     requires whole { ops.now ≡ op.Do (action.GapN term.now) ∷ rest.now }
-    ensures ok { (out : TheOutside) → IfOk result (λ now. (code : TheCode) → DoesGoal tables.now code memory.old out ops.now memory.new out now spacer.old
+    ensures ok { (out : TheLasting) → IfOk result (λ now. (code : TheCode) → DoesGoal tables.now code memory.old out ops.now memory.new out now spacer.old
         spacer.new (K.view sink.old) (K.view sink.new)) }
     ensures err { OnErr result ((code : TheCode) → LosesGoal tables.now code memory.old ops.now spacer.old (K.view sink.old) (K.view sink.new)) }
     ensures roomy { OnErr result ((code : TheCode) → (l : Limits) → (m : Mid) → Holds code l memory.old m → Roomy l memory.new) }
@@ -359,7 +359,7 @@ fn print_term<'p, K: Sink>(
 ) -> Result<Now<'p>, WriteFault>
     requires some { (code : TheCode) × (l : Limits) × (m : Mid) × Holds code l memory.old m }
     requires whole { ops.now ≡ op.Do (action.Print term.now) ∷ rest.now }
-    ensures ok { (out : TheOutside) → IfOk result (λ now. (code : TheCode) → DoesGoal tables.now code memory.old out ops.now memory.new out now spacer.old
+    ensures ok { (out : TheLasting) → IfOk result (λ now. (code : TheCode) → DoesGoal tables.now code memory.old out ops.now memory.new out now spacer.old
         spacer.new (K.view sink.old) (K.view sink.new)) }
     ensures err { OnErr result ((code : TheCode) → LosesGoal tables.now code memory.old ops.now spacer.old (K.view sink.old) (K.view sink.new)) }
     ensures roomy { OnErr result ((code : TheCode) → (l : Limits) → (m : Mid) → Holds code l memory.old m → Roomy l memory.new) }
@@ -377,7 +377,7 @@ fn print_term<'p, K: Sink>(
 fn do_action<'p, K: Sink>(
     memory: &mut Memory,
     tables: &Tables,
-    outside: &mut Outside<'_>,
+    lasting: &mut Lasting<'_>,
     ops: &'p [Op],
     action: &'p Action,
     rest: &'p [Op],
@@ -390,11 +390,11 @@ fn do_action<'p, K: Sink>(
     requires noisy { IsQuiet action.now → ⊥ }
     requires unread { ReadsNone (op.Do action.now) }
     requires whole { ops.now ≡ op.Do action.now ∷ rest.now }
-    ensures ok { IfOk result (λ now. (code : TheCode) → DoesGoal tables.now code memory.old outside.old ops.now memory.new outside.new now spacer.old
+    ensures ok { IfOk result (λ now. (code : TheCode) → DoesGoal tables.now code memory.old lasting.old ops.now memory.new lasting.new now spacer.old
         spacer.new (K.view sink.old) (K.view sink.new)) }
     ensures err { OnErr result ((code : TheCode) → LosesGoal tables.now code memory.old ops.now spacer.old (K.view sink.old) (K.view sink.new)) }
     ensures roomy { OnErr result ((code : TheCode) → (l : Limits) → (m : Mid) → Holds code l memory.old m → Roomy l memory.new) }
-    ensures sites { outside.new.sites ≡ outside.old.sites }
+    ensures sites { lasting.new.sites ≡ lasting.old.sites }
 {
     match action {
         Action::Text(name) => match spacer.event(sink, Event::Piece(name.as_slice())) {
@@ -407,9 +407,9 @@ fn do_action<'p, K: Sink>(
         },
         Action::GapN(term) => print_spaces(memory, tables, ops, term, rest, spacer, sink),
         Action::Print(term) => print_term(memory, tables, ops, term, rest, spacer, sink),
-        Action::Random(a, b, into) => Ok(memory.random(tables, outside, a, b, into, rest)),
+        Action::Random(a, b, into) => Ok(memory.random(tables, lasting, a, b, into, rest)),
         Action::Now(place, terms, sets) => {
-            Ok(memory.change(tables, outside, *place, terms.as_slice(), *sets, rest))
+            Ok(memory.change(tables, lasting, *place, terms.as_slice(), *sets, rest))
         }
         _ => Ok(Now::Fails),
     }
@@ -420,7 +420,7 @@ fn goal_step<'p, K: Sink>(
     memory: &mut Memory,
     code: &'p Code,
     tables: &Tables,
-    outside: &mut Outside<'_>,
+    lasting: &mut Lasting<'_>,
     ops: &'p [Op],
     spacer: &mut Spacer,
     sink: &mut K,
@@ -431,21 +431,21 @@ fn goal_step<'p, K: Sink>(
     requires ops_built { OpsBuilt ops.now }
     requires goal { at_goal ops.now ≡ true }
     requires noisy { BeginsQuietly ops.now → ⊥ }
-    requires may { MayPick 1 (picks_in outside.old) }
+    requires may { MayPick 1 (picks_in lasting.old) }
     requires unread { NoLine ops.now }
-    ensures ok { IfOk result (λ now. DoesGoal tables.now code.now memory.old outside.old ops.now memory.new outside.new now spacer.old spacer.new
+    ensures ok { IfOk result (λ now. DoesGoal tables.now code.now memory.old lasting.old ops.now memory.new lasting.new now spacer.old spacer.new
         (K.view sink.old) (K.view sink.new)) }
     ensures err { OnErr result (LosesGoal tables.now code.now memory.old ops.now spacer.old (K.view sink.old) (K.view sink.new)) }
     ensures roomy { OnErr result ((l : Limits) → (m : Mid) → Holds code.now l memory.old m → Roomy l memory.new) }
-    ensures once { PicksOnce outside.old outside.new }
+    ensures once { PicksOnce lasting.old lasting.new }
 {
     match ops {
         [] => Ok(Now::Fails),
         [op, rest @ ..] => match op {
             Op::Do(action) => match action {
-                Action::Stop => Ok(memory.stop(code, outside)),
+                Action::Stop => Ok(memory.stop(code, lasting)),
                 action => match do_action(
-                    memory, tables, outside, ops, action, rest, spacer, sink,
+                    memory, tables, lasting, ops, action, rest, spacer, sink,
                 ) {
                     Ok(now) => Ok(now),
                     Err(fault) => Err(fault),
@@ -453,10 +453,10 @@ fn goal_step<'p, K: Sink>(
             },
             Op::Select(site, mode, blocks, behind) => {
                 let blocks = blocks.as_slice();
-                Ok(select(code, outside, *site, *mode, blocks, *behind))
+                Ok(select(code, lasting, *site, *mode, blocks, *behind))
             }
             Op::Collect(term, into, alt) => {
-                Ok(memory.collect(tables, outside, term, into, *alt, rest))
+                Ok(memory.collect(tables, lasting, term, into, *alt, rest))
             }
             Op::Find(place, terms, many, next) => {
                 let search = Search {
@@ -464,7 +464,7 @@ fn goal_step<'p, K: Sink>(
                     many: *many,
                     next: *next,
                 };
-                Ok(memory.find(tables, outside, search, terms.as_slice(), rest))
+                Ok(memory.find(tables, lasting, search, terms.as_slice(), rest))
             }
             _ => Ok(Now::Fails),
         },
@@ -476,7 +476,7 @@ fn next_goal<'p, S: Source, K: Sink>(
     memory: &mut Memory,
     code: &'p Code,
     tables: &Tables,
-    outside: &mut Outside<'_>,
+    lasting: &mut Lasting<'_>,
     ops: &'p [Op],
     source: &mut S,
     spacer: &mut Spacer,
@@ -488,19 +488,19 @@ fn next_goal<'p, S: Source, K: Sink>(
     requires ops_built { OpsBuilt ops.now }
     requires goal { at_goal ops.now ≡ true }
     requires noisy { BeginsQuietly ops.now → ⊥ }
-    requires may { MayPick 1 (picks_in outside.old) }
-    ensures ok { IfOk result (λ now. ReadsGoal tables.now code.now memory.old outside.old ops.now memory.new outside.new now spacer.old spacer.new
+    requires may { MayPick 1 (picks_in lasting.old) }
+    ensures ok { IfOk result (λ now. ReadsGoal tables.now code.now memory.old lasting.old ops.now memory.new lasting.new now spacer.old spacer.new
         (K.view sink.old) (K.view sink.new) (S.view source.old) (S.view source.new)) }
     ensures err { IfErr result (λ fault. BreaksGoal fault tables.now code.now memory.old ops.now spacer.old spacer.new
         (K.view sink.old) (K.view sink.new) (S.view source.old) (S.view source.new)) }
     ensures roomy { OnErr result ((l : Limits) → (m : Mid) → Holds code.now l memory.old m → Roomy l memory.new) }
-    ensures once { PicksOnce outside.old outside.new }
+    ensures once { PicksOnce lasting.old lasting.new }
 {
     match ops {
         [] => Ok(Now::Fails),
         [op, rest @ ..] => match line_term(op) {
             Some(term) => read_line(memory, tables, ops, term, rest, source, spacer, sink),
-            None => match goal_step(memory, code, tables, outside, ops, spacer, sink) {
+            None => match goal_step(memory, code, tables, lasting, ops, spacer, sink) {
                 Ok(now) => Ok(now),
                 Err(_) => Err(Fault::Write),
             },
@@ -513,8 +513,8 @@ fn next_goal<'p, S: Source, K: Sink>(
 fn enter_first<'p>(memory: &mut Memory, code: &'p Code, tables: &Tables, now: Now<'p>) -> Now<'p>
     requires built { IsBuilt code.now }
     requires tidy { Tidy code.now }
-    requires some { (out : TheOutside) × IsSomewhereWith tables.now code.now memory.old out now }
-    ensures comes { (out : TheOutside) → Settles tables.now code.now memory.old out now.entry memory.new out result }
+    requires some { (out : TheLasting) × IsSomewhereWith tables.now code.now memory.old out now }
+    ensures comes { (out : TheLasting) → Settles tables.now code.now memory.old out now.entry memory.new out result }
     ensures stays { IsEnd now.entry → IsEnd result }
 {
     match now {
@@ -528,10 +528,10 @@ fn enter_first<'p>(memory: &mut Memory, code: &'p Code, tables: &Tables, now: No
 fn answers<'p>(memory: &mut Memory, code: &'p Code, tables: &Tables, now: Now<'p>) -> Now<'p>
     requires built { IsBuilt code.now }
     requires tidy { Tidy code.now }
-    requires some { (out : TheOutside) × IsSomewhereWith tables.now code.now memory.old out now }
+    requires some { (out : TheLasting) × IsSomewhereWith tables.now code.now memory.old out now }
     requires mark { rests now ≡ false }
     requires quick { IsQuick now }
-    ensures comes { (out : TheOutside) → Settles tables.now code.now memory.old out now.entry memory.new out result }
+    ensures comes { (out : TheLasting) → Settles tables.now code.now memory.old out now.entry memory.new out result }
     ensures falls { left_of memory.new result < left_of memory.old now.entry }
 {
     let mut now = now;
@@ -549,8 +549,8 @@ fn answers<'p>(memory: &mut Memory, code: &'p Code, tables: &Tables, now: Now<'p
 fn settle_first<'p>(memory: &mut Memory, code: &'p Code, tables: &Tables, now: Now<'p>) -> Now<'p>
     requires built { IsBuilt code.now }
     requires tidy { Tidy code.now }
-    requires some { (out : TheOutside) × IsSomewhereWith tables.now code.now memory.old out now }
-    ensures comes { (out : TheOutside) → Settles tables.now code.now memory.old out now.entry memory.new out result }
+    requires some { (out : TheLasting) × IsSomewhereWith tables.now code.now memory.old out now }
+    ensures comes { (out : TheLasting) → Settles tables.now code.now memory.old out now.entry memory.new out result }
     ensures stays { IsEnd now.entry → IsEnd result }
 {
     let now = enter_first(memory, code, tables, now);
@@ -567,14 +567,14 @@ fn settle<'p>(
     memory: &mut Memory,
     code: &'p Code,
     tables: &Tables,
-    outside: &mut Outside<'_>,
+    lasting: &mut Lasting<'_>,
     start: Now<'p>,
 ) -> Now<'p>
     requires built { IsBuilt code.now }
     requires tidy { Tidy code.now }
-    requires some { IsSomewhereWith tables.now code.now memory.old outside.old start }
-    ensures comes { Settles tables.now code.now memory.old outside.old start.entry memory.new outside.new result }
-    ensures sites { outside.new.sites ≡ outside.old.sites }
+    requires some { IsSomewhereWith tables.now code.now memory.old lasting.old start }
+    ensures comes { Settles tables.now code.now memory.old lasting.old start.entry memory.new lasting.new result }
+    ensures sites { lasting.new.sites ≡ lasting.old.sites }
     ensures rests { rests result ≡ true }
     ensures stays { IsEnd start.entry → IsEnd result }
 {
@@ -587,9 +587,9 @@ fn settle<'p>(
         if is_quick(now) {
             now = quick_mark(memory, code, tables, now);
         } else if fails(now) {
-            now = fail_apart(memory, code, outside);
+            now = fail_apart(memory, code, lasting);
         } else {
-            now = mark_apart(memory, code, tables, outside, now);
+            now = mark_apart(memory, code, tables, lasting, now);
         }
     }
     now
@@ -601,18 +601,18 @@ fn settle_apart<'p>(
     memory: &mut Memory,
     code: &'p Code,
     tables: &Tables,
-    outside: &mut Outside<'_>,
+    lasting: &mut Lasting<'_>,
     now: Now<'p>,
 ) -> Now<'p>
     requires built { IsBuilt code.now }
     requires tidy { Tidy code.now }
-    requires some { IsSomewhereWith tables.now code.now memory.old outside.old now }
-    ensures comes { Settles tables.now code.now memory.old outside.old now.entry memory.new outside.new result }
-    ensures sites { outside.new.sites ≡ outside.old.sites }
+    requires some { IsSomewhereWith tables.now code.now memory.old lasting.old now }
+    ensures comes { Settles tables.now code.now memory.old lasting.old now.entry memory.new lasting.new result }
+    ensures sites { lasting.new.sites ≡ lasting.old.sites }
     ensures rests { rests result ≡ true }
     ensures stays { IsEnd now.entry → IsEnd result }
 {
-    settle(memory, code, tables, outside, now)
+    settle(memory, code, tables, lasting, now)
 }
 
 /// Does the instruction at hand, which takes a goal and isn't quiet, and steps up to the next goal, or the end.
@@ -621,7 +621,7 @@ fn turn<'p, S: Source, K: Sink>(
     memory: &mut Memory,
     code: &'p Code,
     tables: &Tables,
-    outside: &mut Outside<'_>,
+    lasting: &mut Lasting<'_>,
     ops: &'p [Op],
     source: &mut S,
     spacer: &mut Spacer,
@@ -631,20 +631,20 @@ fn turn<'p, S: Source, K: Sink>(
     requires tidy { Tidy code.now }
     requires goal { at_goal ops.now ≡ true }
     requires noisy { BeginsQuietly ops.now → ⊥ }
-    requires may { MayPick 1 (picks_in outside.old) }
-    requires some { IsSomewhereAt tables.now code.now memory.old outside.old (Runs ops) (S.view source.old) }
-    ensures ok { IfOk result (λ now. Takes tables.now code.now 1 memory.old outside.old (Runs ops.entry) spacer.old (K.view sink.old) (S.view source.old)
-        memory.new outside.new now spacer.new (K.view sink.new) (S.view source.new)) }
-    ensures err { IfErr result (λ fault. BreaksTurn fault tables.now code.now memory.old outside.old (Runs ops.entry)
+    requires may { MayPick 1 (picks_in lasting.old) }
+    requires some { IsSomewhereAt tables.now code.now memory.old lasting.old (Runs ops) (S.view source.old) }
+    ensures ok { IfOk result (λ now. Takes tables.now code.now 1 memory.old lasting.old (Runs ops.entry) spacer.old (K.view sink.old) (S.view source.old)
+        memory.new lasting.new now spacer.new (K.view sink.new) (S.view source.new)) }
+    ensures err { IfErr result (λ fault. BreaksTurn fault tables.now code.now memory.old lasting.old (Runs ops.entry)
         spacer.old (K.view sink.old) (S.view source.old) spacer.new (K.view sink.new) (S.view source.new)) }
     ensures roomy { OnErr result ((l : Limits) → (m : Mid) → Holds code.now l memory.old m → Roomy l memory.new) }
-    ensures once { PicksOnce outside.old outside.new }
-    ensures some { IfOk result (λ now. IsSomewhereStill tables.now code.now memory.new outside.new now (S.view source.new)) }
+    ensures once { PicksOnce lasting.old lasting.new }
+    ensures some { IfOk result (λ now. IsSomewhereStill tables.now code.now memory.new lasting.new now (S.view source.new)) }
     ensures rests { IfOk result (λ now. rests now ≡ true) }
 {
-    match next_goal(memory, code, tables, outside, ops, source, spacer, sink) {
+    match next_goal(memory, code, tables, lasting, ops, source, spacer, sink) {
         Err(fault) => Err(fault),
-        Ok(now) => Ok(settle_apart(memory, code, tables, outside, now)),
+        Ok(now) => Ok(settle_apart(memory, code, tables, lasting, now)),
     }
 }
 
@@ -654,31 +654,31 @@ fn quiet_turn<'p>(
     memory: &mut Memory,
     code: &'p Code,
     tables: &Tables,
-    outside: &mut Outside<'_>,
+    lasting: &mut Lasting<'_>,
     ops: &'p [Op],
 ) -> Now<'p>
     requires built { IsBuilt code.now }
     requires tidy { Tidy code.now }
     requires goal { at_goal ops.now ≡ true }
     requires quiet { BeginsQuietly ops.now }
-    requires some { IsSomewhereWith tables.now code.now memory.old outside.old (Runs ops) }
+    requires some { IsSomewhereWith tables.now code.now memory.old lasting.old (Runs ops) }
     ensures takes { (s : TheSpacer) → (k : SinkView) → (i : SourceView) →
-        Takes tables.now code.now 1 memory.old outside.old (Runs ops.entry) s k i memory.new outside.new result s k i ×
-        (IsSomewhereAt tables.now code.now memory.old outside.old (Runs ops.entry) i →
-        IsSomewhereStill tables.now code.now memory.new outside.new result i) }
-    ensures sites { outside.new.sites ≡ outside.old.sites }
+        Takes tables.now code.now 1 memory.old lasting.old (Runs ops.entry) s k i memory.new lasting.new result s k i ×
+        (IsSomewhereAt tables.now code.now memory.old lasting.old (Runs ops.entry) i →
+        IsSomewhereStill tables.now code.now memory.new lasting.new result i) }
+    ensures sites { lasting.new.sites ≡ lasting.old.sites }
     ensures rests { rests result ≡ true }
 {
     match ops {
         [] => Now::Fails,
         [op, rest @ ..] => {
             let now = do_quiet(memory, code, tables, op, rest);
-            settle(memory, code, tables, outside, now)
+            settle(memory, code, tables, lasting, now)
         }
     }
 }
 
-/// Whether a goal is next that prints and reads nothing, and leaves what is outside.
+/// Whether a goal is next that prints and reads nothing, and leaves what lasts.
 #[inline(always)]
 fn goes_quietly(now: Now<'_>) -> bool
     ensures { result ≡ true → IsQuick now.entry }
@@ -689,14 +689,14 @@ fn goes_quietly(now: Now<'_>) -> bool
     }
 }
 
-/// Does the goal at hand and those behind it, so many at most, while they print and read nothing, and leave what is outside; and how
+/// Does the goal at hand and those behind it, so many at most, while they print and read nothing, and leave what lasts; and how
 /// many are left. It stands apart, since it is the same for every source and sink.
 #[inline(never)]
 fn quiet_goals<'p>(
     memory: &mut Memory,
     code: &'p Code,
     tables: &Tables,
-    outside: &mut Outside<'_>,
+    lasting: &mut Lasting<'_>,
     start: Now<'p>,
     steps: u64,
 ) -> (Now<'p>, u64)
@@ -705,12 +705,12 @@ fn quiet_goals<'p>(
     requires rests { rests start ≡ true }
     requires quick { IsQuick start }
     requires more { 0 < steps }
-    requires some { (s : TheSpacer) × (k : SinkView) × (i : SourceView) × IsSomewhereStill tables.now code.now memory.old outside.old start i }
+    requires some { (s : TheSpacer) × (k : SinkView) × (i : SourceView) × IsSomewhereStill tables.now code.now memory.old lasting.old start i }
     ensures takes { (s : TheSpacer) → (k : SinkView) → (i : SourceView) →
-        Takes tables.now code.now (steps - result.1) memory.old outside.old start.entry s k i memory.new outside.new result.0 s k i ×
-        (IsSomewhereStill tables.now code.now memory.old outside.old start.entry i →
-        IsSomewhereStill tables.now code.now memory.new outside.new result.0 i) }
-    ensures sites { outside.new.sites ≡ outside.old.sites }
+        Takes tables.now code.now (steps - result.1) memory.old lasting.old start.entry s k i memory.new lasting.new result.0 s k i ×
+        (IsSomewhereStill tables.now code.now memory.old lasting.old start.entry i →
+        IsSomewhereStill tables.now code.now memory.new lasting.new result.0 i) }
+    ensures sites { lasting.new.sites ≡ lasting.old.sites }
     ensures rests { rests result.0 ≡ true }
     ensures fewer { result.1 < steps }
 {
@@ -718,7 +718,7 @@ fn quiet_goals<'p>(
     let mut left = steps;
     'goals: loop {
         match now {
-            Now::Runs(ops) => now = quiet_turn(memory, code, tables, outside, ops),
+            Now::Runs(ops) => now = quiet_turn(memory, code, tables, lasting, ops),
             _ => return (now, left),
         }
         left -= 1;
@@ -733,7 +733,7 @@ pub fn go<'p, S: Source, K: Sink>(
     memory: &mut Memory,
     code: &'p Code,
     tables: &Tables,
-    outside: &mut Outside<'_>,
+    lasting: &mut Lasting<'_>,
     start: Now<'p>,
     steps: u64,
     source: &mut S,
@@ -742,14 +742,14 @@ pub fn go<'p, S: Source, K: Sink>(
 ) -> Result<(Ending, u64), Fault>
     requires built { IsBuilt code.now }
     requires tidy { Tidy code.now }
-    requires some { IsSomewhereAt tables.now code.now memory.old outside.old start (S.view source.old) }
-    requires may { MayPick steps (picks_in outside.old) }
-    ensures ok { IfOk result (λ end. Finishes tables.now code.now memory.old outside.old start.entry steps spacer.old (K.view sink.old) (S.view source.old)
+    requires some { IsSomewhereAt tables.now code.now memory.old lasting.old start (S.view source.old) }
+    requires may { MayPick steps (picks_in lasting.old) }
+    ensures ok { IfOk result (λ end. Finishes tables.now code.now memory.old lasting.old start.entry steps spacer.old (K.view sink.old) (S.view source.old)
         end.0 end.1 memory.new spacer.new (K.view sink.new) (S.view source.new)) }
-    ensures err { IfErr result (λ fault. BreaksRun fault tables.now code.now memory.old outside.old start.entry steps spacer.old (K.view sink.old)
+    ensures err { IfErr result (λ fault. BreaksRun fault tables.now code.now memory.old lasting.old start.entry steps spacer.old (K.view sink.old)
         (S.view source.old) memory.new spacer.new (K.view sink.new) (S.view source.new)) }
 {
-    let first = settle_apart(memory, code, tables, outside, start);
+    let first = settle_apart(memory, code, tables, lasting, start);
     let mut now = first;
     let mut left = steps;
     'goals: while left > 0 {
@@ -757,11 +757,11 @@ pub fn go<'p, S: Source, K: Sink>(
             Now::Ended(ending) => return Ok((ending, left)),
             Now::Runs(ops) => {
                 if begins_quietly(ops) {
-                    let (next, rest) = quiet_goals(memory, code, tables, outside, now, left);
+                    let (next, rest) = quiet_goals(memory, code, tables, lasting, now, left);
                     now = next;
                     left = rest;
                 } else {
-                    match turn(memory, code, tables, outside, ops, source, spacer, sink) {
+                    match turn(memory, code, tables, lasting, ops, source, spacer, sink) {
                         Err(fault) => return Err(fault),
                         Ok(next) => {
                             now = next;

@@ -15,8 +15,8 @@ use crate::doing::code_at;
 use crate::memory::Memory;
 use crate::now::{Choice, Now, Way};
 use dg_base::Ending;
+use dg_lasting::Lasting;
 use dg_mid::{Code, Op};
-use dg_outside::Outside;
 use dg_unify::{Bindings, Full};
 
 impl Memory {
@@ -83,18 +83,18 @@ impl Memory {
     }
 
     /// It goes on behind the stoppable part that is open, without what was gathered inside it; without such a part the run ends.
-    pub fn stop<'p>(&mut self, code: &'p Code, outside: &mut Outside<'_>) -> Now<'p>
+    pub fn stop<'p>(&mut self, code: &'p Code, lasting: &mut Lasting<'_>) -> Now<'p>
         requires some { (l : Limits) × (m : Mid) × Holds code.now l self.old m }
         requires built { IsBuilt code.now }
-        ensures does { DoesStop code.now self.old outside.old self.new result outside.new }
-        ensures sites { outside.new.sites ≡ outside.old.sites }
+        ensures does { DoesStop code.now self.old lasting.old self.new result lasting.new }
+        ensures sites { lasting.new.sites ≡ lasting.old.sites }
     {
         match self.stop_at_hand() {
             None => Now::Ended(Ending::Stopped),
             Some(part) => {
                 self.cut(part.mark.heap);
                 self.restore(part);
-                outside.close_to(self.gathered);
+                lasting.close_to(self.gathered);
                 match part.way {
                     Way::Goes(block) => Now::Runs(code_at(code, block)),
                     _ => Now::Fails,

@@ -22,9 +22,9 @@ use crate::memory::Memory;
 use crate::now::Now;
 use crate::terms::simple_value;
 use dg_base::{Cell, Ending, Simple};
+use dg_lasting::Lasting;
 use dg_lists::sum;
 use dg_mid::{Gathered, Op};
-use dg_outside::Outside;
 use dg_unify::{Full, Ref, unify};
 
 impl Memory {
@@ -59,20 +59,20 @@ impl Memory {
     }
 
     /// The list of the newest gathering, which is dropped, is unified with the second value at hand.
-    fn take_list<'p>(&mut self, outside: &mut Outside<'_>, rest: &'p [Op]) -> Now<'p>
+    fn take_list<'p>(&mut self, lasting: &mut Lasting<'_>, rest: &'p [Op]) -> Now<'p>
         requires { (v into : Value) × RefsAt (meaning_of self.old.arena) self.old.args.items (v ∷ into ∷ []) }
-        ensures takes { (code : TheCode) → (block : ℕ) → TakesNewest code InList block self.old outside.old rest.now self.new result outside.new }
-        ensures sites { outside.new.sites ≡ outside.old.sites }
+        ensures takes { (code : TheCode) → (block : ℕ) → TakesNewest code InList block self.old lasting.old rest.now self.new result lasting.new }
+        ensures sites { lasting.new.sites ≡ lasting.old.sites }
     {
-        let Some(cells) = outside.gathered.newest() else {
+        let Some(cells) = lasting.gathered.newest() else {
             return Now::Fails;
         };
         let into = self.arg(1);
         match self.make_list(cells) {
             Err(_) => Now::Ended(Ending::HeapLimit),
             Ok(list) => {
-                let height = outside.gathered.height().0 - 1;
-                outside.close_to(height);
+                let height = lasting.gathered.height().0 - 1;
+                lasting.close_to(height);
                 self.gathered = height;
                 match self.meet(into, list) {
                     Err(_) => Now::Ended(Ending::TrailLimit),
@@ -84,17 +84,17 @@ impl Memory {
     }
 
     /// The sum of the newest gathering, which is dropped, is unified with the second value at hand.
-    fn take_sum<'p>(&mut self, outside: &mut Outside<'_>, rest: &'p [Op]) -> Now<'p>
+    fn take_sum<'p>(&mut self, lasting: &mut Lasting<'_>, rest: &'p [Op]) -> Now<'p>
         requires { (v into : Value) × RefsAt (meaning_of self.old.arena) self.old.args.items (v ∷ into ∷ []) }
-        ensures takes { (code : TheCode) → (block : ℕ) → TakesNewest code Sum block self.old outside.old rest.now self.new result outside.new }
-        ensures sites { outside.new.sites ≡ outside.old.sites }
+        ensures takes { (code : TheCode) → (block : ℕ) → TakesNewest code Sum block self.old lasting.old rest.now self.new result lasting.new }
+        ensures sites { lasting.new.sites ≡ lasting.old.sites }
     {
-        let Some(cells) = outside.gathered.newest() else {
+        let Some(cells) = lasting.gathered.newest() else {
             return Now::Fails;
         };
         let total = sum(cells);
-        let height = outside.gathered.height().0 - 1;
-        outside.close_to(height);
+        let height = lasting.gathered.height().0 - 1;
+        lasting.close_to(height);
         self.gathered = height;
         match total {
             None => Now::Fails,
@@ -111,17 +111,17 @@ impl Memory {
     }
 
     /// The newest gathering is taken out at these instructions, for the second value at hand.
-    pub fn take_out<'p>(&mut self, outside: &mut Outside<'_>, ops: &'p [Op]) -> Now<'p>
+    pub fn take_out<'p>(&mut self, lasting: &mut Lasting<'_>, ops: &'p [Op]) -> Now<'p>
         requires { (v into : Value) × RefsAt (meaning_of self.old.arena) self.old.args.items (v ∷ into ∷ []) }
-        ensures takes { (code : TheCode) → (block : ℕ) → TakesOut code block self.old outside.old ops.now self.new result outside.new }
-        ensures sites { outside.new.sites ≡ outside.old.sites }
+        ensures takes { (code : TheCode) → (block : ℕ) → TakesOut code block self.old lasting.old ops.now self.new result lasting.new }
+        ensures sites { lasting.new.sites ≡ lasting.old.sites }
     {
         match ops {
             [] => Now::Fails,
             [op, rest @ ..] => match op {
                 Op::TakeOut(whole, _) => match whole {
-                    Gathered::Sum => self.take_sum(outside, rest),
-                    Gathered::List => self.take_list(outside, rest),
+                    Gathered::Sum => self.take_sum(lasting, rest),
+                    Gathered::List => self.take_list(lasting, rest),
                 },
                 _ => Now::Fails,
             },

@@ -15,7 +15,7 @@ use Rattle.dg_base.specs.declared.program.PlaceKind.{PlaceKind}
 use Rattle.dg_base.specs.declared.program.PlaceKind.TheVariants.{Flag, Global}
 use Rattle.dg_base.specs.declared.program.Goal.TheVariants.{Forever as Forever-Goal}
 use Rattle.dg_base.specs.Goals.{terms_held, option_terms}
-use Rattle.dg_meaning.specs.Values.{Num, Word, Object, Closure, Value, Var, Node, Values, NoMore, More, leaf, parts_of, value_of_var, captured_by, value_of_leaf, value_of, value_of_row}
+use Rattle.dg_meaning.specs.Values.{Num, Word, Object, Closure, Value, Var, Node, Values, NoMore, More, leaf, node_parts, value_of_var, captured_values, value_of_leaf, value_of, value_of_row}
 use Rattle.dg_meaning.specs.Substitutions.{Substitution, walk, resolved}
 use Rattle.dg_meaning.specs.inside.Substitutions.{IsSubstitution, Extends}
 use Rattle.dg_meaning.specs.Unify.{same_spelling, Equations, Turn, Goes, Binds, Clashes, turn, cost, Unified, charged, after_turn, turns, top, tops, top_of_pairs, top_of_equations, enough, solve}
@@ -26,7 +26,7 @@ use Rattle.dg_meaning.specs.Facts.{Alteration, no_program, value_at, kinds_of}
 use Rattle.dg_meaning.specs.Changes.{found, change_of}
 use Rattle.dg_meaning.specs.World.{Game, World, worked, gathered_at}
 use Rattle.dg_meaning.specs.Cells.{cells, writing}
-use Rattle.dg_meaning.specs.Path.{Step, Do, Answers, Cut, Refuse, Back, Keep, Leave, Registers, Path, Whole, AsList, AsSum, Branch, Enter, Clash, TakeOut, Finds, Kind, Move, GoesOn, Outcome, Moves, Chooses, Act, Goes, Tests, Unifies, Ends, Fails, Stops, Effect, Acts, Offers}
+use Rattle.dg_meaning.specs.Path.{Step, Do, Answers, Cut, Refuse, Back, Keep, Leave, Registers, Path, Whole, AsList, AsSum, Branch, Enter, Clash, TakeOut, Finds, ChoiceKind, Move, GoesOn, Outcome, Moves, Chooses, Act, Goes, Tests, Unifies, Ends, Fails, Stops, Effect, Acts, Offers}
 use Rattle.dg_meaning.specs.Moves.{path_of, begun, goals_at, more_heap, inside, enter, enter_if, choice_cells, is_excluded, call_cells, unless_excluded, list_branches, first_alone, rule_steps, new_vars, vars_of, entered, match, matched, rule_branch, rule_branches, rules_of, choice, goes_on_if, stop, move_of, effect, outcome_of, behind_terms, move, made_since, entered_with, head_equations, closure_vars, closure_head, closure_steps, closure_branch, numbers, object_branches, gives, gives_number, behind_copy, copy_of, reads, reads_if_set, finds, finds_if_set, takes_out, path_at, beginning, begins, spaces, ask_object, ask_objects, ask_place, changes, change_place, ask_body, ask_closure, looked_up, selects, throws, splits, joins, takes_line, gathers}
 use Rattle.dg_meaning.specs.Transcript.{start_path}
 use Rattle.dg_meaning.specs.inside.Bindings.{top_of_values, top_of_steps, IsBound, BindsOn, IsBoundBehind, BranchBinds, BranchesBind, MoveBinds, OutcomeBinds, BindsAlong}
@@ -75,11 +75,11 @@ var_below n [] x h = omega arith
 var_below n (v ∷ env) zero h = omega arith
 var_below n (v ∷ env) (suc x) h = var_below n env x (omega arith)
 
-vars_below : (n : ℕ) (env : List Value) (xs : List ℕ) → top_of_values env ≤ n → tops (parts_of (map (value_of_var env) xs)) ≤ n
+vars_below : (n : ℕ) (env : List Value) (xs : List ℕ) → top_of_values env ≤ n → tops (node_parts (map (value_of_var env) xs)) ≤ n
 vars_below n env [] h = omega arith
 vars_below n env (x ∷ xs) h = omega (arith, var_below n env x h, vars_below n env xs h)
 
-captured_below : (n : ℕ) (env : List Value) (o : Option ClosureBody) → top_of_values env ≤ n → tops (captured_by env o) ≤ n
+captured_below : (n : ℕ) (env : List Value) (o : Option ClosureBody) → top_of_values env ≤ n → tops (captured_values env o) ≤ n
 captured_below n env None h = omega arith
 captured_below n env (Some closure) h = vars_below n env closure.captured h
 
@@ -259,7 +259,7 @@ move_if : (r s : Registers) (b : Bool) (steps : List Step) (w : World) → IsBou
 move_if r s true steps w h = h
 move_if r s false steps w h = tt
 
-choice_binds : (r : Registers) (k : Kind) (t : ℕ) (bs : List Branch) (w : World) → BranchesBind r bs → OutcomeBinds r (choice k t bs w)
+choice_binds : (r : Registers) (k : ChoiceKind) (t : ℕ) (bs : List Branch) (w : World) → BranchesBind r bs → OutcomeBinds r (choice k t bs w)
 choice_binds r k t [] w h = tt
 choice_binds r k t (b ∷ bs) w h = h
 

@@ -4,7 +4,7 @@ use Rattle.std.specs.Prelude.{min, eqb, nat_lt, if◌then◌else◌}
 use Rattle.std.proofs.lemmas.Bool.{cond_both, cond-true, cond-false, lt-ltb, le-ltb, cases_lt, cases_eq, eq-eqb, ne_eqb}
 use Rattle.dg_meaning.specs.Values.{Value}
 use Rattle.dg_meaning.specs.World.{World, Gathering, gathered_with, gathered_without}
-use Rattle.dg_meaning.specs.Path.{Result, Failing, CutFail, StopTo, End, Answer, Branch, Kind, Plain, Rules, Shield, Gathers}
+use Rattle.dg_meaning.specs.Path.{Result, Failing, CutFail, StopTo, End, Answer, Branch, ChoiceKind, Plain, Rules, Shield, Gathers}
 use Rattle.dg_meaning.specs.Moves.{exhausted}
 use Rattle.dg_meaning.specs.Search.{Search, answer, later, retried, leave, after_branch, begin, branches_cut, choose}
 use Rattle.dg_meaning.specs.Transcript.{run_of}
@@ -34,7 +34,7 @@ cut_below t u [] h = tt
 cut_below t u (c ∷ cs) h = cond_both (nat_lt c.tag u) (c ∷ cs) (cut_to u cs) (AllBelow t) (λ e. h) (λ e. cut_below t u cs h.1)
 
 -- what is kept of a choice around
-abbrev pub live_of : Kind → ℕ → List Branch → List Around → Live
+abbrev pub live_of : ChoiceKind → ℕ → List Branch → List Around → Live
 live_of k t bs ctx = record { kind = later k; tag = t; others = bs; height = length (gathers ctx); ways_on = ways ctx }
 
 live_below : (t : ℕ) (ctx : List Around) → Older t ctx → AllBelow t (live ctx)
@@ -85,11 +85,11 @@ pub length_tags : (gs : List Gathering) → length (tags_of gs) ≡ length gs
 length_tags [] = refl
 length_tags (g ∷ gs) = ap suc (length_tags gs)
 
-pub record Left (k : Kind) (t : ℕ) (w : World) (ctx : List Around) : Type 0 where
+pub record Left (k : ChoiceKind) (t : ℕ) (w : World) (ctx : List Around) : Type 0 where
   pub drops : Drops w (leave k t w)
   pub opens : Opens (leave k t w) ctx
 
-pub leaving : (k : Kind) (t : ℕ) (others : List Branch) (w : World) (ctx : List Around) → Opens w (InBranch k t others ∷ ctx) → Left k t w ctx
+pub leaving : (k : ChoiceKind) (t : ℕ) (others : List Branch) (w : World) (ctx : List Around) → Opens w (InBranch k t others ∷ ctx) → Left k t w ctx
 leaving Plain t others w ctx o = record { drops = drops_nothing w; opens = o }
 leaving (Rules q) t others w ctx o = record { drops = drops_nothing w; opens = o }
 leaving Shield t others w ctx o = record { drops = drops_nothing w; opens = o }
@@ -153,7 +153,7 @@ cut_fails s (InBranch k u others ∷ ctx) n w t sound o h =
 -- ## Failing
 
 -- the branches behind the first do not see a stop
-later_branch : (k : Kind) (t n : ℕ) (w : World) (r : Result) (next : ℕ → World → Answer) (stopped stopped' : Option ℕ → ℕ → World → Answer) → after_branch (later k) t n w r next stopped ≡ after_branch (later k) t n w r next stopped'
+later_branch : (k : ChoiceKind) (t n : ℕ) (w : World) (r : Result) (next : ℕ → World → Answer) (stopped stopped' : Option ℕ → ℕ → World → Answer) → after_branch (later k) t n w r next stopped ≡ after_branch (later k) t n w r next stopped'
 later_branch k t n w Failing next stopped stopped' = refl
 later_branch k t n w (CutFail u) next stopped stopped' = refl
 later_branch Plain t n w (StopTo x c) next stopped stopped' = refl
@@ -162,14 +162,14 @@ later_branch Shield t n w (StopTo x c) next stopped stopped' = refl
 later_branch Gathers t n w (StopTo x c) next stopped stopped' = refl
 later_branch k t n w (End e) next stopped stopped' = refl
 
-pub later_twice : (k : Kind) → later (later k) ≡ later k
+pub later_twice : (k : ChoiceKind) → later (later k) ≡ later k
 later_twice Plain = refl
 later_twice (Rules q) = refl
 later_twice Shield = refl
 later_twice Gathers = refl
 
 -- another branch of a choice begins
-pub others_begin : (s : Search) (ctx : List Around) (k : Kind) (t : ℕ) (b : Branch) (bs : List Branch) (n : ℕ) (w : World) → (let a = choose s (later k) t (b ∷ bs) n w in unwind s ctx a.left a.world a.result) ≡ (let a = begin s b n (retried (later k) w) in unwind s (InBranch (later k) t bs ∷ ctx) a.left a.world a.result)
+pub others_begin : (s : Search) (ctx : List Around) (k : ChoiceKind) (t : ℕ) (b : Branch) (bs : List Branch) (n : ℕ) (w : World) → (let a = choose s (later k) t (b ∷ bs) n w in unwind s ctx a.left a.world a.result) ≡ (let a = begin s b n (retried (later k) w) in unwind s (InBranch (later k) t bs ∷ ctx) a.left a.world a.result)
 others_begin s ctx k t b bs n w =
     let a = begin s b n (retried (later k) w) in
     ap (λ (x : Answer). unwind s ctx x.left x.world x.result) (later_branch k t a.left a.world a.result (choose s (later k) t bs) (λ c. choose s (later k) t bs) (λ c. choose s (later k) t (branches_cut t c bs)))
@@ -178,7 +178,7 @@ others_begin s ctx k t b bs n w =
 -- a failure goes to the newest choice that is kept, or is the run's
 pub data Fails (s : Search) (ctx : List Around) (n : ℕ) (w : World) : List Live → Type 0 where
   run_fails : (v : World) → Drops w v → unwind s ctx n w Failing ≡ run_of (answer n v Failing) → Fails s ctx n w []
-  resumes : (k : Kind) → (t : ℕ) → (others : List Branch) → (at : List Around) → (v : World) → Drops w v →
+  resumes : (k : ChoiceKind) → (t : ℕ) → (others : List Branch) → (at : List Around) → (v : World) → Drops w v →
       unwind s ctx n w Failing ≡ (let a = choose s (later k) t others n v in unwind s at a.left a.world a.result) → Sound (InBranch k t others ∷ at) → Opens v (InBranch k t others ∷ at) → Fails s ctx n w (live_of k t others at ∷ live at)
 
 fails_in : (s : Search) (ctx at : List Around) (n : ℕ) (w v : World) → Drops w v → unwind s ctx n w Failing ≡ unwind s at n v Failing → (cs : List Live) → Fails s at n v cs → Fails s ctx n w cs
@@ -186,13 +186,13 @@ fails_in s ctx at n w v e same cs (run_fails u f g) = run_fails u (drops_on w v 
 fails_in s ctx at n w v e same cs (resumes k t others a u f g sound o) = resumes k t others a u (drops_on w v u e f) (same ∙ g) sound o
 
 -- no first branch that gathers is without a branch behind it
-pub opens_outside : (k : Kind) (t : ℕ) (ctx : List Around) (w : World) → TakesOut k t [] → Opens w (InBranch k t [] ∷ ctx) → Opens w ctx
+pub opens_outside : (k : ChoiceKind) (t : ℕ) (ctx : List Around) (w : World) → TakesOut k t [] → Opens w (InBranch k t [] ∷ ctx) → Opens w ctx
 opens_outside Plain t ctx w h o = o
 opens_outside (Rules q) t ctx w h o = o
 opens_outside Shield t ctx w h o = o
 opens_outside Gathers t ctx w h o = absurd h
 
-pub opens_exhausted : (k : Kind) (ctx : List Around) (w : World) → Opens w ctx → Opens (exhausted k w) ctx
+pub opens_exhausted : (k : ChoiceKind) (ctx : List Around) (w : World) → Opens w ctx → Opens (exhausted k w) ctx
 opens_exhausted Plain ctx w o = o
 opens_exhausted (Rules q) ctx w o = o
 opens_exhausted Shield ctx w o = o
@@ -250,7 +250,7 @@ held_min ctx t c u h held =
       | inr ge ↦ let m : u ≡ min c u = omega arith in inr (subst (Holds ctx) m h)
     ]
 
-pub held_outside : (k : Kind) (u : ℕ) (others : List Branch) (ctx : List Around) (t : ℕ) (c : Option ℕ) → t < u → Held (InBranch k u others ∷ ctx) t c → Held ctx t c
+pub held_outside : (k : ChoiceKind) (u : ℕ) (others : List Branch) (ctx : List Around) (t : ℕ) (c : Option ℕ) → t < u → Held (InBranch k u others ∷ ctx) t c → Held ctx t c
 held_outside k u others ctx t None lt h = tt
 held_outside k u others ctx t (Some c) lt (inl h) = inl h
 held_outside k u others ctx t (Some c) lt (inr (inl e)) = inl (omega arith)
@@ -303,7 +303,7 @@ way_passes t u others ctx lt =
     cond-false (eqb u t) (Some (x, ways ctx)) (way_to t (ways ctx)) (ne_eqb u t (λ e. omega arith))
 
 -- the stop passes a branch that isn't the part's
-stops_past : (s : Search) (k : Kind) (u : ℕ) (others : List Branch) (ctx : List Around) (n : ℕ) (w v : World) (t : ℕ) (c : Option ℕ) → Older u ctx → Shielded ctx t → Drops w v → unwind s (InBranch k u others ∷ ctx) n w (StopTo t c) ≡ unwind s ctx n v (StopTo t c) → way_to t (ways (InBranch k u others ∷ ctx)) ≡ way_to t (ways ctx) → Stops s ctx n v t c → Stops s (InBranch k u others ∷ ctx) n w t c
+stops_past : (s : Search) (k : ChoiceKind) (u : ℕ) (others : List Branch) (ctx : List Around) (n : ℕ) (w v : World) (t : ℕ) (c : Option ℕ) → Older u ctx → Shielded ctx t → Drops w v → unwind s (InBranch k u others ∷ ctx) n w (StopTo t c) ≡ unwind s ctx n v (StopTo t c) → way_to t (ways (InBranch k u others ∷ ctx)) ≡ way_to t (ways ctx) → Stops s ctx n v t c → Stops s (InBranch k u others ∷ ctx) n w t c
 stops_past s k u others ctx n w v t c older h drops same way i =
     let lt = shield_older t u ctx older h in
     record {

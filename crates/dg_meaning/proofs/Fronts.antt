@@ -21,7 +21,7 @@ use Rattle.dg_meaning.specs.Facts.{value_at, Alteration, kinds_of}
 use Rattle.dg_meaning.specs.Changes.{found}
 use Rattle.dg_meaning.specs.World.{Game, World, worked}
 use Rattle.dg_meaning.specs.Cells.{writing}
-use Rattle.dg_meaning.specs.Path.{Step, Do, Answers, Cut, Refuse, Back, Keep, Leave, Registers, Whole, AsList, AsSum, Branch, Enter, Clash, TakeOut, Finds, Kind, Plain, Rules, Shield, Gathers, Move, GoesOn, FailsAt, EndsAt, StopsAt, Outcome, Moves, Chooses, Act, Goes, Tests, Unifies, Ends, Fails, Stops, Effect, Acts, Offers}
+use Rattle.dg_meaning.specs.Path.{Step, Do, Answers, Cut, Refuse, Back, Keep, Leave, Registers, Whole, AsList, AsSum, Branch, Enter, Clash, TakeOut, Finds, ChoiceKind, Plain, Rules, Shield, Gathers, Move, GoesOn, FailsAt, EndsAt, StopsAt, Outcome, Moves, Chooses, Act, Goes, Tests, Unifies, Ends, Fails, Stops, Effect, Acts, Offers}
 use Rattle.dg_meaning.specs.Moves.{path_of, exhausted, begun, bound_by, made_since, goals_at, inside, enter, enter_if, choice_cells, is_excluded, call_cells, unless_excluded, entering, unifying, list_branches, first_alone, vars_of, match, matched, entered, rule_steps, rule_branch, rule_branches, rules_of, goes_on_if, stop, move_of, effect, outcome_of, behind_terms, move, closure_vars, closure_head, closure_steps, closure_branch, entered_with, entering_with, head_equations, numbers, object_branches, reads_if_set, takes_out, finds_if_set, beginning, begins, spaces, ask_object, ask_objects, ask_place, changes, change_place, ask_body, ask_closure, looked_up, selects, selected, gives_number, throws, splits, joins, takes_line}
 use Rattle.dg_meaning.specs.Search.{cut_first}
 
@@ -42,7 +42,7 @@ IsStill (Goes next w) = ⊥
 IsStill a = Unit {0}
 
 -- a choice that opens no gathering
-abbrev pub IsNoGathering : Kind → Type 0
+abbrev pub IsNoGathering : ChoiceKind → Type 0
 IsNoGathering Gathers = ⊥
 IsNoGathering k = Unit {0}
 
@@ -72,13 +72,13 @@ first_gathered env t gs u x r = enter 10 0 r (goals_at env t gs ++ Keep u x env 
 
 pub data EffectAlike (R : List Step → List Step → Type 0) (u : ℕ) : Effect → Effect → Type 0 where
   acts : (a b : Act) → ActAlike R a b → EffectAlike R u (Acts a) (Acts b)
-  offers : (k : Kind) (bs cs : List Branch) (w : World) → IsNoGathering k → BranchesAlike R bs cs → EffectAlike R u (Offers k bs w) (Offers k cs w)
+  offers : (k : ChoiceKind) (bs cs : List Branch) (w : World) → IsNoGathering k → BranchesAlike R bs cs → EffectAlike R u (Offers k bs w) (Offers k cs w)
   opens : (env : List Value) (t : ℕ) (gs : List Goal) (x : Term) (r : Registers) (bs cs : List Branch) (w : World) → BranchesAlike R bs cs →
       EffectAlike R u (Offers Gathers (first_gathered env t gs u x r ∷ bs) w) (Offers Gathers (first_gathered env t gs u x r ∷ cs) w)
 
 pub data OutcomeAlike (R : List Step → List Step → Type 0) : Outcome → Outcome → Type 0 where
   moves : (a b : Move) → MoveAlike R a b → OutcomeAlike R (Moves a) (Moves b)
-  chooses : (k : Kind) (t : ℕ) (b c : Branch) (bs cs : List Branch) (w : World) → IsNoGathering k → BranchAlike R b c → BranchesAlike R bs cs →
+  chooses : (k : ChoiceKind) (t : ℕ) (b c : Branch) (bs cs : List Branch) (w : World) → IsNoGathering k → BranchAlike R b c → BranchesAlike R bs cs →
       OutcomeAlike R (Chooses k t b bs w) (Chooses k t c cs w)
   gathering : (env : List Value) (t : ℕ) (gs : List Goal) (u : ℕ) (x : Term) (r : Registers) (bs cs : List Branch) (w : World) → BranchesAlike R bs cs →
       OutcomeAlike R (Chooses Gathers u (first_gathered env t gs u x r) bs w) (Chooses Gathers u (first_gathered env t gs u x r) cs w)

@@ -6,7 +6,7 @@ use Rattle.dg_base.specs.declared.program.Goal.{Goal, Goal-F, out-Goal}
 use Rattle.dg_meaning.specs.Values.{Value, value_of}
 use Rattle.dg_meaning.specs.Substitutions.{resolved}
 use Rattle.dg_meaning.specs.World.{Game, World, Answered, noted, worked, kept}
-use Rattle.dg_meaning.specs.Path.{Step, Do, Answers, Cut, Keep, Leave, Registers, Failing, Answer, Branch, Kind, Plain, Rules, Shield, Gathers, Move, GoesOn, Outcome, Moves, Chooses}
+use Rattle.dg_meaning.specs.Path.{Step, Do, Answers, Cut, Keep, Leave, Registers, Failing, Answer, Branch, ChoiceKind, Plain, Rules, Shield, Gathers, Move, GoesOn, Outcome, Moves, Chooses}
 use Rattle.dg_meaning.specs.Moves.{path_of, path_at, goals_at, begins, keeping, move}
 use Rattle.dg_meaning.specs.Search.{search, answer, cut, cut_first, later, retried, after_branch, choose, choose_first, branch_cut, branches_cut, after_move, after_goal, go, begin}
 use Rattle.dg_meaning.specs.inside.Context.{Around, InBranch, gathers, KeepIn, BranchesKeepIn}
@@ -61,7 +61,7 @@ move_keeps tags _ _ (MoveAlike.ends e w) = tt
 move_keeps tags _ _ (MoveAlike.stops t w) = tt
 
 -- but for a gathering, no more is open in a choice
-in_choice : (k : Kind) (t : ℕ) (bs : List Branch) (ctx : List Around) (l : List Step) → IsNoGathering k → KeepIn (gathers ctx) l → KeepIn (gathers (InBranch k t bs ∷ ctx)) l
+in_choice : (k : ChoiceKind) (t : ℕ) (bs : List Branch) (ctx : List Around) (l : List Step) → IsNoGathering k → KeepIn (gathers ctx) l → KeepIn (gathers (InBranch k t bs ∷ ctx)) l
 in_choice Plain t bs ctx l e h = h
 in_choice (Rules q) t bs ctx l e h = h
 in_choice Shield t bs ctx l e h = h
@@ -106,7 +106,7 @@ module _ (g : Game) (k : ℕ) (front : Front (Same g k)) where
   begin_same : (n : ℕ) → n ≤ k → (b c : Branch) (w : World) → BranchAlike (Same g k) b c → begin (search g) b n w ≡ begin (search g) c n w
   begin_same n le b c w h = move_same n le _ _ (begins_alike (Same g k) front b c w h)
 
-  choose_same : (kind : Kind) (t : ℕ) (bs cs : List Branch) → BranchesAlike (Same g k) bs cs → (n : ℕ) (w : World) → n ≤ k → choose (search g) kind t bs n w ≡ choose (search g) kind t cs n w
+  choose_same : (kind : ChoiceKind) (t : ℕ) (bs cs : List Branch) → BranchesAlike (Same g k) bs cs → (n : ℕ) (w : World) → n ≤ k → choose (search g) kind t bs n w ≡ choose (search g) kind t cs n w
   choose_same kind t _ _ BranchesAlike.none n w le = refl
   choose_same kind t _ _ (BranchesAlike.more b c bs cs h others) n w le =
       let s = search g in
@@ -126,7 +126,7 @@ module _ (g : Game) (k : ℕ) (front : Front (Same g k)) where
   cut_branches t o _ _ BranchesAlike.none = BranchesAlike.none
   cut_branches t o _ _ (BranchesAlike.more b c bs cs h others) = BranchesAlike.more _ _ _ _ (cut_branch t o b c h) (cut_branches t o bs cs others)
 
-  first_same : (kind : Kind) (t : ℕ) (b c : Branch) (bs cs : List Branch) (n : ℕ) (w : World) → n ≤ k → begin (search g) b n w ≡ begin (search g) c n w → BranchesAlike (Same g k) bs cs → choose_first (search g) kind t b bs n w ≡ choose_first (search g) kind t c cs n w
+  first_same : (kind : ChoiceKind) (t : ℕ) (b c : Branch) (bs cs : List Branch) (n : ℕ) (w : World) → n ≤ k → begin (search g) b n w ≡ begin (search g) c n w → BranchesAlike (Same g k) bs cs → choose_first (search g) kind t b bs n w ≡ choose_first (search g) kind t c cs n w
   first_same kind t b c bs cs n w le e others =
       let s = search g in
       let i = later kind in

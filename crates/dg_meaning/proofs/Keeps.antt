@@ -11,7 +11,7 @@ use Rattle.dg_base.specs.Goals.{terms_held}
 use Rattle.dg_meaning.specs.Values.{Value, value_of}
 use Rattle.dg_meaning.specs.Substitutions.{resolved}
 use Rattle.dg_meaning.specs.World.{Game, World, Answered, noted, worked, kept}
-use Rattle.dg_meaning.specs.Path.{Step, Do, Answers, Cut, Refuse, Back, Keep, Leave, Registers, Path, Result, Failing, CutFail, StopTo, End, Whole, Branch, Enter, Clash, TakeOut, Finds, Kind, Plain, Rules, Shield, Gathers, Move, GoesOn, FailsAt, EndsAt, StopsAt, Outcome, Moves, Chooses, Act, Goes, Tests, Unifies, Ends, Fails, Stops, Effect, Acts, Offers}
+use Rattle.dg_meaning.specs.Path.{Step, Do, Answers, Cut, Refuse, Back, Keep, Leave, Registers, Path, Result, Failing, CutFail, StopTo, End, Whole, Branch, Enter, Clash, TakeOut, Finds, ChoiceKind, Plain, Rules, Shield, Gathers, Move, GoesOn, FailsAt, EndsAt, StopsAt, Outcome, Moves, Chooses, Act, Goes, Tests, Unifies, Ends, Fails, Stops, Effect, Acts, Offers}
 use Rattle.dg_meaning.specs.Cells.{writing}
 use Rattle.dg_meaning.specs.Moves.{path_of, exhausted, begun, goals_at, path_at, beginning, begins, choice, goes_on_if, move_of, keeping, stop, effect, outcome_of, behind_terms, move}
 use Rattle.dg_meaning.specs.Search.{Search, search, answer, later, retried, leave, begin, cut, cut_first, cut_result, after_branch, choose, branches_cut, after_move, after_goal}
@@ -179,7 +179,7 @@ kept_open (Clash r work ∷ bs) ctx w o h = open_count w ctx o
 kept_open (Finds place o' args path ∷ bs) ctx w o h = open_count w ctx o
 kept_open (TakeOut u whole into path ∷ bs) ctx w o h = absurd h.0
 
-open_is : (k : Kind) (t : ℕ) (others : List Branch) (ctx : List Around) (w : World) → Opens w (InBranch k t others ∷ ctx) → TakesOut k t others → length w.gathered ≡ open_at others (length (gathers ctx))
+open_is : (k : ChoiceKind) (t : ℕ) (others : List Branch) (ctx : List Around) (w : World) → Opens w (InBranch k t others ∷ ctx) → TakesOut k t others → length w.gathered ≡ open_at others (length (gathers ctx))
 open_is Gathers t [] ctx w o h = absurd h
 open_is Gathers t (Enter path work ∷ bs) ctx w o h = absurd h
 open_is Gathers t (Clash r work ∷ bs) ctx w o h = absurd h
@@ -253,7 +253,7 @@ began : (g : Game) (cs : List Live) (ws : List Way) (ctx : List Around) (b : Bra
 began g cs ws ctx b n w run k is sound o h i l e = begun_in g cs ws ctx b n w run (keeps_before ctx b w k o) is sound h i l e
 
 -- what is kept of a choice around
-kept_as : (ctx : List Around) (t height : ℕ) (ways_on : List Way) (cs : List Live) (k : Kind) (bs : List Branch) → length (gathers ctx) ≡ height → ways ctx ≡ ways_on → live ctx ≡ cs →
+kept_as : (ctx : List Around) (t height : ℕ) (ways_on : List Way) (cs : List Live) (k : ChoiceKind) (bs : List Branch) → length (gathers ctx) ≡ height → ways ctx ≡ ways_on → live ctx ≡ cs →
     pushed (record { kind = k; tag = t; others = bs; height = length (gathers ctx); ways_on = ways ctx }) (live ctx) ≡ pushed (record { kind = k; tag = t; others = bs; height = height; ways_on = ways_on }) cs
 kept_as ctx t height ways_on cs k bs e f h =
     ap (λ i. pushed (record { kind = k; tag = t; others = bs; height = i; ways_on = ways ctx }) (live ctx)) e
@@ -261,7 +261,7 @@ kept_as ctx t height ways_on cs k bs e f h =
     ∙ ap (pushed (record { kind = k; tag = t; others = bs; height = height; ways_on = ways_on })) h
 
 -- a later branch keeps gatherings, in a choice whose first branch doesn't gather
-next_plain : (g : Game) (kind : Kind) (t height : ℕ) (ways_on : List Way) (ctx : List Around) (cs : List Live) (b : Branch) (bs : List Branch) (n : ℕ) (w : World) (run : Run) →
+next_plain : (g : Game) (kind : ChoiceKind) (t height : ℕ) (ways_on : List Way) (ctx : List Around) (cs : List Live) (b : Branch) (bs : List Branch) (n : ℕ) (w : World) (run : Run) →
     run ≡ unwound (search g) ctx (choose (search g) (later kind) t (b ∷ bs) n w) → Older t ctx → Sound ctx → BranchesIn (InBranch Plain t [] ∷ ctx) (b ∷ bs) → KeepsGathering b → TakesOut (later kind) t bs → BranchesKeepIn (gathers ctx) (b ∷ bs) → gathers (InBranch (later kind) t bs ∷ ctx) ≡ gathers ctx → Opens (retried (later kind) w) (InBranch (later kind) t bs ∷ ctx) → ways (InBranch (later kind) t bs ∷ ctx) ≡ ways ctx → length (gathers ctx) ≡ height → live ctx ≡ cs → ways ctx ≡ ways_on →
     Began g (pushed (record { kind = later kind; tag = t; others = bs; height = height; ways_on = ways_on }) cs) ways_on b n (retried (later kind) w) run
 next_plain g kind t height ways_on ctx cs b bs n w run is older sound inner keeps out kept same_open o same e choices ways_are =
@@ -292,7 +292,7 @@ next_takes_out g t height ways_on ctx cs (TakeOut u whole into path) [] n w run 
     choices
     ways_are
 
-next : (g : Game) (kind : Kind) (t height : ℕ) (ways_on : List Way) (ctx : List Around) (cs : List Live) (b : Branch) (bs : List Branch) (n : ℕ) (w : World) (run : Run) →
+next : (g : Game) (kind : ChoiceKind) (t height : ℕ) (ways_on : List Way) (ctx : List Around) (cs : List Live) (b : Branch) (bs : List Branch) (n : ℕ) (w : World) (run : Run) →
     run ≡ unwound (search g) ctx (choose (search g) (later kind) t (b ∷ bs) n w) → Sound (InBranch kind t (b ∷ bs) ∷ ctx) → Opens w (InBranch kind t (b ∷ bs) ∷ ctx) → length (gathers ctx) ≡ height → live ctx ≡ cs → ways ctx ≡ ways_on →
     Began g (pushed (record { kind = later kind; tag = t; others = bs; height = height; ways_on = ways_on }) cs) ways_on b n (retried (later kind) w) run
 next g Plain t height ways_on ctx cs b bs n w run is sound o e choices ways_are = next_plain g Plain t height ways_on ctx cs b bs n w run is sound.0 sound.1 sound.2 sound.3.0 sound.3.1 sound.4 refl o refl e choices ways_are
@@ -325,7 +325,7 @@ pub tries : (g : Game) (c : Live) (cs : List Live) (n : ℕ) (w : World) (run : 
 tries g c cs n w run s = tries_from g c cs n w run s c.others refl
 
 -- the branch that takes a gathering out is one of the newest
-out_newest : (k : Kind) (t u : ℕ) (whole : Whole) (into : Value) (path : Path) (bs : List Branch) (ctx : List Around) (w : World) → TakesOut k t (TakeOut u whole into path ∷ bs) → Opens w (InBranch k t (TakeOut u whole into path ∷ bs) ∷ ctx) → IsNewest u (tags_of w.gathered)
+out_newest : (k : ChoiceKind) (t u : ℕ) (whole : Whole) (into : Value) (path : Path) (bs : List Branch) (ctx : List Around) (w : World) → TakesOut k t (TakeOut u whole into path ∷ bs) → Opens w (InBranch k t (TakeOut u whole into path ∷ bs) ∷ ctx) → IsNewest u (tags_of w.gathered)
 out_newest Gathers t u whole into path [] ctx w out o = subst (IsNewest u) (sym o) out
 out_newest Gathers t u whole into path (b ∷ bs) ctx w out o = absurd out
 out_newest Plain t u whole into path bs ctx w out o = absurd out.0
@@ -344,7 +344,7 @@ OutcomeOpens ctx (Moves m) = Opens (world_at m) ctx
 OutcomeOpens ctx (Chooses k t b bs w) = Opens w (InBranch k t bs ∷ ctx)
 
 -- a choice that gathers has opened its gathering
-abbrev OffersIn : List Around → Kind → ℕ → World → Type 0
+abbrev OffersIn : List Around → ChoiceKind → ℕ → World → Type 0
 OffersIn ctx Gathers t w = tags_of w.gathered ≡ t ∷ gathers ctx
 OffersIn ctx k t w = Opens w ctx
 
@@ -353,7 +353,7 @@ EffectOpens ctx t (Acts a) = Opens (world_in a) ctx
 EffectOpens ctx t (Offers Gathers [] w) = ⊥
 EffectOpens ctx t (Offers k bs w) = OffersIn ctx k t w
 
-choice_opens : (ctx : List Around) (k : Kind) (t : ℕ) (bs : List Branch) (w : World) → EffectOpens ctx t (Offers k bs w) → OutcomeOpens ctx (choice k t bs w)
+choice_opens : (ctx : List Around) (k : ChoiceKind) (t : ℕ) (bs : List Branch) (w : World) → EffectOpens ctx t (Offers k bs w) → OutcomeOpens ctx (choice k t bs w)
 choice_opens ctx Plain t [] w o = o
 choice_opens ctx (Rules q) t [] w o = o
 choice_opens ctx Shield t [] w o = o
@@ -382,13 +382,13 @@ move_opens g ctx x env t steps r w o =
     outcome_opens ctx steps s (effect g x env t steps s v) (effect_opens ctx s.next_tag v (effect g x env t steps s v) (effect_stays g x env t steps s v) o)
 
 -- how many gatherings are open outside a choice
-outside_is : (k : Kind) (t : ℕ) (bs : List Branch) (ctx : List Around) (w : World) → Opens w (InBranch k t bs ∷ ctx) → length (gathers ctx) ≡ open_outside k w
+outside_is : (k : ChoiceKind) (t : ℕ) (bs : List Branch) (ctx : List Around) (w : World) → Opens w (InBranch k t bs ∷ ctx) → length (gathers ctx) ≡ open_outside k w
 outside_is Plain t bs ctx w o = sym (open_count w ctx o)
 outside_is (Rules q) t bs ctx w o = sym (open_count w ctx o)
 outside_is Shield t bs ctx w o = sym (open_count w ctx o)
 outside_is Gathers t bs ctx w o = let n = sym (length_tags w.gathered) ∙ ap length o in omega (arith, n)
 
-ways_new : (k : Kind) (t : ℕ) (bs : List Branch) (ctx : List Around) (w : World) (ws : List Way) → Opens w (InBranch k t bs ∷ ctx) → ways ctx ≡ ws → ways (InBranch k t bs ∷ ctx) ≡ new_ways k t bs w ws
+ways_new : (k : ChoiceKind) (t : ℕ) (bs : List Branch) (ctx : List Around) (w : World) (ws : List Way) → Opens w (InBranch k t bs ∷ ctx) → ways ctx ≡ ws → ways (InBranch k t bs ∷ ctx) ≡ new_ways k t bs w ws
 ways_new Plain t bs ctx w ws o e = e
 ways_new (Rules q) t bs ctx w ws o e = e
 ways_new Gathers t bs ctx w ws o e = e

@@ -11,7 +11,7 @@ use Rattle.dg_meaning.specs.Facts.{Alteration}
 use Rattle.dg_meaning.specs.Choosing.{Choice}
 use Rattle.dg_meaning.specs.World.{World, Gathering, Meters, Event, Print, Piece, noted, worked, reached, gathering, gathered_with, kept, dropped, drew}
 use Rattle.dg_meaning.specs.Changes.{changed}
-use Rattle.dg_meaning.specs.Path.{Registers, Kind, Rules, Gathers}
+use Rattle.dg_meaning.specs.Path.{Registers, ChoiceKind, Rules, Gathers}
 use Rattle.dg_meaning.specs.Moves.{printed, all_printed, exhausted, begun, selected}
 use Rattle.dg_meaning.specs.Search.{retried, leave}
 use Rattle.dg_meaning.specs.inside.OneRun.{MetersGrow, Grows}
@@ -123,14 +123,14 @@ line_taken (suc n) (b ∷ bytes) =
 pub line_grows : (w : World) → Grows w (record w { typed = behind_first w.typed })
 line_grows w = record { events = begins_same w.events; meters = meters_same w.meters; typed = line_taken longest w.typed; dice = omega arith }
 
-pub exhausted_grows : (k : Kind) (w : World) → Grows w (exhausted k w)
+pub exhausted_grows : (k : ChoiceKind) (w : World) → Grows w (exhausted k w)
 exhausted_grows (Rules q) w = noted_grows _ w
 exhausted_grows _ w = grows_same w
 
-pub retried_grows : (k : Kind) (w : World) → Grows w (retried k w)
+pub retried_grows : (k : ChoiceKind) (w : World) → Grows w (retried k w)
 retried_grows (Rules q) w = noted_grows _ w
 retried_grows _ w = grows_same w
 
-pub leave_grows : (k : Kind) (t : ℕ) (w : World) → Grows w (leave k t w)
+pub leave_grows : (k : ChoiceKind) (t : ℕ) (w : World) → Grows w (leave k t w)
 leave_grows Gathers t w = dropped_grows t w
 leave_grows _ t w = grows_same w

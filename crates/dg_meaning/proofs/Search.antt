@@ -9,7 +9,7 @@ use Rattle.dg_meaning.specs.Substitutions.{resolved}
 use Rattle.dg_meaning.specs.Unify.{solve}
 use Rattle.dg_meaning.specs.World.{Game, World, Answered, noted, worked, kept}
 use Rattle.dg_meaning.specs.Cells.{writing}
-use Rattle.dg_meaning.specs.Path.{Step, Do, Answers, Cut, Refuse, Back, Keep, Leave, Registers, Path, Result, Failing, CutFail, StopTo, End, Answer, Branch, Kind, Plain, Rules, Shield, Gathers, Move, GoesOn, FailsAt, EndsAt, StopsAt, Outcome, Moves, Chooses, Act, Goes, Tests, Unifies, Ends, Fails, Stops, Effect, Acts, Offers}
+use Rattle.dg_meaning.specs.Path.{Step, Do, Answers, Cut, Refuse, Back, Keep, Leave, Registers, Path, Result, Failing, CutFail, StopTo, End, Answer, Branch, ChoiceKind, Plain, Rules, Shield, Gathers, Move, GoesOn, FailsAt, EndsAt, StopsAt, Outcome, Moves, Chooses, Act, Goes, Tests, Unifies, Ends, Fails, Stops, Effect, Acts, Offers}
 use Rattle.dg_meaning.specs.Moves.{exhausted, begun, bound_by, made_since, choice, goes_on_if, unifying, stop, move_of, path_at, beginning, begins, keeping, effect, outcome_of, outcome, behind_terms, move}
 use Rattle.dg_meaning.specs.Search.{Search, answer, cut_result, cut, later, retried, leave, catches, after_branch, begin, branches_cut, choose, choose_first, after_move, after_goal, take_goal, go, nowhere, search_to, search}
 use Rattle.dg_meaning.specs.Transcript.{ending_of, run_of, start_world, start_path, run}
@@ -39,7 +39,7 @@ good_on n m w v a le b g = record { left = omega (arith, g.left); grows = grows_
 abbrev IsGoodNext : (ℕ → World → Answer) → Type 0
 IsGoodNext next = (m : ℕ) (v : World) → Good m v (next m v)
 
-pub after_branch_good : (k : Kind) (t n : ℕ) (w : World) (r : Result) (next : ℕ → World → Answer) (stopped : Option ℕ → ℕ → World → Answer) → IsGoodNext next → ((c : Option ℕ) → IsGoodNext (stopped c)) → Good n w (after_branch k t n w r next stopped)
+pub after_branch_good : (k : ChoiceKind) (t n : ℕ) (w : World) (r : Result) (next : ℕ → World → Answer) (stopped : Option ℕ → ℕ → World → Answer) → IsGoodNext next → ((c : Option ℕ) → IsGoodNext (stopped c)) → Good n w (after_branch k t n w r next stopped)
 after_branch_good k t n w Failing next stopped g h = g n w
 after_branch_good k t n w (CutFail u) next stopped g h = good_at n w (leave k t w) _ (leave_grows k t w)
 after_branch_good k t n w (StopTo s c) next stopped g h =
@@ -81,7 +81,7 @@ after_move_good s g n (StopsAt t w) = good_here n w _
 pub begin_good : (s : Search) → IsGood s → (b : Branch) (n : ℕ) (w : World) → Good n w (begin s b n w)
 begin_good s g b n w = good_on n n w (world_at (begins b w)) _ (omega arith) (beginning_grows b w) (after_move_good s g n (begins b w))
 
-pub choose_good : (s : Search) → IsGood s → (k : Kind) (t : ℕ) (bs : List Branch) (n : ℕ) (w : World) → Good n w (choose s k t bs n w)
+pub choose_good : (s : Search) → IsGood s → (k : ChoiceKind) (t : ℕ) (bs : List Branch) (n : ℕ) (w : World) → Good n w (choose s k t bs n w)
 choose_good s g k t [] n w = good_at n w (exhausted k w) _ (exhausted_grows k w)
 choose_good s g k t (b ∷ bs) n w =
     let a = begin s b n (retried k w) in
@@ -89,7 +89,7 @@ choose_good s g k t (b ∷ bs) n w =
     good_on n a.left w a.world _ h.left (grows_on w (retried k w) a.world (retried_grows k w) h.grows)
     (after_branch_good k t a.left a.world a.result (choose s k t bs) (λ c. choose s k t bs) (λ m v. choose_good s g k t bs m v) (λ c m v. choose_good s g k t bs m v))
 
-choose_first_good : (s : Search) → IsGood s → (k : Kind) (t : ℕ) (b : Branch) (bs : List Branch) (n : ℕ) (w : World) → Good n w (choose_first s k t b bs n w)
+choose_first_good : (s : Search) → IsGood s → (k : ChoiceKind) (t : ℕ) (b : Branch) (bs : List Branch) (n : ℕ) (w : World) → Good n w (choose_first s k t b bs n w)
 choose_first_good s g k t b bs n w =
     let a = begin s b n w in
     let h = begin_good s g b n w in
@@ -98,7 +98,7 @@ choose_first_good s g k t b bs n w =
 
 -- ## What comes of a goal
 
-choice_grows : (k : Kind) (t : ℕ) (bs : List Branch) (w v : World) → Grows w v → Grows w (world_of (choice k t bs v))
+choice_grows : (k : ChoiceKind) (t : ℕ) (bs : List Branch) (w v : World) → Grows w v → Grows w (world_of (choice k t bs v))
 choice_grows k t [] w v h = grows_on w v _ h (exhausted_grows k v)
 choice_grows k t (b ∷ bs) w v h = h
 
@@ -157,7 +157,7 @@ search_to_good g (suc b) n path w = go_good g (search_to g b) (search_to_good g 
 
 -- ## The bound doesn't matter
 
-pub after_branch_same : (k : Kind) (t n : ℕ) (w : World) (r : Result) (next next' : ℕ → World → Answer) (stopped stopped' : Option ℕ → ℕ → World → Answer) → next n w ≡ next' n w → ((c : Option ℕ) → stopped c n w ≡ stopped' c n w) → after_branch k t n w r next stopped ≡ after_branch k t n w r next' stopped'
+pub after_branch_same : (k : ChoiceKind) (t n : ℕ) (w : World) (r : Result) (next next' : ℕ → World → Answer) (stopped stopped' : Option ℕ → ℕ → World → Answer) → next n w ≡ next' n w → ((c : Option ℕ) → stopped c n w ≡ stopped' c n w) → after_branch k t n w r next stopped ≡ after_branch k t n w r next' stopped'
 after_branch_same k t n w Failing next next' stopped stopped' e h = e
 after_branch_same k t n w (CutFail u) next next' stopped stopped' e h = refl
 after_branch_same k t n w (StopTo s c) next next' stopped stopped' e h = ap (λ a. if catches k t s then a else answer n (leave k t w) (StopTo s c)) (h c)
@@ -175,7 +175,7 @@ after_move_same s z k h n (StopsAt t w) le = refl
 begin_same : (s z : Search) (k : ℕ) → AgreeTo s z k → (b : Branch) (n : ℕ) (w : World) → n ≤ k → begin s b n w ≡ begin z b n w
 begin_same s z k h b n w le = after_move_same s z k h n (begins b w) le
 
-choose_same : (s z : Search) (k : ℕ) → IsGood s → AgreeTo s z k → (kind : Kind) (t : ℕ) (bs : List Branch) (n : ℕ) (w : World) → n ≤ k → choose s kind t bs n w ≡ choose z kind t bs n w
+choose_same : (s z : Search) (k : ℕ) → IsGood s → AgreeTo s z k → (kind : ChoiceKind) (t : ℕ) (bs : List Branch) (n : ℕ) (w : World) → n ≤ k → choose s kind t bs n w ≡ choose z kind t bs n w
 choose_same s z k g h kind t [] n w le = refl
 choose_same s z k g h kind t (b ∷ bs) n w le =
     let a = begin s b n (retried kind w) in
@@ -184,7 +184,7 @@ choose_same s z k g h kind t (b ∷ bs) n w le =
     after_branch_same kind t a.left a.world a.result (choose s kind t bs) (choose z kind t bs) (λ c. choose s kind t bs) (λ c. choose z kind t bs) rest (λ c. rest)
     ∙ ap (λ (x : Answer). after_branch kind t x.left x.world x.result (choose z kind t bs) (λ c. choose z kind t bs)) (begin_same s z k h b n (retried kind w) le)
 
-choose_first_same : (s z : Search) (k : ℕ) → IsGood s → AgreeTo s z k → (kind : Kind) (t : ℕ) (b : Branch) (bs : List Branch) (n : ℕ) (w : World) → n ≤ k → choose_first s kind t b bs n w ≡ choose_first z kind t b bs n w
+choose_first_same : (s z : Search) (k : ℕ) → IsGood s → AgreeTo s z k → (kind : ChoiceKind) (t : ℕ) (b : Branch) (bs : List Branch) (n : ℕ) (w : World) → n ≤ k → choose_first s kind t b bs n w ≡ choose_first z kind t b bs n w
 choose_first_same s z k g h kind t b bs n w le =
     let a = begin s b n w in
     let good = begin_good s g b n w in
@@ -243,7 +243,7 @@ FollowsOn d s z = (n k : ℕ) (path : Path) (w : World) → k ≡ n + d → Foll
 follows_here : (d n k : ℕ) (w : World) (r : Result) → k ≡ n + d → Follows d (answer n w r) (answer k w r)
 follows_here d n k w r e = inl (ap (λ i. answer i w r) e)
 
-after_branch_follows : (d : ℕ) (kind : Kind) (t n k : ℕ) (w : World) (r : Result) (next next' : ℕ → World → Answer) (stopped stopped' : Option ℕ → ℕ → World → Answer) → k ≡ n + d → Follows d (next n w) (next' k w) → ((c : Option ℕ) → Follows d (stopped c n w) (stopped' c k w)) → Follows d (after_branch kind t n w r next stopped) (after_branch kind t k w r next' stopped')
+after_branch_follows : (d : ℕ) (kind : ChoiceKind) (t n k : ℕ) (w : World) (r : Result) (next next' : ℕ → World → Answer) (stopped stopped' : Option ℕ → ℕ → World → Answer) → k ≡ n + d → Follows d (next n w) (next' k w) → ((c : Option ℕ) → Follows d (stopped c n w) (stopped' c k w)) → Follows d (after_branch kind t n w r next stopped) (after_branch kind t k w r next' stopped')
 after_branch_follows d kind t n k w Failing next next' stopped stopped' e h hs = h
 after_branch_follows d kind t n k w (CutFail u) next next' stopped stopped' e h hs = follows_here d n k (leave kind t w) _ e
 after_branch_follows d kind t n k w (StopTo s c) next next' stopped stopped' e h hs =
@@ -251,7 +251,7 @@ after_branch_follows d kind t n k w (StopTo s c) next next' stopped stopped' e h
 after_branch_follows d kind t n k w (End x) next next' stopped stopped' e h hs = follows_here d n k (leave kind t w) _ e
 
 -- behind the limit the longer run only adds
-after_limit : (d : ℕ) (kind : Kind) (t n : ℕ) (w : World) (r : Result) (next : ℕ → World → Answer) (stopped : Option ℕ → ℕ → World → Answer) (b : Answer) → r ≡ End StepLimit → Grows w b.world → Follows d (after_branch kind t n w r next stopped) b
+after_limit : (d : ℕ) (kind : ChoiceKind) (t n : ℕ) (w : World) (r : Result) (next : ℕ → World → Answer) (stopped : Option ℕ → ℕ → World → Answer) (b : Answer) → r ≡ End StepLimit → Grows w b.world → Follows d (after_branch kind t n w r next stopped) b
 after_limit d kind t n w Failing next stopped b e g = absurd (cc)
 after_limit d kind t n w (CutFail u) next stopped b e g = absurd (cc)
 after_limit d kind t n w (StopTo s c) next stopped b e g = absurd (cc)
@@ -269,7 +269,7 @@ after_move_follows d s z f n k (StopsAt t w) e = follows_here d n k w _ e
 begin_follows : (d : ℕ) (s z : Search) → FollowsOn d s z → (b : Branch) (n k : ℕ) (w : World) → k ≡ n + d → Follows d (begin s b n w) (begin z b k w)
 begin_follows d s z f b n k w e = after_move_follows d s z f n k (begins b w) e
 
-choose_follows : (d : ℕ) (s z : Search) → IsGood z → FollowsOn d s z → (kind : Kind) (t : ℕ) (bs : List Branch) (n k : ℕ) (w : World) → k ≡ n + d → Follows d (choose s kind t bs n w) (choose z kind t bs k w)
+choose_follows : (d : ℕ) (s z : Search) → IsGood z → FollowsOn d s z → (kind : ChoiceKind) (t : ℕ) (bs : List Branch) (n k : ℕ) (w : World) → k ≡ n + d → Follows d (choose s kind t bs n w) (choose z kind t bs k w)
 choose_follows d s z g f kind t [] n k w e = follows_here d n k (exhausted kind w) _ e
 choose_follows d s z g f kind t (b ∷ bs) n k w e =
     let a = begin s b n (retried kind w) in
@@ -281,7 +281,7 @@ choose_follows d s z g f kind t (b ∷ bs) n k w e =
           (grows_on a.world c.world _ limit.1 (after_branch_good kind t c.left c.world c.result (choose z kind t bs) (λ _. choose z kind t bs) (λ m v. choose_good z g kind t bs m v) (λ _ m v. choose_good z g kind t bs m v)).grows)
     ]
 
-choose_first_follows : (d : ℕ) (s z : Search) → IsGood z → FollowsOn d s z → (kind : Kind) (t : ℕ) (b : Branch) (bs : List Branch) (n k : ℕ) (w : World) → k ≡ n + d → Follows d (choose_first s kind t b bs n w) (choose_first z kind t b bs k w)
+choose_first_follows : (d : ℕ) (s z : Search) → IsGood z → FollowsOn d s z → (kind : ChoiceKind) (t : ℕ) (b : Branch) (bs : List Branch) (n k : ℕ) (w : World) → k ≡ n + d → Follows d (choose_first s kind t b bs n w) (choose_first z kind t b bs k w)
 choose_first_follows d s z g f kind t b bs n k w e =
     let a = begin s b n w in
     let c = begin z b k w in

@@ -19,7 +19,7 @@ use Rattle.dg_meaning.specs.Facts.{value_at, kinds_of}
 use Rattle.dg_meaning.specs.Changes.{found}
 use Rattle.dg_meaning.specs.World.{Game, World, worked}
 use Rattle.dg_meaning.specs.Cells.{writing}
-use Rattle.dg_meaning.specs.Path.{Step, Do, Answers, Cut, Refuse, Back, Keep, Leave, Registers, Path, Whole, AsList, AsSum, Branch, Enter, Clash, TakeOut, Finds, Kind, Plain, Rules, Shield, Gathers, Move, GoesOn, FailsAt, EndsAt, StopsAt, Outcome, Moves, Chooses, Act, Goes, Tests, Unifies, Ends, Fails, Stops, Effect, Acts, Offers}
+use Rattle.dg_meaning.specs.Path.{Step, Do, Answers, Cut, Refuse, Back, Keep, Leave, Registers, Path, Whole, AsList, AsSum, Branch, Enter, Clash, TakeOut, Finds, ChoiceKind, Plain, Rules, Shield, Gathers, Move, GoesOn, FailsAt, EndsAt, StopsAt, Outcome, Moves, Chooses, Act, Goes, Tests, Unifies, Ends, Fails, Stops, Effect, Acts, Offers}
 use Rattle.dg_meaning.specs.Moves.{path_of, begun, goals_at, inside, enter, enter_if, choice_cells, is_excluded, call_cells, unless_excluded, list_branches, first_alone, vars_of, rule_branch, rule_branches, rules_of, choice, goes_on_if, stop, move_of, effect, outcome_of, behind_terms, move, closure_vars, closure_branch, numbers, object_branches, reads_if_set, beginning, begins, spaces, ask_object, ask_objects, ask_place, change_place, ask_body, ask_closure, looked_up, whole_looks, selects, gathers, gives_number, throws, splits, joins, takes_line}
 use Rattle.dg_meaning.specs.inside.Bindings.{top_of_values, IsBound, IsBoundBehind, BranchBinds, BranchesBind, MoveBinds, OutcomeBinds}
 use Rattle.dg_meaning.proofs.Bindings.{term_below, terms_below, ActMade, number_made, throws_made, set_made, spaces_made, place_made, splits_made, joins_made, line_made, beginning_made, binds_along}
@@ -45,15 +45,15 @@ BranchesTags ctx (b ∷ bs) = BranchTags ctx b × BranchesTags ctx bs
 
 -- ## More around a path
 
-shielded_push : (k : Kind) (t : ℕ) (bs : List Branch) (ctx : List Around) (s : ℕ) → Shielded ctx s → Shielded (InBranch k t bs ∷ ctx) s
+shielded_push : (k : ChoiceKind) (t : ℕ) (bs : List Branch) (ctx : List Around) (s : ℕ) → Shielded ctx s → Shielded (InBranch k t bs ∷ ctx) s
 shielded_push Shield t bs ctx s h = inr h
 shielded_push _ t bs ctx s h = h
 
-stop_push : (k : Kind) (t : ℕ) (bs : List Branch) (ctx : List Around) (o : Option ℕ) → StopIn ctx o → StopIn (InBranch k t bs ∷ ctx) o
+stop_push : (k : ChoiceKind) (t : ℕ) (bs : List Branch) (ctx : List Around) (o : Option ℕ) → StopIn ctx o → StopIn (InBranch k t bs ∷ ctx) o
 stop_push k t bs ctx None h = tt
 stop_push k t bs ctx (Some s) h = shielded_push k t bs ctx s h
 
-steps_push : (k : Kind) (t : ℕ) (bs : List Branch) (ctx : List Around) (steps : List Step) → StepsIn ctx steps → StepsIn (InBranch k t bs ∷ ctx) steps
+steps_push : (k : ChoiceKind) (t : ℕ) (bs : List Branch) (ctx : List Around) (steps : List Step) → StepsIn ctx steps → StepsIn (InBranch k t bs ∷ ctx) steps
 steps_push k t bs ctx [] h = tt
 steps_push k t bs ctx (Do g env u ∷ steps) h = (inr h.0, steps_push k t bs ctx steps h.1)
 steps_push k t bs ctx (Answers q ∷ steps) h = steps_push k t bs ctx steps h
@@ -79,15 +79,15 @@ steps_mark t ctx (Keep u x env ∷ steps) h = steps_mark t ctx steps h
 steps_mark t ctx (Leave u o ∷ steps) h = (h.0, (stop_mark t ctx o h.1.0, steps_mark t ctx steps h.1.1))
 
 -- a branch that isn't stoppable is as good as a plain one
-shielded_plain : (k : Kind) (t : ℕ) (bs cs : List Branch) (ctx : List Around) (s : ℕ) → Shielded (InBranch Plain t bs ∷ ctx) s → Shielded (InBranch k t cs ∷ ctx) s
+shielded_plain : (k : ChoiceKind) (t : ℕ) (bs cs : List Branch) (ctx : List Around) (s : ℕ) → Shielded (InBranch Plain t bs ∷ ctx) s → Shielded (InBranch k t cs ∷ ctx) s
 shielded_plain Shield t bs cs ctx s h = inr h
 shielded_plain _ t bs cs ctx s h = h
 
-stop_others : (k : Kind) (t : ℕ) (bs cs : List Branch) (ctx : List Around) (o : Option ℕ) → StopIn (InBranch Plain t bs ∷ ctx) o → StopIn (InBranch k t cs ∷ ctx) o
+stop_others : (k : ChoiceKind) (t : ℕ) (bs cs : List Branch) (ctx : List Around) (o : Option ℕ) → StopIn (InBranch Plain t bs ∷ ctx) o → StopIn (InBranch k t cs ∷ ctx) o
 stop_others k t bs cs ctx None h = tt
 stop_others k t bs cs ctx (Some s) h = shielded_plain k t bs cs ctx s h
 
-steps_others : (k : Kind) (t : ℕ) (bs cs : List Branch) (ctx : List Around) (steps : List Step) → StepsIn (InBranch Plain t bs ∷ ctx) steps → StepsIn (InBranch k t cs ∷ ctx) steps
+steps_others : (k : ChoiceKind) (t : ℕ) (bs cs : List Branch) (ctx : List Around) (steps : List Step) → StepsIn (InBranch Plain t bs ∷ ctx) steps → StepsIn (InBranch k t cs ∷ ctx) steps
 steps_others k t bs cs ctx [] h = tt
 steps_others k t bs cs ctx (Do g env u ∷ steps) h = (h.0, steps_others k t bs cs ctx steps h.1)
 steps_others k t bs cs ctx (Answers q ∷ steps) h = steps_others k t bs cs ctx steps h
@@ -97,10 +97,10 @@ steps_others k t bs cs ctx (Back ∷ steps) h = steps_others k t bs cs ctx steps
 steps_others k t bs cs ctx (Keep u x env ∷ steps) h = steps_others k t bs cs ctx steps h
 steps_others k t bs cs ctx (Leave u o ∷ steps) h = (h.0, (stop_others k t bs cs ctx o h.1.0, steps_others k t bs cs ctx steps h.1.1))
 
-path_others : (k : Kind) (t : ℕ) (bs cs : List Branch) (ctx : List Around) (path : Path) → TagsIn (InBranch Plain t bs ∷ ctx) path → TagsIn (InBranch k t cs ∷ ctx) path
+path_others : (k : ChoiceKind) (t : ℕ) (bs cs : List Branch) (ctx : List Around) (path : Path) → TagsIn (InBranch Plain t bs ∷ ctx) path → TagsIn (InBranch k t cs ∷ ctx) path
 path_others k t bs cs ctx path h = record { steps = steps_others k t bs cs ctx path.steps h.steps; stop = stop_others k t bs cs ctx path.registers.stoppable h.stop; newer = h.newer }
 
-branch_others : (k : Kind) (t : ℕ) (bs cs : List Branch) (ctx : List Around) (b : Branch) → BranchTags (InBranch Plain t bs ∷ ctx) b → BranchTags (InBranch k t cs ∷ ctx) b
+branch_others : (k : ChoiceKind) (t : ℕ) (bs cs : List Branch) (ctx : List Around) (b : Branch) → BranchTags (InBranch Plain t bs ∷ ctx) b → BranchTags (InBranch k t cs ∷ ctx) b
 branch_others k t bs cs ctx (Enter path work) h = path_others k t bs cs ctx path h
 branch_others k t bs cs ctx (Clash r work) h = tt
 branch_others k t bs cs ctx (TakeOut u whole into path) h = path_others k t bs cs ctx path h
@@ -225,11 +225,11 @@ module _ (ctx : List Around) (env : List Value) (t : ℕ) (steps : List Step) (r
   Here = InBranch Plain r.next_tag [] ∷ ctx
 
   -- a choice of branches that fit its kind
-  abbrev Fit : Kind → List Branch → Type 0
+  abbrev Fit : ChoiceKind → List Branch → Type 0
   Fit k [] = Unit {0}
   Fit k (b ∷ bs) = BranchTags (InBranch k r.next_tag bs ∷ ctx) b × BranchesTags Here bs × KeepsGathering b × TakesOut k r.next_tag bs
 
-  choice_tags : (k : Kind) (bs : List Branch) (w : World) → Fit k bs → OutcomeTags ctx (choice k r.next_tag bs w)
+  choice_tags : (k : ChoiceKind) (bs : List Branch) (w : World) → Fit k bs → OutcomeTags ctx (choice k r.next_tag bs w)
   choice_tags k [] w h = tt
   choice_tags k (b ∷ bs) w h = (older, h.0, h.1, h.2, h.3)
 
@@ -420,7 +420,7 @@ move_in g x ctx env t steps r w h =
     outcome_with ctx r (move g (out-Goal x) env t steps r w) (move_tags g (out-Goal x) ctx env t steps r w h.steps.0 h.steps.1 h.stop h.newer (omega (arith, h.bound.steps))) (binds_along.takes g x env t steps r w h.bound)
 
 -- a branch that isn't stoppable is as good as a plain one
-pub others_in : (k : Kind) (t : ℕ) (bs cs : List Branch) (ctx : List Around) (b : Branch) → BranchIn (InBranch Plain t bs ∷ ctx) b → BranchIn (InBranch k t cs ∷ ctx) b
+pub others_in : (k : ChoiceKind) (t : ℕ) (bs cs : List Branch) (ctx : List Around) (b : Branch) → BranchIn (InBranch Plain t bs ∷ ctx) b → BranchIn (InBranch k t cs ∷ ctx) b
 others_in k t bs cs ctx (Enter path work) h = path_with (InBranch k t cs ∷ ctx) path (path_others k t bs cs ctx path (record { steps = h.steps; stop = h.stop; newer = h.newer })) h.bound
 others_in k t bs cs ctx (Clash r work) h = tt
 others_in k t bs cs ctx (TakeOut u whole into path) h = (path_with (InBranch k t cs ∷ ctx) path (path_others k t bs cs ctx path (record { steps = h.0.steps; stop = h.0.stop; newer = h.0.newer })) h.0.bound, h.1)

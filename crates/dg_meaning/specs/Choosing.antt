@@ -52,5 +52,5 @@ choice_among ThenAtRandom k picks w = if nat_lt picks.count k then undrawn picks
 choice_among ThenPurelyAtRandom k picks w = if nat_lt picks.count k then undrawn picks.count else drawn (w % k)
 
 -- What a mode chooses among k branches; of a single one nothing is drawn.
-abbrev pub choice : Mode → ℕ → Picks → ℕ → Choice
-choice mode k picks w = if nat_le k 1 then undrawn 0 else choice_among mode k picks w
+abbrev pub choice_by : Mode → ℕ → Picks → ℕ → Choice
+choice_by mode k picks w = if nat_le k 1 then undrawn 0 else choice_among mode k picks w

@@ -6,7 +6,7 @@ use Rattle.dg_base.specs.declared.program.Place.{Place}
 use Rattle.dg_base.specs.declared.program.PlaceKind.{PlaceKind}
 use Rattle.dg_base.specs.declared.program.PlaceKind.TheVariants.{Flag, ObjectFlag, ObjectVar, Parent, Global}
 use Rattle.dg_meaning.specs.Values.{Num, Word, Object, Nil, Value, Node, leaf, value_of}
-use Rattle.dg_meaning.specs.TypeTests.{is_full}
+use Rattle.dg_meaning.specs.TypeTests.{is_fully_bound}
 use Rattle.dg_meaning.specs.ValueCells.{cells_of}
 
 -- ## Facts
@@ -64,7 +64,7 @@ takes Flag v = true
 takes ObjectFlag v = true
 takes ObjectVar v = is_simple v
 takes Parent v = is_object v
-takes Global v = is_full v
+takes Global v = is_fully_bound v
 
 -- ## What is kept
 

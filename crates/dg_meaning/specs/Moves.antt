@@ -28,12 +28,12 @@ use Rattle.dg_meaning.specs.Copies.{list_of, values_of, vars_in, copy_from, copy
 use Rattle.dg_meaning.specs.Numbers.{of_numbers, calculated, thrown, are_in_order, total}
 use Rattle.dg_meaning.specs.Words.{first_line, behind_first, line_value, spelled_value, spelled_list, letters_in_word, each_alone, joined_letters, reading}
 use Rattle.dg_meaning.specs.Facts.{value_at, Alteration, kinds_of}
-use Rattle.dg_meaning.specs.Choosing.{die, picked, picks_at, Choice, choice as chosen}
+use Rattle.dg_meaning.specs.Choosing.{die, picked, picks_at, Choice, choice_by as chosen}
 use Rattle.dg_meaning.specs.World.{Game, World, Print, Piece, GapOf, SpacesOf, Prints, Asked, HasFailed, prints, noted, worked, reached, gathered_at, opened, dropped, drew}
 use Rattle.dg_meaning.specs.Cells.{cells, writing}
 use Rattle.dg_meaning.specs.Pieces.{pieces}
 use Rattle.dg_meaning.specs.TypeTests.{passes}
-use Rattle.dg_meaning.specs.Path.{Step, Do, Answers, Cut, Refuse, Back, Keep, Leave, Registers, Path, Whole, AsList, AsSum, Branch, Enter, Clash, TakeOut, Finds, Kind, Plain, Rules, Shield, Gathers, Move, GoesOn, FailsAt, EndsAt, StopsAt, Outcome, Moves, Chooses, Act, Goes, Tests, Unifies, Ends, Fails, Stops, Effect, Acts, Offers}
+use Rattle.dg_meaning.specs.Path.{Step, Do, Answers, Cut, Refuse, Back, Keep, Leave, Registers, Path, Whole, AsList, AsSum, Branch, Enter, Clash, TakeOut, Finds, ChoiceKind, Plain, Rules, Shield, Gathers, Move, GoesOn, FailsAt, EndsAt, StopsAt, Outcome, Moves, Chooses, Act, Goes, Tests, Unifies, Ends, Fails, Stops, Effect, Acts, Offers}
 use Rattle.dg_meaning.specs.Render.{growth, characters}
 use Rattle.dg_meaning.specs.Changes.{found, change_of, changed, changing}
 
@@ -49,7 +49,7 @@ all_printed [] w = w
 all_printed (piece ∷ others) w = all_printed others (printed (Piece piece) w)
 
 -- The world in which a choice has no branch left.
-abbrev pub exhausted : Kind → World → World
+abbrev pub exhausted : ChoiceKind → World → World
 exhausted (Rules pred) w = noted (HasFailed pred) w
 exhausted k w = w
 
@@ -327,7 +327,7 @@ begins b w = move_of (path_at b).steps (path_at b).registers (beginning b w)
 -- ## Goals
 
 -- A choice; one with no branch fails.
-abbrev pub choice : Kind → ℕ → List Branch → World → Outcome
+abbrev pub choice : ChoiceKind → ℕ → List Branch → World → Outcome
 choice k t [] w = Moves (FailsAt (exhausted k w))
 choice k t (b ∷ bs) w = Chooses k t b bs w
 

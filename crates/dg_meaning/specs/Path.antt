@@ -63,11 +63,11 @@ pub data Branch : Type 0 where
   Finds : (place : Option ℕ) → (object : ℕ) → (args : List Value) → (path : Path) → Branch
 
 -- A choice without more, one between the rules of a predicate, one whose first branch may be stopped, and one whose first branch gathers.
-pub data Kind : Type 0 where
-  Plain : Kind
-  Rules : (pred : ℕ) → Kind
-  Shield : Kind
-  Gathers : Kind
+pub data ChoiceKind : Type 0 where
+  Plain : ChoiceKind
+  Rules : (pred : ℕ) → ChoiceKind
+  Shield : ChoiceKind
+  Gathers : ChoiceKind
 
 -- What comes of what is done at once: the search goes on, has failed, ends, or stops to a stoppable part.
 pub data Move : Type 0 where
@@ -79,7 +79,7 @@ pub data Move : Type 0 where
 -- What comes of a goal: a move, or a choice of a tag.
 pub data Outcome : Type 0 where
   Moves : (move : Move) → Outcome
-  Chooses : (kind : Kind) → (tag : ℕ) → (first : Branch) → (others : List Branch) → (world : World) → Outcome
+  Chooses : (kind : ChoiceKind) → (tag : ℕ) → (first : Branch) → (others : List Branch) → (world : World) → Outcome
 
 -- What is done at once: the search goes on with these steps, or where a test was passed, or where equations agree behind the registers in which their
 -- values were made; it ends, has failed, or stops.
@@ -94,4 +94,4 @@ pub data Act : Type 0 where
 -- What a goal does: something at once, or it offers branches of a choice of some kind.
 pub data Effect : Type 0 where
   Acts : (act : Act) → Effect
-  Offers : (kind : Kind) → (branches : List Branch) → (world : World) → Effect
+  Offers : (kind : ChoiceKind) → (branches : List Branch) → (world : World) → Effect

@@ -6,7 +6,7 @@ use Rattle.dg_base.specs.declared.program.Goal.{Goal, out-Goal}
 use Rattle.dg_base.specs.declared.program.Goal.TheOpen.{Goal-F, Equal, Ask, Either, Once, Not, If, Just, Fail, Exhaust, Arith, Compare, Test, IsObject}
 use Rattle.dg_base.specs.declared.program.Pred.{Pred}
 use Rattle.dg_base.specs.declared.program.Rule.{Rule}
-use Rattle.dg_base.specs.Goals.{goals_of}
+use Rattle.dg_base.specs.Goals.{all_goals_of}
 use Rattle.dg_meaning.specs.Sets.{is_in_set, IsSubset}
 
 -- A form of goal that is quiet, what stands in it apart; what it asks is in the set.
@@ -28,7 +28,7 @@ is_quiet_form set goal = false
 
 -- Goals are quiet, at every depth.
 abbrev pub are_quiet : List Bool → List Goal → Bool
-are_quiet set goals = list_all (λ goal. is_quiet_form set (out-Goal goal)) (goals_of goals)
+are_quiet set goals = list_all (λ goal. is_quiet_form set (out-Goal goal)) (all_goals_of goals)
 
 -- The bodies of rules are quiet.
 abbrev pub have_quiet_bodies : List Bool → List Rule → Bool

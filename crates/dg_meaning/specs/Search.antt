@@ -5,7 +5,7 @@ use Rattle.dg_base.specs.declared.run.Ending.TheVariants.{Done as Done-Ending, S
 use Rattle.dg_meaning.specs.Values.{value_of}
 use Rattle.dg_meaning.specs.Substitutions.{resolved}
 use Rattle.dg_meaning.specs.World.{Game, World, Answered, Retried, noted, worked, kept, dropped}
-use Rattle.dg_meaning.specs.Path.{Step, Do, Answers, Cut, Refuse, Back, Keep, Leave, Registers, Path, Result, Failing, CutFail, StopTo, End, Answer, Branch, Enter, Clash, TakeOut, Finds, Kind, Plain, Rules, Shield, Gathers, Move, GoesOn, FailsAt, EndsAt, StopsAt, Outcome, Moves, Chooses}
+use Rattle.dg_meaning.specs.Path.{Step, Do, Answers, Cut, Refuse, Back, Keep, Leave, Registers, Path, Result, Failing, CutFail, StopTo, End, Answer, Branch, Enter, Clash, TakeOut, Finds, ChoiceKind, Plain, Rules, Shield, Gathers, Move, GoesOn, FailsAt, EndsAt, StopsAt, Outcome, Moves, Chooses}
 use Rattle.dg_meaning.specs.Moves.{exhausted, begins, keeping, move}
 
 -- From a budget of goals, a path and a world to an answer.
@@ -50,27 +50,27 @@ branches_cut t c (b ∷ bs) = branch_cut t c b ∷ branches_cut t c bs
 -- ## Choices
 
 -- What a choice is to the branches behind its first.
-abbrev pub later : Kind → Kind
+abbrev pub later : ChoiceKind → ChoiceKind
 later (Rules pred) = Rules pred
 later k = Plain
 
 -- The world in which a branch behind the first begins.
-abbrev pub retried : Kind → World → World
+abbrev pub retried : ChoiceKind → World → World
 retried (Rules pred) w = noted (Retried pred) w
 retried k w = w
 
 -- A result other than a failure that leaves the first branch drops its gathering.
-abbrev pub leave : Kind → ℕ → World → World
+abbrev pub leave : ChoiceKind → ℕ → World → World
 leave Gathers t w = dropped t w
 leave k t w = w
 
 -- The first branch of a stoppable choice catches what stops to it.
-abbrev pub catches : Kind → ℕ → ℕ → Bool
+abbrev pub catches : ChoiceKind → ℕ → ℕ → Bool
 catches Shield t s = eqb s t
 catches k t s = false
 
 -- What a branch of the choice t leads to: the others, the others after a stop, or what passes through.
-abbrev pub after_branch : Kind → ℕ → ℕ → World → Result → (ℕ → World → Answer) → (Option ℕ → ℕ → World → Answer) → Answer
+abbrev pub after_branch : ChoiceKind → ℕ → ℕ → World → Result → (ℕ → World → Answer) → (Option ℕ → ℕ → World → Answer) → Answer
 after_branch k t n w Failing next stopped = next n w
 after_branch k t n w (CutFail u) next stopped = answer n (leave k t w) (if eqb u t then Failing else CutFail u)
 after_branch k t n w (StopTo s c) next stopped = if catches k t s then stopped c n w else answer n (leave k t w) (StopTo s c)
@@ -88,13 +88,13 @@ abbrev pub begin : Search → Branch → ℕ → World → Answer
 begin s b n w = after_move s n (begins b w)
 
 -- The branches of the choice t behind its first.
-abbrev pub choose : Search → Kind → ℕ → List Branch → ℕ → World → Answer
+abbrev pub choose : Search → ChoiceKind → ℕ → List Branch → ℕ → World → Answer
 choose s k t [] n w = answer n (exhausted k w) Failing
 choose s k t (b ∷ bs) n w =
     let a = begin s b n (retried k w) in after_branch k t a.left a.world a.result (choose s k t bs) (λ c. choose s k t bs)
 
 -- A choice: its first branch, and then the others.
-abbrev pub choose_first : Search → Kind → ℕ → Branch → List Branch → ℕ → World → Answer
+abbrev pub choose_first : Search → ChoiceKind → ℕ → Branch → List Branch → ℕ → World → Answer
 choose_first s k t b bs n w =
     let a = begin s b n w in after_branch k t a.left a.world a.result (choose s (later k) t bs) (λ c. choose s (later k) t (branches_cut t c bs))
 

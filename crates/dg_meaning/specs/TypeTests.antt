@@ -7,13 +7,13 @@ use Rattle.dg_meaning.specs.Substitutions.{Substitution, walk, resolved}
 
 -- No variable stands in a value, those that a closure captures included.
 abbrev mutual
-  pub is_full : Value → Bool
-  is_full (Var x) = false
-  is_full (Node f vs) = are_full vs
+  pub is_fully_bound : Value → Bool
+  is_fully_bound (Var x) = false
+  is_fully_bound (Node f vs) = are_fully_bound vs
 
-  pub are_full : Values → Bool
-  are_full NoMore = true
-  are_full (More v vs) = is_full v && are_full vs
+  pub are_fully_bound : Values → Bool
+  are_fully_bound NoMore = true
+  are_fully_bound (More v vs) = is_fully_bound v && are_fully_bound vs
 
 -- A value that was looked up passes a test by what stands at its top.
 abbrev pub top_passes : TestKind → Value → Bool
@@ -31,5 +31,5 @@ top_passes kind v = false
 
 -- A value passes a test.
 abbrev pub passes : Substitution → TestKind → Value → Bool
-passes S test.FullyBound v = is_full (resolved S v)
+passes S test.FullyBound v = is_fully_bound (resolved S v)
 passes S kind v = top_passes kind (walk S v)

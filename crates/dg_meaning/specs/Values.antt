@@ -40,9 +40,9 @@ abbrev pub pair : Value → Value → Value
 pair h t = Node Pair (More h (More t NoMore))
 
 -- A list of values as the parts of one.
-abbrev pub parts_of : List Value → Values
-parts_of [] = NoMore
-parts_of (v ∷ vs) = More v (parts_of vs)
+abbrev pub node_parts : List Value → Values
+node_parts [] = NoMore
+node_parts (v ∷ vs) = More v (node_parts vs)
 
 -- ## Terms
 
@@ -51,9 +51,9 @@ abbrev pub value_of_var : List Value → ℕ → Value
 value_of_var env v = get_or env v (leaf Nil)
 
 -- The values of the variables that a closure captures.
-abbrev pub captured_by : List Value → Option ClosureBody → Values
-captured_by env None = NoMore
-captured_by env (Some closure) = parts_of (map (value_of_var env) closure.captured)
+abbrev pub captured_values : List Value → Option ClosureBody → Values
+captured_values env None = NoMore
+captured_values env (Some closure) = node_parts (map (value_of_var env) closure.captured)
 
 -- The value of a term without inner terms.
 abbrev pub value_of_leaf : CoreProgram → List Value → term.Term-F Term → Value
@@ -61,7 +61,7 @@ value_of_leaf program env (term.Num n) = leaf (Num n)
 value_of_leaf program env (term.Word w) = leaf (Word w)
 value_of_leaf program env (term.Object o) = leaf (Object o)
 value_of_leaf program env (term.Var v) = value_of_var env v
-value_of_leaf program env (term.Closure c) = Node (Closure c) (captured_by env (slice_get program.closures c))
+value_of_leaf program env (term.Closure c) = Node (Closure c) (captured_values env (slice_get program.closures c))
 value_of_leaf program env other = leaf Nil
 
 -- The value of a term of the program, among the values of the variables around it.

@@ -22,12 +22,12 @@ use Rattle.dg_mid.specs.declared.code.Op.TheVariants as op
 use Rattle.dg_mid.specs.declared.code.Action.{Action}
 use Rattle.dg_mid.specs.declared.code.Action.TheVariants as action
 use Rattle.dg_mid.specs.declared.code.Code.{Code}
-use Rattle.dg_mid.specs.State.{Outside, Mid, Runs, Fails, vars_of, cut_of}
-use Rattle.dg_mid.specs.Actions.{form_of, goal_of, terms_of, registers_of, world_of, act_in, act_at, world_by, said_by, outside_in}
+use Rattle.dg_mid.specs.State.{Lasting, Mid, Runs, Fails, vars_of, cut_of}
+use Rattle.dg_mid.specs.Actions.{form_of, goal_of, terms_of, registers_of, world_of, act_in, act_at, world_by, said_by, lasting_in}
 use Rattle.dg_mid.specs.Step.{Setting, setting, does, done, made_in, more, bound, unified as unified_here, if_agreed, if_passed, cut_to, said_to, followed}
 use Rattle.dg_mid.specs.Units.{effort, act_work}
 use Rattle.dg_mid.specs.Codes.{End, Stands}
-use Rattle.dg_mid.specs.Reads.{Behind, outside_of, Mirrors, Comes, GathersAt}
+use Rattle.dg_mid.specs.Reads.{Behind, lasting_of, Mirrors, Comes, GathersAt}
 use Rattle.dg_mid.proofs.Here.{Here, steps_of, followed_is}
 use Rattle.dg_mid.proofs.Marks.{goes_on, cuts, ends_here}
 use Rattle.dg_mid.proofs.Taking.{behind, taken_in, comes, taken_grows, charge, heap_full, keep_on, trail_within, went_grows, unify_on}
@@ -40,8 +40,8 @@ pub registers_are : (q : Registers) (n : ℕ) (s : Option ℕ) (S : Substitution
 registers_are q n s S x a b c d =
     ap (λ k. regs k q.stoppable q.bound q.next_var q.heap q.trail) a ∙ ap (λ k. regs n k q.bound q.next_var q.heap q.trail) b ∙ ap (λ k. regs n s k q.next_var q.heap q.trail) c ∙ ap (λ k. regs n s S k q.heap q.trail) d
 
-pub world_is : (v : World) (gs : List Gathering) (o : Outside) → v.gathered ≡ gs → outside_of v ≡ o → v ≡ world_with v.events gs v.meters o.typed o.dice o.facts o.sites
-world_is v gs o a b = ap (λ k. world_with v.events k v.meters v.typed v.dice v.facts v.sites) a ∙ ap (λ (k : Outside). world_with v.events gs v.meters k.typed k.dice k.facts k.sites) b
+pub world_is : (v : World) (gs : List Gathering) (o : Lasting) → v.gathered ≡ gs → lasting_of v ≡ o → v ≡ world_with v.events gs v.meters o.typed o.dice o.facts o.sites
+world_is v gs o a b = ap (λ k. world_with v.events k v.meters v.typed v.dice v.facts v.sites) a ∙ ap (λ (k : Lasting). world_with v.events gs v.meters k.typed k.dice k.facts k.sites) b
 
 abbrev pub nothing_counted : Meters
 nothing_counted = record { heap = 0; trail = 0; aux = 0; keep = 0; work = 0 }
@@ -96,7 +96,7 @@ module _ (set : Setting) (m : Mid) (goals : List Goal) (end : End) (rest : List 
   fails_so : {least : ℕ} → (ps qs : List Print) (q : Registers) (lives : List Live) (ways : List WayOn) (u : World) → Mirrors g set.code m (ps ++ qs) q lives ways u → Went g lives ways n (MoveFails u) run → least ≤ u.meters.work → Comes least (followed ps (said_to qs (Fails m))) set (Fails m) g n run
   fails_so {least = least} ps qs q lives ways u i f le =
       subst (λ l. Comes least l set (Fails m) g n run) (sym (ap (followed ps) (said_fails qs m) ∙ followed_is ps qs))
-      (record { world = u; at = record { lives = lives; choices = i.choices_are; gathered = i.gathered_is; outside = i.outside_is; printed = i.printed_is; failed = f }; worked = le })
+      (record { world = u; at = record { lives = lives; choices = i.choices_are; gathered = i.gathered_is; lasting = i.lasting_is; printed = i.printed_is; failed = f }; worked = le })
 
   tests_so : {least : ℕ} → (b : Bool) (ps qs : List Print) (q : Registers) (lives : List Live) (ways : List WayOn) (u : World) → Mirrors g set.code m (ps ++ qs) q lives ways u → Went g lives ways n (goes_on_if b (steps_of m goals end rest) q u) run → least ≤ u.meters.work → Comes least (followed ps (said_to qs (if_passed b m))) set (if_passed b m) g n run
   tests_so {least = least} true ps qs q lives ways u i st le = goes_so ps qs q lives ways u i st le
@@ -132,7 +132,7 @@ module _ (set : Setting) (m : Mid) (goals : List Goal) (end : End) (rest : List 
         stops_are = i.stops_are;
         stop_is = i.stop_is;
         gathered_is = i.gathered_is;
-        outside_is = i.outside_is;
+        lasting_is = i.lasting_is;
         printed_is = i.printed_is;
       })
       went (omega (arith, le)))
@@ -147,8 +147,8 @@ unified_reaches g es steps q lives ways n v run h =
     let reached = grows.meters.heap in
     (omega (arith, reached), grows_on v v' run.world (begun_grows q' (unifying q.bound es) v) grows)
 
--- the machine behind what was done outside
-did_mirrors : (g : Game) (code : Code) (m : Mid) (ps : List Print) (q : Registers) (lives : List Live) (ways : List WayOn) (v v1 w1 : World) → Did v v1 (world_of [] m) w1 → Mirrors g code m ps q lives ways v → Mirrors g code (outside_in w1 m) (ps ++ prints w1.events) q lives ways v1
+-- the machine behind what was done to what lasts
+did_mirrors : (g : Game) (code : Code) (m : Mid) (ps : List Print) (q : Registers) (lives : List Live) (ways : List WayOn) (v v1 w1 : World) → Did v v1 (world_of [] m) w1 → Mirrors g code m ps q lives ways v → Mirrors g code (lasting_in w1 m) (ps ++ prints w1.events) q lives ways v1
 did_mirrors g code m ps q lives ways v v1 w1 d i = record {
   agrees = i.agrees;
   tag = i.tag;
@@ -157,7 +157,7 @@ did_mirrors g code m ps q lives ways v v1 w1 d i = record {
   stops_are = i.stops_are;
   stop_is = i.stop_is;
   gathered_is = d.gathered ∙ i.gathered_is;
-  outside_is = d.outside;
+  lasting_is = d.lasting;
   printed_is = d.said ∙ ap (λ l. l ++ d.new) i.printed_is ∙ ap (λ l. ps ++ l) (sym d.said_here);
 }
 
@@ -180,7 +180,7 @@ module _ (code : Code) (limits : Limits) (m : Mid) (goals : List Goal) (end : En
   made_so : {least : ℕ} → (es : Equations) (ps : List Print) (q made here : Registers) (lives : List Live) (ways : List WayOn) (v v1 w1 : World) → MadeAlike q (registers_of m) made here → Did v v1 (world_of [] m) w1 → Mirrors g code m ps q lives ways v → Grows v v1 → Went g lives ways n (unified es (steps_of m goals end rest) made v1) run →
       least ≤ v1.meters.work + unifying made.bound es → Comes least (followed ps (said_to (prints w1.events) (done set (Unifies here es w1) m))) set (done set (Unifies here es w1) m) g n run
   made_so {least = least} es ps q made here lives ways v v1 w1 ma d i grown h le =
-      let m' = made_in here (outside_in w1 m) in
+      let m' = made_in here (lasting_in w1 m) in
       let qs = prints w1.events in
       let reached = unified_reaches g es (steps_of m goals end rest) made lives ways n v1 run h in
       let before = grows_on v v1 run.world grown reached.1 in
@@ -194,7 +194,7 @@ module _ (code : Code) (limits : Limits) (m : Mid) (goals : List Goal) (end : En
         stops_are = i.stops_are;
         stop_is = ma.stop ∙ i.stop_is;
         gathered_is = on.gathered_is;
-        outside_is = on.outside_is;
+        lasting_is = on.lasting_is;
         printed_is = on.printed_is;
       } in
       charge set qs (here.heap - m.state.heap) m (unified_here set (solve here.bound es) m' (Runs (bound (solve here.bound es) m'))) g n run
@@ -205,19 +205,19 @@ module _ (code : Code) (limits : Limits) (m : Mid) (goals : List Goal) (end : En
   pub act_on : {least : ℕ} → (ps : List Print) (q : Registers) (lives : List Live) (ways : List WayOn) (v : World) (a b : Act) → Alike q (registers_of m) (cut_of m.frames).tag (steps_of m goals end rest) v (world_of [] m) a b → Mirrors g code m ps q lives ways v → Grows v (world_by a) → Grows v run.world →
       Went g lives ways n (move_of (steps_of m goals end rest) q a) run → least ≤ act_work a → Comes least (followed ps (said_to (said_by b) (done set b m))) set (done set b m) g n run
   act_on {least = least} ps q lives ways v a b (goes v1 w1 d) i grown happened h le =
-      keep_on set (prints w1.events) w1.meters.keep (Runs (outside_in w1 m)) g n run
+      keep_on set (prints w1.events) w1.meters.keep (Runs (lasting_in w1 m)) g n run
       (λ full. record { world = v; at = record { passes = let x = d.keep (omega arith) in let y = (went_grows g lives ways n (move_of (steps_of m goals end rest) q a) run h).meters.keep in omega (arith, full, x, y); printed = i.printed_is; happened = happened }; grows = happened })
-      (goes_so set (outside_in w1 m) goals end rest g n run stands below valued ps (prints w1.events) q lives ways v1 (did_mirrors g code m ps q lives ways v v1 w1 d i) h le)
+      (goes_so set (lasting_in w1 m) goals end rest g n run stands below valued ps (prints w1.events) q lives ways v1 (did_mirrors g code m ps q lives ways v v1 w1 d i) h le)
   act_on {least = least} ps q lives ways v a b cuts_rule i grown happened h le =
       goes_on set (cut_to (cut_of m.frames) m) (steps_of m goals end rest) [] g n v run (record { goals = goals; end = end; rest = rest; stands = stands; below = below; gathers = valued; is = refl })
       (cuts code m ps (cut_of m.frames) (steps_of m goals end rest) g n v run (record { lives = lives; ways = ways; registers = q; mirrors = i; stands = h })) (omega (arith, le))
   act_on {least = least} ps q lives ways v a b (tests x v1 w1 d) i grown happened h le =
-      tests_so set (outside_in w1 m) goals end rest g n run stands below valued x ps (prints w1.events) q lives ways v1 (did_mirrors g code m ps q lives ways v v1 w1 d i) h le
+      tests_so set (lasting_in w1 m) goals end rest g n run stands below valued x ps (prints w1.events) q lives ways v1 (did_mirrors g code m ps q lives ways v v1 w1 d i) h le
   act_on {least = least} ps q lives ways v a b (unifies made here es v1 w1 ma d) i grown happened h le = made_so es ps q made here lives ways v v1 w1 ma d i grown h le
   act_on {least = least} ps q lives ways v a b quits i grown happened h le = ends_here set ending.Quit (EndsSo ending.Quit) g n v run refl (λ w x. x) i.printed_is h le
   act_on {least = least} ps q lives ways v a b lacks_input i grown happened h le = ends_here set ending.InputEnded (EndsSo ending.InputEnded) g n v run refl (λ w x. x) i.printed_is h le
   act_on {least = least} ps q lives ways v a b (fails v1 w1 d) i grown happened h le =
-      fails_so set (outside_in w1 m) goals end rest g n run stands below valued ps (prints w1.events) q lives ways v1 (did_mirrors g code m ps q lives ways v v1 w1 d i) h le
+      fails_so set (lasting_in w1 m) goals end rest g n run stands below valued ps (prints w1.events) q lives ways v1 (did_mirrors g code m ps q lives ways v v1 w1 d i) h le
   act_on {least = least} ps q lives ways v a b stops i grown happened h le =
       stops_with set m ps g n v run q lives ways i m.stop (subst (λ t. Went g lives ways n (stop t v) run) i.stop_is h) le
 
@@ -251,12 +251,12 @@ acts {least = least} {ps = ps} code limits m a ops goals end rest g n w run stan
     let q = behind code m ps steps g n w run x f (outs a) h in
     let v = taken_in code m ps steps g n w run x f (outs a) h in
     let q0 = regs m.next_tag m.stop m.state.subst m.state.vars q.heap q.trail in
-    let v0 = world_with v.events m.gathered v.meters m.outside.typed m.outside.dice m.outside.facts m.outside.sites in
-    let happened : Grows v0 run.world = subst (λ (y : World). Grows y run.world) (world_is v m.gathered m.outside i.gathered_is i.outside_is) (taken_grows code m ps steps g n w run x f (outs a) h) in
-    let o = subst (λ y. After g h.lives h.ways n (outcome_of steps q0 (effect g f env t steps q0 y)) run) (world_is v m.gathered m.outside i.gathered_is i.outside_is)
+    let v0 = world_with v.events m.gathered v.meters m.lasting.typed m.lasting.dice m.lasting.facts m.lasting.sites in
+    let happened : Grows v0 run.world = subst (λ (y : World). Grows y run.world) (world_is v m.gathered m.lasting i.gathered_is i.lasting_is) (taken_grows code m ps steps g n w run x f (outs a) h) in
+    let o = subst (λ y. After g h.lives h.ways n (outcome_of steps q0 (effect g f env t steps q0 y)) run) (world_is v m.gathered m.lasting i.gathered_is i.lasting_is)
     (subst (λ y. After g h.lives h.ways n (outcome_of steps y (effect g f env t steps y v)) run) (registers_are q m.next_tag m.stop m.state.subst m.state.vars i.tag i.stop_is i.agrees.bound i.agrees.vars) (comes code m ps steps g n w run x f (outs a) h)) in
-    let same : (es' : List Event) → AlikeEffects q0 (registers_of m0) t steps v0 (world_with es' m.gathered nothing_counted m.outside.typed m.outside.dice m.outside.facts m.outside.sites) (effect g f env t steps q0 v0) (effect g f env t [] (registers_of m0) (world_with es' m.gathered nothing_counted m.outside.typed m.outside.dice m.outside.facts m.outside.sites)) =
-    λ es'. action_alike m.next_tag m.stop m.state.subst m.state.vars q.heap q.trail m0.state.heap m0.state.trail v.events es' m.gathered v.meters nothing_counted m.outside.typed m.outside.dice m.outside.facts m.outside.sites t steps g a env in
+    let same : (es' : List Event) → AlikeEffects q0 (registers_of m0) t steps v0 (world_with es' m.gathered nothing_counted m.lasting.typed m.lasting.dice m.lasting.facts m.lasting.sites) (effect g f env t steps q0 v0) (effect g f env t [] (registers_of m0) (world_with es' m.gathered nothing_counted m.lasting.typed m.lasting.dice m.lasting.facts m.lasting.sites)) =
+    λ es'. action_alike m.next_tag m.stop m.state.subst m.state.vars q.heap q.trail m0.state.heap m0.state.trail v.events es' m.gathered v.meters nothing_counted m.lasting.typed m.lasting.dice m.lasting.facts m.lasting.sites t steps g a env in
     let here = effects_act q0 (registers_of m0) t steps v0 (world_of [] m0) _ _ (same []) in
     let counted = effects_act q0 (registers_of m0) t steps v0 (world_of ps m0) _ _ (same (map Prints ps)) in
     let work = act_works q0 (registers_of m0) t steps v0 (world_of ps m0) _ _ refl (i.printed_is ∙ sym (nothing_first ps)) counted.1 in
@@ -271,7 +271,7 @@ acts {least = least} {ps = ps} code limits m a ops goals end rest g n w run stan
       stops_are = i.stops_are;
       stop_is = refl;
       gathered_is = refl;
-      outside_is = refl;
+      lasting_is = refl;
       printed_is = i.printed_is;
     })
     (grows_in v0 (act_in (effect g f env t steps q0 v0)) (subst (EffectStays q0.next_tag v0) here.0 (effect_stays g f env t steps q0 v0)).grows) happened

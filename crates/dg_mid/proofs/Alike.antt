@@ -29,32 +29,32 @@ use Rattle.dg_meaning.proofs.Dropping.{prints_append}
 use Rattle.dg_mid.specs.declared.code.Action.{Action}
 use Rattle.dg_mid.specs.declared.code.Action.TheVariants as action
 use Rattle.dg_mid.specs.Actions.{form_of, asked, world_by, said_by}
-use Rattle.dg_mid.specs.State.{Outside}
-use Rattle.dg_mid.specs.Reads.{outside_of}
+use Rattle.dg_mid.specs.State.{Lasting}
+use Rattle.dg_mid.specs.Reads.{lasting_of}
 
 -- ## Worlds
 
 -- what is done from one world to another is done from a second one to a third
 pub record Did (v v1 w w1 : World) : Type 0 where
   pub gathered : v1.gathered ≡ v.gathered
-  pub outside : outside_of v1 ≡ outside_of w1
+  pub lasting : lasting_of v1 ≡ lasting_of w1
   pub new : List Print
   pub said : prints v1.events ≡ prints v.events ++ new
   pub said_here : prints w1.events ≡ prints w.events ++ new
   pub work : prints v.events ≡ prints w.events → v1.meters.work + w.meters.work ≡ w1.meters.work + v.meters.work
   pub keep : w.meters.keep ≤ v.meters.keep → w1.meters.keep ≤ v1.meters.keep
 
-pub did_nothing : (v w : World) → outside_of v ≡ outside_of w → Did v v w w
-did_nothing v w e = record { gathered = refl; outside = e; new = []; said = sym (append-nil (prints v.events)); said_here = sym (append-nil (prints w.events)); work = λ h. omega arith; keep = λ le. le }
+pub did_nothing : (v w : World) → lasting_of v ≡ lasting_of w → Did v v w w
+did_nothing v w e = record { gathered = refl; lasting = e; new = []; said = sym (append-nil (prints v.events)); said_here = sym (append-nil (prints w.events)); work = λ h. omega arith; keep = λ le. le }
 
 did_worked : (n : ℕ) (v v1 w w1 : World) → Did v v1 w w1 → Did v (worked n v1) w (worked n w1)
-did_worked n v v1 w w1 d = record { gathered = d.gathered; outside = d.outside; new = d.new; said = d.said; said_here = d.said_here; work = λ h. let x = d.work h in omega (arith, x); keep = λ le. d.keep le }
+did_worked n v v1 w w1 d = record { gathered = d.gathered; lasting = d.lasting; new = d.new; said = d.said; said_here = d.said_here; work = λ h. let x = d.work h in omega (arith, x); keep = λ le. d.keep le }
 
 did_drew : (n : ℕ) (v v1 w w1 : World) → Did v v1 w w1 → Did v (drew n v1) w (drew n w1)
-did_drew n v v1 w w1 d = record { gathered = d.gathered; outside = ap (λ (o : Outside). record o { dice = o.dice + n }) d.outside; new = d.new; said = d.said; said_here = d.said_here; work = λ h. let x = d.work h in omega (arith, x); keep = λ le. d.keep le }
+did_drew n v v1 w w1 d = record { gathered = d.gathered; lasting = ap (λ (o : Lasting). record o { dice = o.dice + n }) d.lasting; new = d.new; said = d.said; said_here = d.said_here; work = λ h. let x = d.work h in omega (arith, x); keep = λ le. d.keep le }
 
 did_typed : (typed : List ℕ) (v v1 w w1 : World) → Did v v1 w w1 → Did v (record v1 { typed = typed }) w (record w1 { typed = typed })
-did_typed typed v v1 w w1 d = record { gathered = d.gathered; outside = ap (λ (o : Outside). record o { typed = typed }) d.outside; new = d.new; said = d.said; said_here = d.said_here; work = λ h. let x = d.work h in omega (arith, x); keep = λ le. d.keep le }
+did_typed typed v v1 w w1 d = record { gathered = d.gathered; lasting = ap (λ (o : Lasting). record o { typed = typed }) d.lasting; new = d.new; said = d.said; said_here = d.said_here; work = λ h. let x = d.work h in omega (arith, x); keep = λ le. d.keep le }
 
 more_printed : (p : Print) (v v1 : World) (new : List Print) → prints v1.events ≡ prints v.events ++ new → prints (printed p v1).events ≡ prints v.events ++ (new ++ p ∷ [])
 more_printed p v v1 new h = prints_append v1.events (Prints p ∷ []) ∙ ap (λ l. l ++ p ∷ []) h ∙ append_assoc (prints v.events) new (p ∷ [])
@@ -62,7 +62,7 @@ more_printed p v v1 new h = prints_append v1.events (Prints p ∷ []) ∙ ap (λ
 did_printed : (p : Print) (v v1 w w1 : World) → Did v v1 w w1 → Did v (printed p v1) w (printed p w1)
 did_printed p v v1 w w1 d = record {
   gathered = d.gathered;
-  outside = d.outside;
+  lasting = d.lasting;
   new = d.new ++ p ∷ [];
   said = more_printed p v v1 d.new d.said;
   said_here = more_printed p w w1 d.new d.said_here;
@@ -78,12 +78,12 @@ did_pieces (p ∷ ps) v v1 w w1 d = did_pieces ps v (printed (Piece p) v1) w (pr
 
 did_changed : (program : CoreProgram) (a : Alteration) (v v1 w w1 : World) → Did v v1 w w1 → Did v (changed program a v1) w (changed program a w1)
 did_changed program a v v1 w w1 d =
-    let facts : v1.facts ≡ w1.facts = ap (λ (o : Outside). o.facts) d.outside in
+    let facts : v1.facts ≡ w1.facts = ap (λ (o : Lasting). o.facts) d.lasting in
     let sizes = ap (λ F. kept_size (kinds_of program) (altered a F)) facts in
-    record { gathered = d.gathered; outside = ap (λ (o : Outside). record o { facts = altered a o.facts }) d.outside; new = d.new; said = d.said; said_here = d.said_here; work = λ h. let x = d.work h in omega (arith, x); keep = λ le. let x = d.keep le in omega (arith, x, sizes) }
+    record { gathered = d.gathered; lasting = ap (λ (o : Lasting). record o { facts = altered a o.facts }) d.lasting; new = d.new; said = d.said; said_here = d.said_here; work = λ h. let x = d.work h in omega (arith, x); keep = λ le. let x = d.keep le in omega (arith, x, sizes) }
 
 did_begun : (q r : Registers) (n : ℕ) (v v1 w w1 : World) → Did v v1 w w1 → Did v (begun q n v1) w (begun r n w1)
-did_begun q r n v v1 w w1 d = record { gathered = d.gathered; outside = d.outside; new = d.new; said = d.said; said_here = d.said_here; work = λ h. let x = d.work h in omega (arith, x); keep = λ le. d.keep le }
+did_begun q r n v v1 w w1 d = record { gathered = d.gathered; lasting = d.lasting; new = d.new; said = d.said; said_here = d.said_here; work = λ h. let x = d.work h in omega (arith, x); keep = λ le. d.keep le }
 
 -- ## Acts
 

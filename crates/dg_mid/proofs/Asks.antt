@@ -47,7 +47,7 @@ module _ (g : Game) (code : Code) (limits : Limits) (call : Call) (pred : ℕ) (
       After g lives ways n (choice (Rules pred) q.next_tag (rule_branches g pred call.args call.many (silents answered after) q rules) w) run → least ≤ w.meters.work → Comes least ps set (begins set call (selected (first_of q.bound call) codes) m) g n run
   rules_asked {least = least} [] [] w stand i a le =
       let told = exhausted_tells (Rules pred) w in
-      record { world = exhausted (Rules pred) w; at = record { lives = lives; choices = i.choices_are; gathered = told.gathered ∙ i.gathered_is; outside = told.outside ∙ i.outside_is; printed = told.printed ∙ i.printed_is; failed = a }; worked = omega (arith, le, told.work) }
+      record { world = exhausted (Rules pred) w; at = record { lives = lives; choices = i.choices_are; gathered = told.gathered ∙ i.gathered_is; lasting = told.lasting ∙ i.lasting_is; printed = told.printed ∙ i.printed_is; failed = a }; worked = omega (arith, le, told.work) }
   rules_asked {least = least} [] (rule ∷ rules) w stand i a le = absurd stand
   rules_asked {least = least} (c ∷ cs) [] w stand i a le = absurd stand
   rules_asked {least = least} (c ∷ cs) (rule ∷ rules) w stand i a le =
@@ -128,7 +128,7 @@ module _ (code : Code) (limits : Limits) (m : Mid) (ps : List Print) (ops : List
         stops_are = i.stops_are;
         stop_is = i.stop_is;
         gathered_is = i.gathered_is;
-        outside_is = i.outside_is;
+        lasting_is = i.lasting_is;
         printed_is = nothing_more (Asked pred) (worked (first_looks q args) v) ps refl i.printed_is;
       })
       (subst (λ l. After g h.lives h.ways n (choice (Rules pred) q.next_tag (rule_branches g pred args many l q (rules_of (slice_get g.program.preds pred))) asked) run) e

@@ -6,7 +6,7 @@ use Rattle.dg_base.specs.declared.program.Goal.{Goal}
 use Rattle.dg_base.specs.declared.run.Limits.{Limits}
 use Rattle.dg_base.specs.declared.run.Ending.TheVariants as ending
 use Rattle.dg_meaning.specs.World.{Game, World, Print, Retried, HasFailed, prints}
-use Rattle.dg_meaning.specs.Path.{Registers, Path, Failing, Branch, Enter, Clash, TakeOut, Finds, Kind, Plain, Rules, Shield, Gathers}
+use Rattle.dg_meaning.specs.Path.{Registers, Path, Failing, Branch, Enter, Clash, TakeOut, Finds, ChoiceKind, Plain, Rules, Shield, Gathers}
 use Rattle.dg_meaning.specs.Moves.{begun, exhausted}
 use Rattle.dg_meaning.specs.Search.{retried}
 use Rattle.dg_meaning.specs.Transcript.{Run}
@@ -20,7 +20,7 @@ use Rattle.dg_mid.specs.State.{Choice, Goes, Mid, Runs}
 use Rattle.dg_mid.specs.Step.{Setting, setting, passed, inside as inside_choice, resumed, goes_back}
 use Rattle.dg_mid.specs.Units.{resuming}
 use Rattle.dg_mid.specs.Codes.{End, Stands, jumps, returns, commits, refuses, backs, leaves, keeps, finishes, acts, ask, last_ask, query, last_query, holds, objects, only, either, selects, once, negates, branch, exhausts, shields, collects, accumulates, forever}
-use Rattle.dg_mid.specs.Reads.{AreChoices, none, dead, kept, AreClashes, WayIs, RetryIs, GoesAt, outside_of, Mirrors, Comes, TakesNewest}
+use Rattle.dg_mid.specs.Reads.{AreChoices, none, dead, kept, AreClashes, WayIs, RetryIs, GoesAt, lasting_of, Mirrors, Comes, TakesNewest}
 use Rattle.dg_mid.proofs.Here.{nothing_more, prints_dropped, work_dropped}
 use Rattle.dg_mid.proofs.Marks.{goes_on, ends_here}
 use Rattle.dg_mid.proofs.Taking.{charge, heap_full}
@@ -33,24 +33,24 @@ use Rattle.dg_mid.proofs.Choices.{choice_mirrors, passed_mirrors, inside_is, goe
 pub record Tells (w v : World) : Type 0 where
   pub printed : prints v.events ≡ prints w.events
   pub gathered : v.gathered ≡ w.gathered
-  pub outside : outside_of v ≡ outside_of w
+  pub lasting : lasting_of v ≡ lasting_of w
   pub work : v.meters.work ≡ w.meters.work
 
-retried_tells : (k : Kind) (w : World) → Tells w (retried k w)
-retried_tells (Rules q) w = record { printed = nothing_more (Retried q) w (prints w.events) refl refl; gathered = refl; outside = refl; work = refl }
-retried_tells Plain w = record { printed = refl; gathered = refl; outside = refl; work = refl }
-retried_tells Shield w = record { printed = refl; gathered = refl; outside = refl; work = refl }
-retried_tells Gathers w = record { printed = refl; gathered = refl; outside = refl; work = refl }
+retried_tells : (k : ChoiceKind) (w : World) → Tells w (retried k w)
+retried_tells (Rules q) w = record { printed = nothing_more (Retried q) w (prints w.events) refl refl; gathered = refl; lasting = refl; work = refl }
+retried_tells Plain w = record { printed = refl; gathered = refl; lasting = refl; work = refl }
+retried_tells Shield w = record { printed = refl; gathered = refl; lasting = refl; work = refl }
+retried_tells Gathers w = record { printed = refl; gathered = refl; lasting = refl; work = refl }
 
-tried_tells : (k : Kind) (bs : List Branch) (w : World) → Tells w (tried_in k bs w)
-tried_tells k [] w = record { printed = refl; gathered = refl; outside = refl; work = refl }
+tried_tells : (k : ChoiceKind) (bs : List Branch) (w : World) → Tells w (tried_in k bs w)
+tried_tells k [] w = record { printed = refl; gathered = refl; lasting = refl; work = refl }
 tried_tells k (b ∷ bs) w = retried_tells k w
 
-pub exhausted_tells : (k : Kind) (w : World) → Tells w (exhausted k w)
-exhausted_tells (Rules q) w = record { printed = nothing_more (HasFailed q) w (prints w.events) refl refl; gathered = refl; outside = refl; work = refl }
-exhausted_tells Plain w = record { printed = refl; gathered = refl; outside = refl; work = refl }
-exhausted_tells Shield w = record { printed = refl; gathered = refl; outside = refl; work = refl }
-exhausted_tells Gathers w = record { printed = refl; gathered = refl; outside = refl; work = refl }
+pub exhausted_tells : (k : ChoiceKind) (w : World) → Tells w (exhausted k w)
+exhausted_tells (Rules q) w = record { printed = nothing_more (HasFailed q) w (prints w.events) refl refl; gathered = refl; lasting = refl; work = refl }
+exhausted_tells Plain w = record { printed = refl; gathered = refl; lasting = refl; work = refl }
+exhausted_tells Shield w = record { printed = refl; gathered = refl; lasting = refl; work = refl }
+exhausted_tells Gathers w = record { printed = refl; gathered = refl; lasting = refl; work = refl }
 
 -- the search goes on with the branches that a choice has left
 pub record Turns (g : Game) (c : Live) (cs : List Live) (n : ℕ) (w : World) (run : Run) : Type 0 where
@@ -58,7 +58,7 @@ pub record Turns (g : Game) (c : Live) (cs : List Live) (n : ℕ) (w : World) (r
   pub printed : prints world.events ≡ prints w.events
   pub count : ℕ
   pub dropped : world.gathered ≡ drop count w.gathered
-  pub outside : outside_of world ≡ outside_of w
+  pub lasting : lasting_of world ≡ lasting_of w
   pub work : world.meters.work ≡ w.meters.work
   pub height : length world.gathered ≡ open_at c.others c.height
   pub newest : TakesNewest c.others world.gathered
@@ -80,7 +80,7 @@ turns_back g c cs n w run f =
       printed = t.printed ∙ prints_dropped w back.world back.drops;
       count = back.drops.count;
       dropped = t.gathered ∙ ap (λ (u : World). u.gathered) back.drops.is;
-      outside = t.outside ∙ ap outside_of back.drops.is;
+      lasting = t.lasting ∙ ap lasting_of back.drops.is;
       work = t.work ∙ work_dropped w back.world back.drops;
       height = ap length t.gathered ∙ back.gatherings;
       newest = subst (TakesNewest c.others) (sym t.gathered) (resumes_newest g c cs n back.world run back.resumed c.others refl);
@@ -93,35 +93,35 @@ pub record FailsOn (g : Game) (cs : List Live) (n : ℕ) (w : World) (run : Run)
   pub printed : prints world.events ≡ prints w.events
   pub count : ℕ
   pub dropped : world.gathered ≡ drop count w.gathered
-  pub outside : outside_of world ≡ outside_of w
+  pub lasting : lasting_of world ≡ lasting_of w
   pub work : w.meters.work ≤ world.meters.work
   pub failed : Failed g cs n world run
 
 -- the branches that a choice has left all fail where they begin
-pub clashes_fail : (g : Game) (k : Kind) (t height : ℕ) (ways : List WayOn) (cs : List Live) (bs : List Branch) (n : ℕ) (w : World) (run : Run) → AreClashes bs → Tried g k t height ways cs bs n w run → FailsOn g cs n w run
+pub clashes_fail : (g : Game) (k : ChoiceKind) (t height : ℕ) (ways : List WayOn) (cs : List Live) (bs : List Branch) (n : ℕ) (w : World) (run : Run) → AreClashes bs → Tried g k t height ways cs bs n w run → FailsOn g cs n w run
 clashes_fail g k t height ways cs [] n w run clash tried =
     let told = exhausted_tells k w in
-    record { world = exhausted k w; printed = told.printed; count = 0; dropped = told.gathered; outside = told.outside; work = omega (arith, told.work); failed = tried }
+    record { world = exhausted k w; printed = told.printed; count = 0; dropped = told.gathered; lasting = told.lasting; work = omega (arith, told.work); failed = tried }
 clashes_fail g k t height ways cs (Clash r work ∷ bs) n w run clash tried =
     let c : Live = record { kind = k; tag = t; others = bs; height = height; ways_on = ways } in
     cond_both (stays k bs) (c ∷ cs) cs (λ l. Failed g l n (begun r work w) run → FailsOn g cs n w run)
     (λ e f.
     let on = turns_back g c cs n (begun r work w) run f in
     let later = clashes_fail g k t height ways cs bs n on.world run clash on.tried in
-    record { world = later.world; printed = later.printed ∙ on.printed; count = on.count + later.count; dropped = later.dropped ∙ ap (drop later.count) on.dropped ∙ drop_twice later.count on.count w.gathered; outside = later.outside ∙ on.outside; work = let a = later.work in let b = on.work in omega (arith, a, b); failed = later.failed })
-    (λ e f. record { world = begun r work w; printed = refl; count = 0; dropped = refl; outside = refl; work = omega arith; failed = f })
+    record { world = later.world; printed = later.printed ∙ on.printed; count = on.count + later.count; dropped = later.dropped ∙ ap (drop later.count) on.dropped ∙ drop_twice later.count on.count w.gathered; lasting = later.lasting ∙ on.lasting; work = let a = later.work in let b = on.work in omega (arith, a, b); failed = later.failed })
+    (λ e f. record { world = begun r work w; printed = refl; count = 0; dropped = refl; lasting = refl; work = omega arith; failed = f })
     tried
 clashes_fail g k t height ways cs (Enter path work ∷ bs) n w run clash tried = absurd clash
 clashes_fail g k t height ways cs (Finds place o args path ∷ bs) n w run clash tried = absurd clash
 clashes_fail g k t height ways cs (TakeOut u whole into path ∷ bs) n w run clash tried = absurd clash
 
 -- a machine that has failed goes back
-pub back : {least : ℕ} → {ps : List Print} → (set : Setting) (m : Mid) (g : Game) (ms : List Choice) (lives : List Live) (n : ℕ) (w : World) (run : Run) (k : ℕ) → AreChoices g set.code ms lives → w.gathered ≡ drop k m.gathered → outside_of w ≡ m.outside → prints w.events ≡ ps → Failed g lives n w run → least ≤ w.meters.work → Comes least ps set (goes_back ms m) g n run
+pub back : {least : ℕ} → {ps : List Print} → (set : Setting) (m : Mid) (g : Game) (ms : List Choice) (lives : List Live) (n : ℕ) (w : World) (run : Run) (k : ℕ) → AreChoices g set.code ms lives → w.gathered ≡ drop k m.gathered → lasting_of w ≡ m.lasting → prints w.events ≡ ps → Failed g lives n w run → least ≤ w.meters.work → Comes least ps set (goes_back ms m) g n run
 back {least = least} {ps = ps} set m g ms lives n w run k none gathered out printed f le = ends_here set ending.Failed Failing g n w run refl (λ v x. x) printed (failed g [] n w run f) le
 back {least = least} {ps = ps} set m g ms lives n w run k (dead ms' c cs clash below rest) gathered out printed f le =
     let t = turns_back g c cs n w run f in
     let on = clashes_fail g c.kind c.tag c.height c.ways_on cs c.others n t.world run clash t.tried in
-    back set m g ms' cs n on.world run (k + (t.count + on.count)) rest (on.dropped ∙ ap (drop on.count) t.dropped ∙ drop_twice on.count t.count w.gathered ∙ ap (drop (t.count + on.count)) gathered ∙ drop_twice (t.count + on.count) k m.gathered) (on.outside ∙ t.outside ∙ out) (on.printed ∙ t.printed ∙ printed) on.failed (let a = on.work in let b = t.work in omega (arith, le, a, b))
+    back set m g ms' cs n on.world run (k + (t.count + on.count)) rest (on.dropped ∙ ap (drop on.count) t.dropped ∙ drop_twice on.count t.count w.gathered ∙ ap (drop (t.count + on.count)) gathered ∙ drop_twice (t.count + on.count) k m.gathered) (on.lasting ∙ t.lasting ∙ out) (on.printed ∙ t.printed ∙ printed) on.failed (let a = on.work in let b = t.work in omega (arith, le, a, b))
 back {least = least} {ps = ps} set m g ms lives n w run k (kept o ms' c cs is below rest) gathered out printed f le =
     let t = turns_back g c cs n w run f in
     let left : t.world.gathered ≡ drop (k + t.count) m.gathered = t.dropped ∙ ap (drop t.count) gathered ∙ drop_twice t.count k m.gathered in
@@ -132,7 +132,7 @@ back {least = least} {ps = ps} set m g ms lives n w run k (kept o ms' c cs is be
         live = c;
         lives = cs;
         registers = is.registers;
-        mirrors = record { agrees = is.agrees; tag = is.tag_at; choices_are = rest; below = below; stops_are = is.stops; stop_is = is.stop_at; gathered_is = there; outside_is = t.outside ∙ out; printed_is = t.printed ∙ printed };
+        mirrors = record { agrees = is.agrees; tag = is.tag_at; choices_are = rest; below = below; stops_are = is.stops; stop_is = is.stop_at; gathered_is = there; lasting_is = t.lasting ∙ out; printed_is = t.printed ∙ printed };
         way_is = is.way;
         tag = is.tag;
         height = sym t.height ∙ ap length there;
@@ -197,7 +197,7 @@ module _ (code : Code) (limits : Limits) (b : ℕ) (m : Mid) (ps : List Print) (
         lives = lives;
         ways = c.ways_on;
         registers = path.registers;
-        mirrors = record { agrees = record { bound = on.agrees.bound; vars = on.agrees.vars; heap = omega (arith, on.agrees.heap); trail = on.agrees.trail; since = on.agrees.since }; tag = on.tag; choices_are = on.choices_are; below = on.below; stops_are = on.stops_are; stop_is = on.stop_is; gathered_is = on.gathered_is; outside_is = on.outside_is; printed_is = on.printed_is };
+        mirrors = record { agrees = record { bound = on.agrees.bound; vars = on.agrees.vars; heap = omega (arith, on.agrees.heap); trail = on.agrees.trail; since = on.agrees.since }; tag = on.tag; choices_are = on.choices_are; below = on.below; stops_are = on.stops_are; stop_is = on.stop_is; gathered_is = on.gathered_is; lasting_is = on.lasting_is; printed_is = on.printed_is };
         stands = tried_plainly g c lives (Enter path work ∷ []) n w run kind e tried;
       }) (let z = plain.1 in omega (arith, le, z)))
 

@@ -107,7 +107,7 @@ module _ (g : Game) (code : Code) (limits : Limits) (c : BodyCode) (closure : Cl
         stops_are = i.stops_are;
         stop_is = i.stop_is;
         gathered_is = i.gathered_is;
-        outside_is = i.outside_is;
+        lasting_is = i.lasting_is;
         printed_is = i.printed_is;
       })
       (record {
@@ -208,7 +208,7 @@ module _ (code : Code) (limits : Limits) (m : Mid) (ps : List Print) (ops : List
         stops_are = i.stops_are;
         stop_is = i.stop_is;
         gathered_is = i.gathered_is;
-        outside_is = i.outside_is;
+        lasting_is = i.lasting_is;
         printed_is = i.printed_is;
       }
 
@@ -221,7 +221,7 @@ module _ (code : Code) (limits : Limits) (m : Mid) (ps : List Print) (ops : List
       (subst (λ l. Began g h.lives h.ways (closure_branch g parts closure args many l r) n seen run) e began) le
 
   fails_here : {least : ℕ} → Failed g h.lives n seen run → least ≤ seen.meters.work → Comes least ps now (Fails m0) g n run
-  fails_here {least = least} failed le = record { world = seen; at = record { lives = h.lives; choices = h.mirrors.choices_are; gathered = h.mirrors.gathered_is; outside = h.mirrors.outside_is; printed = h.mirrors.printed_is; failed = failed }; worked = le }
+  fails_here {least = least} failed le = record { world = seen; at = record { lives = h.lives; choices = h.mirrors.choices_are; gathered = h.mirrors.gathered_is; lasting = h.mirrors.lasting_is; printed = h.mirrors.printed_is; failed = failed }; worked = le }
 
   -- what comes of the goal
   comes_here : After g h.lives h.ways n (outcome_of on r (ask_closure g (walk m.state.subst value) args many on r seen)) run

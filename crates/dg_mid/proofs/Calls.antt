@@ -24,7 +24,7 @@ use Rattle.dg_mid.specs.State.{Frame, Call, Calls, Mid, Runs, Enters}
 use Rattle.dg_mid.specs.Step.{Setting, setting, unified, if_agreed, bound, passed, new_choice, inside as inside_choice, first_of, at_rule, enters, begins, entered, new_frame}
 use Rattle.dg_mid.specs.Units.{entering}
 use Rattle.dg_mid.specs.Codes.{Returns, RuleStands, RulesStand}
-use Rattle.dg_mid.specs.Reads.{silents, Behind, Layer, Reads, dead, kept, AreBelow, AreClashes, EntersAt, outside_of, Mirrors, Comes}
+use Rattle.dg_mid.specs.Reads.{silents, Behind, Layer, Reads, dead, kept, AreBelow, AreClashes, EntersAt, lasting_of, Mirrors, Comes}
 use Rattle.dg_mid.proofs.Here.{mirrors_on}
 use Rattle.dg_mid.proofs.Marks.{goes_on, below_next}
 use Rattle.dg_mid.proofs.Taking.{charge, unify_on, began_grows, trail_older}
@@ -110,7 +110,7 @@ module _ (g : Game) (code : Code) (limits : Limits) (call : Call) (pred : ℕ) (
         stops_are = i.stops_are;
         stop_is = i.stop_is;
         gathered_is = i.gathered_is;
-        outside_is = i.outside_is;
+        lasting_is = i.lasting_is;
         printed_is = i.printed_is;
       };
       pred = pred;
@@ -167,7 +167,7 @@ module _ (g : Game) (code : Code) (limits : Limits) (call : Call) (pred : ℕ) (
             stops_are = i.stops_are;
             stop_is = i.stop_is;
             gathered_is = i.gathered_is;
-            outside_is = i.outside_is;
+            lasting_is = i.lasting_is;
             printed_is = i.printed_is;
           };
           pred = pred;
@@ -208,20 +208,20 @@ module _ (g : Game) (code : Code) (limits : Limits) (call : Call) (pred : ℕ) (
       (λ e. enters_rule c rule cs rules (selected (first_of m.state.subst call) cs) w i stand.0 stand.1 (sym same ∙ e) (ap (λ S. selected (first_of S call) cs) (sym i.agrees.bound)) began le)
 
   -- gatherings that were dropped on the way back were none
-  mirrors_back : (count : ℕ) (w v : World) → Mirrors g code m ps q lives ways w → v.gathered ≡ drop count w.gathered → length v.gathered ≡ height → outside_of v ≡ outside_of w → prints v.events ≡ prints w.events → Mirrors g code m ps q lives ways v
-  mirrors_back count w v i dropped long out printed = mirrors_on g code m.state m.next_tag m.choices m.stops m.stop m.gathered m.outside ps ps q lives ways w v (same_length count w.gathered v.gathered dropped (long ∙ height_is ∙ ap length (sym i.gathered_is))) out (printed ∙ i.printed_is) i
+  mirrors_back : (count : ℕ) (w v : World) → Mirrors g code m ps q lives ways w → v.gathered ≡ drop count w.gathered → length v.gathered ≡ height → lasting_of v ≡ lasting_of w → prints v.events ≡ prints w.events → Mirrors g code m ps q lives ways v
+  mirrors_back count w v i dropped long out printed = mirrors_on g code m.state m.next_tag m.choices m.stops m.stop m.gathered m.lasting ps ps q lives ways w v (same_length count w.gathered v.gathered dropped (long ∙ height_is ∙ ap length (sym i.gathered_is))) out (printed ∙ i.printed_is) i
 
   others_begin : {least : ℕ} → (cs : List RuleCode) → OthersBegin least cs
   others_begin {least = least} [] [] w r work stand i f le =
       let t = turns_back g (live []) lives n (begun r work w) run f in
       let told = exhausted_tells (Rules pred) t.world in
-      let on = mirrors_back t.count w t.world i t.dropped t.height t.outside t.printed in
-      record { world = exhausted (Rules pred) t.world; at = record { lives = lives; choices = i.choices_are; gathered = told.gathered ∙ on.gathered_is; outside = told.outside ∙ on.outside_is; printed = told.printed ∙ on.printed_is; failed = t.tried }; worked = let z = t.work in omega (arith, le, z) }
+      let on = mirrors_back t.count w t.world i t.dropped t.height t.lasting t.printed in
+      record { world = exhausted (Rules pred) t.world; at = record { lives = lives; choices = i.choices_are; gathered = told.gathered ∙ on.gathered_is; lasting = told.lasting ∙ on.lasting_is; printed = told.printed ∙ on.printed_is; failed = t.tried }; worked = let z = t.work in omega (arith, le, z) }
   others_begin {least = least} [] (rule ∷ rules) w r work stand i f le = absurd stand
   others_begin {least = least} (c ∷ cs) [] w r work stand i f le = absurd stand
   others_begin {least = least} (c ∷ cs) (rule ∷ rules) w r work stand i f le =
       let t = turns_back g (live (rule ∷ rules)) lives n (begun r work w) run f in
-      let on = mirrors_back t.count w t.world i t.dropped (t.height ∙ rule_open g pred call.args call.many (silents answered after) q (call_cells call.args q rules) rule (left rules) height) t.outside t.printed in
+      let on = mirrors_back t.count w t.world i t.dropped (t.height ∙ rule_open g pred call.args call.many (silents answered after) q (call_cells call.args q rules) rule (left rules) height) t.lasting t.printed in
       first_begins c cs (others_begin cs) rule rules t.world stand on t.tried (let z = t.work in omega (arith, le, z))
 
   -- the rules that a choice has left
@@ -239,9 +239,9 @@ pub match_on : {least : ℕ} → {ps : List Print} → (g : Game) (code : Code) 
 match_on {least = least} {ps = ps} g code limits true m f path work lives ways n w run i layer began le =
     let v = begun path.registers work w in
     goes_on (setting g code limits) (record m { frames = f ∷ m.frames; inner = [] }) path.steps [] g n v run layer
-    (record { lives = lives; ways = ways; registers = path.registers; mirrors = mirrors_on g code m.state m.next_tag m.choices m.stops m.stop m.gathered m.outside ps ps path.registers lives ways w v refl refl i.printed_is i; stands = began }) le
+    (record { lives = lives; ways = ways; registers = path.registers; mirrors = mirrors_on g code m.state m.next_tag m.choices m.stops m.stop m.gathered m.lasting ps ps path.registers lives ways w v refl refl i.printed_is i; stands = began }) le
 match_on {least = least} {ps = ps} g code limits false m f path work lives ways n w run i layer began le =
-    record { world = begun path.registers work w; at = record { lives = lives; choices = i.choices_are; gathered = i.gathered_is; outside = i.outside_is; printed = i.printed_is; failed = began }; worked = le }
+    record { world = begun path.registers work w; at = record { lives = lives; choices = i.choices_are; gathered = i.gathered_is; lasting = i.lasting_is; printed = i.printed_is; failed = began }; worked = le }
 
 pub enters_at : {least : ℕ} → {ps : List Print} → (g : Game) (code : Code) (limits : Limits) (call : Call) (m : Mid) (n : ℕ) (w : World) (run : Run) → EntersAt code call m ps g n w run → least ≤ w.meters.work + entering (setting g code limits) call m.ops m →
     Comes least ps (setting g code limits) (entered (setting g code limits) call m.ops m) g n run
@@ -289,7 +289,7 @@ enters_at {least = least} {ps = ps} g code limits call m n w run h le =
       stops_are = i.stops_are;
       stop_is = i.stop_is;
       gathered_is = i.gathered_is;
-      outside_is = i.outside_is;
+      lasting_is = i.lasting_is;
       printed_is = i.printed_is;
     })
     (record {

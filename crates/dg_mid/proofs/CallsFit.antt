@@ -24,7 +24,7 @@ use Rattle.dg_mid.specs.declared.code.Op.TheVariants as op
 use Rattle.dg_mid.specs.declared.code.Gathered.{Gathered}
 use Rattle.dg_mid.specs.declared.code.Gathered.TheVariants as gathered
 use Rattle.dg_mid.specs.declared.code.RuleCode.{RuleCode}
-use Rattle.dg_mid.specs.Actions.{goal_of, terms_of, asked_at, act_at, found_at, world_of, outside_in}
+use Rattle.dg_mid.specs.Actions.{goal_of, terms_of, asked_at, act_at, found_at, world_of, lasting_in}
 use Rattle.dg_mid.specs.Calls.{FirstFits, StatusFits, AllHoldFew}
 use Rattle.dg_mid.specs.Code.{block_at, rules_at, selected}
 use Rattle.dg_mid.specs.Codes.{End, Commits, Refuses, Backs, Leaves, Keeps, Finishes, found_goals, found_end, Stands, jumps, returns, commits, refuses, backs, leaves, keeps, finishes, acts, ask, last_ask, query, last_query, holds, objects, only, either, selects, once, negates, branch, exhausts, shields, collects, accumulates, forever, Others, last_list, more_lists, Branches, no_branch, a_branch, Codes}
@@ -131,16 +131,16 @@ module _ (g : Game) (n : ℕ) (code : Code) (limits : Limits) (codes : Codes g.p
   on_stops (Some u) m f = on_stop_at u m.stops m f f.1
 
   on_done : (act : Act) (m : Mid) → CodeFits m.ops → F m → S (done set act m)
-  on_done (GoesAct [] w) m o f = if_ends _ ending.KeepLimit (Runs (outside_in w m)) (o, f)
+  on_done (GoesAct [] w) m o f = if_ends _ ending.KeepLimit (Runs (lasting_in w m)) (o, f)
   on_done (GoesAct (s ∷ steps) w) m o f = (o, (f.0, f.1, on_cut (cut_of m.frames) m.choices f.2))
-  on_done (Tests passed w) m o f = on_passed passed (outside_in w m) o f
+  on_done (Tests passed w) m o f = on_passed passed (lasting_in w m) o f
   on_done (Unifies made es w) m o f =
-      let m' = made_in made (outside_in w m) in
+      let m' = made_in made (lasting_in w m) in
       let u = solve made.bound es in
       on_charged (made.heap - m.state.heap) m (unified set u m' (Runs (bound u m'))) (on_unified u m' (Runs (bound u m')) f (o, f))
   on_done (Ends x w) m o f = tt
   on_done (FailsNow w) m o f = f
-  on_done (Stops w) m o f = on_stops m.stop (outside_in w m) f
+  on_done (Stops w) m o f = on_stops m.stop (lasting_in w m) f
 
   -- ## Queries
 

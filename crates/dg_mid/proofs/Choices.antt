@@ -20,7 +20,7 @@ use Rattle.dg_mid.specs.Code.{block_at}
 use Rattle.dg_mid.specs.State.{Place, Frame, Way, Goes, Stop, Mid, Runs, vars_of, cut_of, place_of}
 use Rattle.dg_mid.specs.Step.{Setting, setting, does, more, charged, passed, within, new_choice, inside as inside_choice}
 use Rattle.dg_mid.specs.Codes.{End, Stands, Others, last_list, more_lists, Commits, Refuses, Backs, forever}
-use Rattle.dg_mid.specs.Reads.{Behind, Layer, kept, WayOf, GoesAt, AreStops, end_steps, outside_of, Mirrors, Comes, GathersAt}
+use Rattle.dg_mid.specs.Reads.{Behind, Layer, kept, WayOf, GoesAt, AreStops, end_steps, lasting_of, Mirrors, Comes, GathersAt}
 use Rattle.dg_mid.proofs.Here.{Here, steps_of}
 use Rattle.dg_mid.proofs.Marks.{goes_on, below_next}
 use Rattle.dg_mid.proofs.Taking.{behind, taken_in, comes, charge, heap_full}
@@ -40,7 +40,7 @@ inside_is q r cells e = subst (λ (x : Registers). IsInside q x cells) (sym e) (
 
 -- the machine inside a choice that has this way on
 pub choice_mirrors : (g : Game) (code : Code) (m : Mid) (ps : List Print) (q r : Registers) (lives : List Live) (ways now_ways : List WayOn) (w v : World) (way : Way) (arguments : ℕ) (c : Live) (now_stops : List Stop) (now_stop : Option ℕ) →
-    Mirrors g code m ps q lives ways w → v.gathered ≡ w.gathered → outside_of v ≡ outside_of w → prints v.events ≡ ps → IsInside q r (10 + arguments) → AreStops g code now_stops now_ways → r.stoppable ≡ now_stop →
+    Mirrors g code m ps q lives ways w → v.gathered ≡ w.gathered → lasting_of v ≡ lasting_of w → prints v.events ≡ ps → IsInside q r (10 + arguments) → AreStops g code now_stops now_ways → r.stoppable ≡ now_stop →
     AreStops g code m.stops c.ways_on → open_at c.others c.height ≡ length m.gathered → c.tag ≡ q.next_tag → WayOf g code way m.frames m.inner m.state.subst q c.kind c.others →
     Mirrors g code (record (inside_choice way arguments m) { stops = now_stops; stop = now_stop }) ps r (c ∷ lives) now_ways v
 choice_mirrors g code m ps q r lives ways now_ways w v way arguments c now_stops now_stop i same out printed on stops_are stop_is old height tag way_is = record {
@@ -53,12 +53,12 @@ choice_mirrors g code m ps q r lives ways now_ways w v way arguments c now_stops
   stops_are = stops_are;
   stop_is = stop_is;
   gathered_is = same ∙ i.gathered_is;
-  outside_is = out ∙ i.outside_is;
+  lasting_is = out ∙ i.lasting_is;
   printed_is = printed;
 }
 
 -- the machine inside the next choice, which has no way on, with so many cells more
-pub passed_mirrors : (g : Game) (code : Code) (m : Mid) (ps : List Print) (q r : Registers) (lives : List Live) (ways : List WayOn) (w v : World) (cells : ℕ) → Mirrors g code m ps q lives ways w → v.gathered ≡ w.gathered → outside_of v ≡ outside_of w → prints v.events ≡ ps → IsInside q r cells → r.stoppable ≡ m.stop →
+pub passed_mirrors : (g : Game) (code : Code) (m : Mid) (ps : List Print) (q r : Registers) (lives : List Live) (ways : List WayOn) (w v : World) (cells : ℕ) → Mirrors g code m ps q lives ways w → v.gathered ≡ w.gathered → lasting_of v ≡ lasting_of w → prints v.events ≡ ps → IsInside q r cells → r.stoppable ≡ m.stop →
     Mirrors g code (more cells (passed m)) ps r lives ways v
 passed_mirrors g code m ps q r lives ways w v cells i same out printed on stop = record {
   agrees = record { bound = on.bound ∙ i.agrees.bound; vars = on.vars ∙ i.agrees.vars; heap = omega (arith, i.agrees.heap, on.heap); trail = omega (arith, i.agrees.trail, on.trail); since = i.agrees.since };
@@ -68,7 +68,7 @@ passed_mirrors g code m ps q r lives ways w v cells i same out printed on stop =
   stops_are = i.stops_are;
   stop_is = stop;
   gathered_is = same ∙ i.gathered_is;
-  outside_is = out ∙ i.outside_is;
+  lasting_is = out ∙ i.lasting_is;
   printed_is = printed;
 }
 
@@ -122,7 +122,7 @@ module _ (code : Code) (limits : Limits) (m : Mid) (ops : List Op) (goals : List
   m' = record m { ops = ops }
 
   -- behind a goal without terms
-  pub mirrors_behind : (ps : List Print) (q : Registers) (lives : List Live) (ways : List WayOn) (v : World) → Mirrors g code m ps q lives ways w → v.gathered ≡ w.gathered → outside_of v ≡ outside_of w → prints v.events ≡ ps → Mirrors g code m ps (record q { heap = q.heap + 0 }) lives ways v
+  pub mirrors_behind : (ps : List Print) (q : Registers) (lives : List Live) (ways : List WayOn) (v : World) → Mirrors g code m ps q lives ways w → v.gathered ≡ w.gathered → lasting_of v ≡ lasting_of w → prints v.events ≡ ps → Mirrors g code m ps (record q { heap = q.heap + 0 }) lives ways v
   mirrors_behind ps q lives ways v i same out printed = record {
     agrees = record { bound = i.agrees.bound; vars = i.agrees.vars; heap = omega (arith, i.agrees.heap); trail = i.agrees.trail; since = i.agrees.since };
     tag = i.tag;
@@ -131,7 +131,7 @@ module _ (code : Code) (limits : Limits) (m : Mid) (ops : List Op) (goals : List
     stops_are = i.stops_are;
     stop_is = i.stop_is;
     gathered_is = same ∙ i.gathered_is;
-    outside_is = out ∙ i.outside_is;
+    lasting_is = out ∙ i.lasting_is;
     printed_is = printed;
   }
 
@@ -181,7 +181,7 @@ module _ (code : Code) (limits : Limits) (m : Mid) (ops : List Op) (goals : List
         lives = h.lives;
         ways = h.ways;
         registers = inside 0 q;
-        mirrors = record { agrees = record { bound = i.agrees.bound; vars = i.agrees.vars; heap = omega (arith, i.agrees.heap); trail = i.agrees.trail; since = i.agrees.since }; tag = i.tag; choices_are = i.choices_are; below = i.below; stops_are = i.stops_are; stop_is = i.stop_is; gathered_is = i.gathered_is; outside_is = i.outside_is; printed_is = i.printed_is };
+        mirrors = record { agrees = record { bound = i.agrees.bound; vars = i.agrees.vars; heap = omega (arith, i.agrees.heap); trail = i.agrees.trail; since = i.agrees.since }; tag = i.tag; choices_are = i.choices_are; below = i.below; stops_are = i.stops_are; stop_is = i.stop_is; gathered_is = i.gathered_is; lasting_is = i.lasting_is; printed_is = i.printed_is };
         stands = comes code m ps steps g n w run x f (outs-Either (list ∷ [])) h;
       }) (omega (arith, le))
 

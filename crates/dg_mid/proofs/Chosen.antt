@@ -60,11 +60,11 @@ module _ (code : Code) (limits : Limits) (m : Mid) (ops : List Op) (goals : List
       let f = form.Select site mode lists in
       let q = behind code m ps steps g n w run x f (outs-Select site mode lists) h in
       let v = taken_in code m ps steps g n w run x f (outs-Select site mode lists) h in
-      let v0 = world_with v.events m.gathered v.meters m.outside.typed m.outside.dice m.outside.facts m.outside.sites in
+      let v0 = world_with v.events m.gathered v.meters m.lasting.typed m.lasting.dice m.lasting.facts m.lasting.sites in
       let m' : Mid = record m { ops = ops } in
       let c : Choice = selecting g site mode (length blocks) (world_of [] m') in
       let st = subst (λ k. StandsIn g h.lives h.ways (path_of (goals_at vars tag (get_or lists (selecting g site mode k v0).branch []) ++ steps) q) n (picked site (selecting g site mode k v0) v0) run) (as_many code blocks lists goals end bs)
-      (subst (λ y. StandsIn g h.lives h.ways (path_of (goals_at vars tag (get_or lists (selecting g site mode (length lists) y).branch []) ++ steps) q) n (picked site (selecting g site mode (length lists) y) y) run) (world_is v m.gathered m.outside i.gathered_is i.outside_is)
+      (subst (λ y. StandsIn g h.lives h.ways (path_of (goals_at vars tag (get_or lists (selecting g site mode (length lists) y).branch []) ++ steps) q) n (picked site (selecting g site mode (length lists) y) y) run) (world_is v m.gathered m.lasting i.gathered_is i.lasting_is)
       (comes code m ps steps g n w run x f (outs-Select site mode lists) h)) in
       goes_on set (at_choice set c site blocks other m') (goals_at vars tag (get_or lists c.branch []) ++ steps) [] g n (picked site c v0) run
       (layered g code m.frames m.inner rest end below valued (block_at code (get_or blocks c.branch other)) (get_or lists c.branch []) goals (branch_stands code blocks lists other c.branch goals end bs s))
@@ -80,7 +80,7 @@ module _ (code : Code) (limits : Limits) (m : Mid) (ops : List Op) (goals : List
           stops_are = i.stops_are;
           stop_is = i.stop_is;
           gathered_is = refl;
-          outside_is = refl;
+          lasting_is = refl;
           printed_is = i.printed_is;
         };
         stands = st;

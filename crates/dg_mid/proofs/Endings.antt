@@ -74,7 +74,7 @@ finds_if_well args o r None w = tt
 finds_if_well args o r (Some v) w = finds_well args o r v w
 
 pub found_well : (f : Find) (o : ℕ) (m : Mid) → EndsWell (found_at [] f o m)
-found_well f o m = finds_if_well f.args o (registers_of m) (found m.outside.facts f.place o) (begun (registers_of m) 1 (world_of [] m))
+found_well f o m = finds_if_well f.args o (registers_of m) (found m.lasting.facts f.place o) (begun (registers_of m) 1 (world_of [] m))
 
 -- ## Values that are made
 
@@ -138,8 +138,8 @@ act_well g (action.Arith f a b c) m =
 act_well g (action.Compare f a b) m = tt
 act_well g (action.Random a b c) m =
     let v : _ → Value = λ t. walk m.state.subst (value_of g.program (vars_of m.frames) t) in
-    throws_well (of_numbers (thrown (die g.dice m.outside.dice)) (v a) (v b)) (value_of g.program (vars_of m.frames) c) (registers_of m) _
-act_well g (action.Input t) m = line_well g m.outside.typed (value_of g.program (vars_of m.frames) t) (registers_of m) (world_of [] m)
+    throws_well (of_numbers (thrown (die g.dice m.lasting.dice)) (v a) (v b)) (value_of g.program (vars_of m.frames) c) (registers_of m) _
+act_well g (action.Input t) m = line_well g m.lasting.typed (value_of g.program (vars_of m.frames) t) (registers_of m) (world_of [] m)
 act_well g (action.SplitWord a b) m = splits_well g (letters_in_word g.program.words (walk m.state.subst (value_of g.program (vars_of m.frames) a))) (value_of g.program (vars_of m.frames) b) (registers_of m) _
 act_well g (action.JoinWords a b) m = joins_well g (joined_letters g.program.words (resolved m.state.subst (value_of g.program (vars_of m.frames) a))) (value_of g.program (vars_of m.frames) b) (registers_of m) _
 act_well g action.Just m = tt

@@ -25,7 +25,7 @@ use Rattle.dg_mid.specs.Code.{block_at, selected, excluded}
 use Rattle.dg_mid.specs.State.{Place, Frame, Call, Find, Goes, Calls, Tries, Choice, Mid, Status, Runs, Enters, Resumes, Fails, Ended, place_of, inner_for, cut_choices, Takes}
 use Rattle.dg_mid.specs.Step.{Setting, trying, tries, done, made_in, gathers, taken_out, charged, unified, bound, trail_more, if_agreed, enters, begins, returned, returns, commits, refuses, leaves, keeps, new_frame, runs, entered, enter, resumed, goes_back, step, first_of, inside, passed, at_rule, at_goal, takes_goal, keeps_value, takes, newest_with, takes_newest}
 use Rattle.dg_mid.specs.Potential.{begins_goto, Tidy, IsOver}
-use Rattle.dg_mid.specs.Actions.{registers_of, world_of, world_by, outside_in}
+use Rattle.dg_mid.specs.Actions.{registers_of, world_of, world_by, lasting_in}
 use Rattle.dg_mid.specs.Falling.{jumping, frames_deep, deep, times, choices_left, left_at}
 
 times_more : (m n k : ℕ) → m ≤ n → times m k ≤ times n k
@@ -89,7 +89,7 @@ entered_less g call (x ∷ ops) m = omega arith
 
 made_less : (g : Setting) (made : Registers) (es : Equations) (w : World) (m : Mid) (k : ℕ) → 1 + choices_left m.choices < k → 2 * deep m.frames m.inner + 2 + jumping m.ops + choices_left m.choices < k → left_at (done g (Unifies made es w) m) < k
 made_less g made es w m k a h =
-    let m' = made_in made (outside_in w m) in
+    let m' = made_in made (lasting_in w m) in
     charged_less g (made.heap - m.state.heap) m _ k (unified_less g (solve made.bound es) m' (Runs (bound (solve made.bound es) m')) k a h)
 
 number_less : (g : Setting) (o : Option ℕ) (into : Value) (r : Registers) (w : World) (m : Mid) (k : ℕ) → 1 + choices_left m.choices < k → 2 * deep m.frames m.inner + 2 + jumping m.ops + choices_left m.choices < k → left_at (done g (gives_number o into r w) m) < k
@@ -188,12 +188,12 @@ tries_less g f (o ∷ []) m =
     let m' = trying g f [] m in
     let one = jumping_one (block_at g.code f.next) in
     let few = inner_more f.many (place_of m) m.inner in
-    found_less g f.args o (found m.outside.facts f.place o) (registers_of m') (begun (registers_of m') 1 (world_of [] m')) m' _ (omega arith) (omega (arith, one, few))
+    found_less g f.args o (found m.lasting.facts f.place o) (registers_of m') (begun (registers_of m') 1 (world_of [] m')) m' _ (omega arith) (omega (arith, one, few))
 tries_less g f (o ∷ p ∷ os) m =
     let m' = trying g f (p ∷ os) m in
     let one = jumping_one (block_at g.code f.next) in
     let few = inner_more f.many (place_of m) m.inner in
-    charged_less g (10 + length f.args) m _ _ (found_less g f.args o (found m.outside.facts f.place o) (registers_of m') (begun (registers_of m') 1 (world_of [] m')) m' _ (omega arith) (omega (arith, one, few)))
+    charged_less g (10 + length f.args) m _ _ (found_less g f.args o (found m.lasting.facts f.place o) (registers_of m') (begun (registers_of m') 1 (world_of [] m')) m' _ (omega arith) (omega (arith, one, few)))
 
 pub step_falls : (g : Setting) (now : Status) → Tidy g.code → takes_goal now ≡ false → (IsOver now → ⊥) → left_at (step g now) < left_at now
 step_falls g (Runs m) code e on = runs_less g m.ops m code e

@@ -89,18 +89,18 @@ module _ (code : Code) (limits : Limits) (m : Mid) (ops : List Op) (goals : List
   does_so : {least : ℕ} → {ps : List Print} → (k : ℕ) (f : Find) (heap trail : ℕ) (es : List Event) (meters : _) (lives : List Live) (ways : List WayOn) (e e' : Effect) → Stands code (block_at code f.next) (found_goals f.many goals) (found_end f.many goals end) →
       let m0 = more k m' in
       let q0 = regs m.next_tag m.stop m.state.subst m.state.vars heap trail in
-      let v0 = world_with es m.gathered meters m.outside.typed m.outside.dice m.outside.facts m.outside.sites in
+      let v0 = world_with es m.gathered meters m.lasting.typed m.lasting.dice m.lasting.facts m.lasting.sites in
       Mirrors g code m0 ps q0 lives ways v0 → Grows v0 run.world → AlikeAsked q0 (registers_of m0) tag steps v0 (world_of [] m0) f.place f.args f.many (numbers 0 g.program.objects) e e' →
       After g lives ways n (outcome_of steps q0 e) run → least ≤ effect_work e → Comes least ps set (seeks set f e' m0) g n run
   does_so {least = least} {ps = ps} k f heap trail es meters lives ways e e' there i happened (at_once a b h) st le =
       let m0 = more k m' in
       let q0 = regs m.next_tag m.stop m.state.subst m.state.vars heap trail in
-      let v0 = world_with es m.gathered meters m.outside.typed m.outside.dice m.outside.facts m.outside.sites in
+      let v0 = world_with es m.gathered meters m.lasting.typed m.lasting.dice m.lasting.facts m.lasting.sites in
       subst (λ l. Comes least (followed ps (said_to l (done set b m0))) set (done set b m0) g n run) h.silent
       (act_on code limits m0 goals end rest g n run stands below valued ps q0 lives ways v0 a b h.alike i h.grows happened st le)
   does_so {least = least} {ps = ps} k f heap trail es meters lives ways e e' there i happened (in_turn j) st le =
       let q0 = regs m.next_tag m.stop m.state.subst m.state.vars heap trail in
-      let v0 = world_with es m.gathered meters m.outside.typed m.outside.dice m.outside.facts m.outside.sites in
+      let v0 = world_with es m.gathered meters m.lasting.typed m.lasting.dice m.lasting.facts m.lasting.sites in
       let os = numbers 0 g.program.objects in
       let bs = object_branches f.place f.args f.many steps q0 os in
       record {
@@ -109,7 +109,7 @@ module _ (code : Code) (limits : Limits) (m : Mid) (ops : List Op) (goals : List
           live = record { kind = Plain; tag = m.next_tag; others = bs; height = length m.gathered; ways_on = ways };
           lives = lives;
           registers = q0;
-          mirrors = record { agrees = i.agrees; tag = i.tag; choices_are = i.choices_are; below = i.below; stops_are = i.stops_are; stop_is = i.stop_is; gathered_is = i.gathered_is; outside_is = i.outside_is; printed_is = i.printed_is };
+          mirrors = record { agrees = i.agrees; tag = i.tag; choices_are = i.choices_are; below = i.below; stops_are = i.stops_are; stop_is = i.stop_is; gathered_is = i.gathered_is; lasting_is = i.lasting_is; printed_is = i.printed_is };
           way_is = (refl, record { goals = goals; end = end; rest = rest; stands = there; below = below; gathers = valued; others_are = refl });
           tag = refl;
           height = objects_open f.place f.args f.many steps q0 os (length m.gathered);
@@ -133,14 +133,14 @@ module _ (code : Code) (limits : Limits) (m : Mid) (ops : List Op) (goals : List
       let q = behind code m ps steps g n w run x f is h in
       let v = taken_in code m ps steps g n w run x f is h in
       let q0 = regs m.next_tag m.stop m.state.subst m.state.vars q.heap q.trail in
-      let v0 = world_with v.events m.gathered v.meters m.outside.typed m.outside.dice m.outside.facts m.outside.sites in
+      let v0 = world_with v.events m.gathered v.meters m.lasting.typed m.lasting.dice m.lasting.facts m.lasting.sites in
       let here : Find = record { place = place; args = args; many = many; next = next } in
-      let happened : Grows v0 run.world = subst (λ (y : World). Grows y run.world) (world_is v m.gathered m.outside i.gathered_is i.outside_is) (taken_grows code m ps steps g n w run x f is h) in
-      let o = subst (λ y. After g h.lives h.ways n (outcome_of steps q0 (asked g place args many steps q0 y)) run) (world_is v m.gathered m.outside i.gathered_is i.outside_is)
+      let happened : Grows v0 run.world = subst (λ (y : World). Grows y run.world) (world_is v m.gathered m.lasting i.gathered_is i.lasting_is) (taken_grows code m ps steps g n w run x f is h) in
+      let o = subst (λ y. After g h.lives h.ways n (outcome_of steps q0 (asked g place args many steps q0 y)) run) (world_is v m.gathered m.lasting i.gathered_is i.lasting_is)
       (subst (λ y. After g h.lives h.ways n (outcome_of steps y (asked g place args many steps y v)) run) (registers_are q m.next_tag m.stop m.state.subst m.state.vars i.tag i.stop_is i.agrees.bound i.agrees.vars)
       (subst (λ e. After g h.lives h.ways n (outcome_of steps q e) run) (acts q v) (comes code m ps steps g n w run x f is h))) in
-      let same : (es' : List Event) → AlikeAsked q0 (registers_of m0) tag steps v0 (world_with es' m.gathered nothing_counted m.outside.typed m.outside.dice m.outside.facts m.outside.sites) place args many (numbers 0 g.program.objects) (asked g place args many steps q0 v0) (asked g place args true [] (registers_of m0) (world_with es' m.gathered nothing_counted m.outside.typed m.outside.dice m.outside.facts m.outside.sites)) =
-      λ es'. asked_alike m.next_tag m.stop m.state.subst m.state.vars q.heap q.trail m0.state.heap m0.state.trail v.events es' m.gathered v.meters nothing_counted m.outside.typed m.outside.dice m.outside.facts m.outside.sites tag steps g place args many in
+      let same : (es' : List Event) → AlikeAsked q0 (registers_of m0) tag steps v0 (world_with es' m.gathered nothing_counted m.lasting.typed m.lasting.dice m.lasting.facts m.lasting.sites) place args many (numbers 0 g.program.objects) (asked g place args many steps q0 v0) (asked g place args true [] (registers_of m0) (world_with es' m.gathered nothing_counted m.lasting.typed m.lasting.dice m.lasting.facts m.lasting.sites)) =
+      λ es'. asked_alike m.next_tag m.stop m.state.subst m.state.vars q.heap q.trail m0.state.heap m0.state.trail v.events es' m.gathered v.meters nothing_counted m.lasting.typed m.lasting.dice m.lasting.facts m.lasting.sites tag steps g place args many in
       let work = effect_works q0 (registers_of m0) tag steps v0 (world_of ps m0) place args many (numbers 0 g.program.objects) _ _ refl (i.printed_is ∙ sym (nothing_first ps)) (same (map Prints ps)) in
       charge set [] k m' _ g n run
       (heap_full set m' ps k v0 g n run i.printed_is (omega (arith, i.agrees.heap, taken)) happened)
@@ -153,7 +153,7 @@ module _ (code : Code) (limits : Limits) (m : Mid) (ops : List Op) (goals : List
         stops_are = i.stops_are;
         stop_is = refl;
         gathered_is = refl;
-        outside_is = refl;
+        lasting_is = refl;
         printed_is = i.printed_is;
       })
       happened (same []) o (omega (arith, le, work, written)))
@@ -177,15 +177,15 @@ module _ (code : Code) (limits : Limits) (g : Game) (n : ℕ) (w : World) (run :
       Mirrors g code m ps r lives ways w → Began g lives ways (Finds f.place o f.args (path_of on r)) n w run → least ≤ w.meters.work + act_work (found_at ps f o m) → Comes least ps here (done here (found_at [] f o m) m) g n run
   found_on {least = least} {ps = ps} f o m goals end rest r on lives ways stands below valued e i began le =
       let q0 = regs m.next_tag m.stop m.state.subst m.state.vars r.heap r.trail in
-      let v0 = world_with w.events m.gathered w.meters m.outside.typed m.outside.dice m.outside.facts m.outside.sites in
-      let is = world_is w m.gathered m.outside i.gathered_is i.outside_is in
-      let at : Act = finds_if_set f.args o q0 (found m.outside.facts f.place o) (begun q0 1 v0) in
+      let v0 = world_with w.events m.gathered w.meters m.lasting.typed m.lasting.dice m.lasting.facts m.lasting.sites in
+      let is = world_is w m.gathered m.lasting i.gathered_is i.lasting_is in
+      let at : Act = finds_if_set f.args o q0 (found m.lasting.facts f.place o) (begun q0 1 v0) in
       let went = subst (λ l. Went g lives ways n (move_of l q0 at) run) e
       (subst (λ y. Went g lives ways n (move_of on q0 (finds_if_set f.args o q0 (found y.facts f.place o) (begun q0 1 y))) run) is
       (subst (λ x. Went g lives ways n (move_of on x (finds_if_set f.args o x (found w.facts f.place o) (begun x 1 w))) run) (registers_are r m.next_tag m.stop m.state.subst m.state.vars i.tag i.stop_is i.agrees.bound i.agrees.vars) began)) in
       let happened : Grows v0 run.world = subst (λ (y : World). Grows y run.world) is (began_grows g lives ways (Finds f.place o f.args (path_of on r)) n w run began) in
-      let same : (es' : List Event) → AtOnce q0 (registers_of m) (cut_of m.frames).tag (steps_of m goals end rest) v0 (world_with es' m.gathered nothing_counted m.outside.typed m.outside.dice m.outside.facts m.outside.sites) at (finds_if_set f.args o (registers_of m) (found m.outside.facts f.place o) (begun (registers_of m) 1 (world_with es' m.gathered nothing_counted m.outside.typed m.outside.dice m.outside.facts m.outside.sites))) =
-      λ es'. found_alike m.next_tag m.stop m.state.subst m.state.vars r.heap r.trail m.state.heap m.state.trail w.events es' m.gathered w.meters nothing_counted m.outside.typed m.outside.dice m.outside.facts m.outside.sites (cut_of m.frames).tag (steps_of m goals end rest) f.args o (found m.outside.facts f.place o) in
+      let same : (es' : List Event) → AtOnce q0 (registers_of m) (cut_of m.frames).tag (steps_of m goals end rest) v0 (world_with es' m.gathered nothing_counted m.lasting.typed m.lasting.dice m.lasting.facts m.lasting.sites) at (finds_if_set f.args o (registers_of m) (found m.lasting.facts f.place o) (begun (registers_of m) 1 (world_with es' m.gathered nothing_counted m.lasting.typed m.lasting.dice m.lasting.facts m.lasting.sites))) =
+      λ es'. found_alike m.next_tag m.stop m.state.subst m.state.vars r.heap r.trail m.state.heap m.state.trail w.events es' m.gathered w.meters nothing_counted m.lasting.typed m.lasting.dice m.lasting.facts m.lasting.sites (cut_of m.frames).tag (steps_of m goals end rest) f.args o (found m.lasting.facts f.place o) in
       let alike = same [] in
       let work = act_works q0 (registers_of m) (cut_of m.frames).tag (steps_of m goals end rest) v0 (world_of ps m) at (found_at ps f o m) refl (i.printed_is ∙ sym (nothing_first ps)) (same (map Prints ps)).alike in
       subst (λ l. Comes least (followed ps (said_to l (done here (found_at [] f o m) m))) here (done here (found_at [] f o m) m) g n run) alike.silent
@@ -198,7 +198,7 @@ module _ (code : Code) (limits : Limits) (g : Game) (n : ℕ) (w : World) (run :
         stops_are = i.stops_are;
         stop_is = refl;
         gathered_is = refl;
-        outside_is = refl;
+        lasting_is = refl;
         printed_is = i.printed_is;
       })
       alike.grows happened went (omega (arith, le, work)))
@@ -217,7 +217,7 @@ module _ (code : Code) (limits : Limits) (g : Game) (n : ℕ) (w : World) (run :
       Tried g c.kind c.tag c.height c.ways_on lives c.others n w run → TriesAt g code f os m.frames m.inner q c.others → least ≤ w.meters.work + found_work here ps f os m → Comes least ps here (tries here f os m) g n run
   tries_on {least = least} {ps = ps} f [] m c lives q i tag kind height tried t le =
       let failed = tried_plainly g c lives [] n w run kind t.others_are tried in
-      record { world = w; at = record { lives = lives; choices = i.choices_are; gathered = i.gathered_is; outside = i.outside_is; printed = i.printed_is; failed = failed }; worked = omega (arith, le) }
+      record { world = w; at = record { lives = lives; choices = i.choices_are; gathered = i.gathered_is; lasting = i.lasting_is; printed = i.printed_is; failed = failed }; worked = omega (arith, le) }
   tries_on {least = least} {ps = ps} f (o ∷ []) m c lives q i tag kind height tried t le =
       let after = steps_of m t.goals t.end t.rest in
       let r = inside 0 q in
@@ -233,7 +233,7 @@ module _ (code : Code) (limits : Limits) (g : Game) (n : ℕ) (w : World) (run :
         stops_are = i.stops_are;
         stop_is = i.stop_is;
         gathered_is = i.gathered_is;
-        outside_is = i.outside_is;
+        lasting_is = i.lasting_is;
         printed_is = i.printed_is;
       })
       began le

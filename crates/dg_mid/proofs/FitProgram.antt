@@ -2,7 +2,7 @@
 use Rattle.std.proofs.Common.{ℕ, zero, suc, ◌≤◌, List, [], ◌∷◌, Option, Some, None, Bool, false, sym, ap, subst, arith, length, get_or}
 use Rattle.std.specs.List.{All}
 use Rattle.std.specs.Prelude.{slice_get}
-use Rattle.dg_base.specs.Goals.{goals_of, terms_held}
+use Rattle.dg_base.specs.Goals.{all_goals_of, terms_held}
 use Rattle.dg_base.proofs.NodeLemmas.{inside as inside_of}
 use Rattle.dg_base.specs.Sound.{IsGoalOf, IsPredOf, IsRuleOf, IsClosureOf, IsEntry, FitsHeads, FitsProgram, closure_vars, IsSound}
 use Rattle.dg_base.specs.declared.program.ClosureBody.{ClosureBody}
@@ -48,7 +48,7 @@ module _ (g : Game) (n : ℕ) (code : Code) (codes : Codes g.program code) (soun
 
   -- a rule holds few terms in each goal
   abbrev RuleFew : Rule → Type 0
-  RuleFew rule = All (HoldsFew n) (goals_of rule.body)
+  RuleFew rule = All (HoldsFew n) (all_goals_of rule.body)
 
   abbrev PredFew : Pred → Type 0
   PredFew pred = All RuleFew pred.rules
@@ -57,7 +57,7 @@ module _ (g : Game) (n : ℕ) (code : Code) (codes : Codes g.program code) (soun
   BodyFits rule = AreFit rule.body
 
   rules_are : (rules : List Rule) → All (IsRuleOf g.program) rules → All RuleFew rules → All BodyFits rules
-  rules_are rules a b k d lt = let rule = get_or rules k d in goals_are rule.vars (goals_of rule.body) (a k d lt).body (b k d lt)
+  rules_are rules a b k d lt = let rule = get_or rules k d in goals_are rule.vars (all_goals_of rule.body) (a k d lt).body (b k d lt)
 
   preds_are : (preds : List Pred) (i : ℕ) → All (IsPredOf g.program) preds → All PredFew preds → All BodyFits (rules_of (slice_get preds i))
   preds_are [] i a b = λ k d lt. absurd (omega (arith, lt))
@@ -68,7 +68,7 @@ module _ (g : Game) (n : ℕ) (code : Code) (codes : Codes g.program code) (soun
   pred_fits pred k h = rules_fit g n code k (rules_at code pred) (rules_of (slice_get g.program.preds pred)) (codes.rules pred) (heads_fit g n code k (slice_get g.program.preds pred) h) (preds_are g.program.preds pred sound.preds few.preds)
 
   abbrev ClosureFew : ClosureBody → Type 0
-  ClosureFew closure = All (HoldsFew n) (goals_of closure.body)
+  ClosureFew closure = All (HoldsFew n) (all_goals_of closure.body)
 
   abbrev ClosureIs : Option ClosureBody → Type 0
   ClosureIs None = Unit {0}
@@ -76,7 +76,7 @@ module _ (g : Game) (n : ℕ) (code : Code) (codes : Codes g.program code) (soun
 
   closures_are : (closures : List ClosureBody) (i : ℕ) → All (IsClosureOf g.program) closures → All ClosureFew closures → ClosureIs (slice_get closures i)
   closures_are [] i a b = tt
-  closures_are (x ∷ xs) zero a b = goals_are (closure_vars x) (goals_of x.body) (a 0 x (omega arith)).body (b 0 x (omega arith))
+  closures_are (x ∷ xs) zero a b = goals_are (closure_vars x) (all_goals_of x.body) (a 0 x (omega arith)).body (b 0 x (omega arith))
   closures_are (x ∷ xs) (suc i) a b = closures_are xs i (tail g n code (IsClosureOf g.program) x xs a) (tail g n code ClosureFew x xs b)
 
   -- what is asked with so many arguments fits

@@ -21,7 +21,7 @@ use Rattle.dg_mid.specs.Code.{block_at, rules_at, selected}
 use Rattle.dg_mid.specs.State.{Place, Frame, Call, Target, ToPred, ToBody, Find, Way, Goes, Calls, Tries, Stop, Choice, Mid, Status, Runs, Enters, Resumes, Fails, Ended, cut_of, place_of, inner_for, cut_choices, stop_to, Takes, vars_of}
 use Rattle.dg_mid.specs.Step.{Setting, parameter, body_frame, body_equations, enters_body, calls, queries, queries_last, asked_by, seeks, trying, trying_cells, tries, gathering, done, made_in, keeps_within, gathers, taken_out, charged, unified, bound, trail_more, if_agreed, if_passed, enters, begins, asks, asks_last, last, returned, returns, commits, refuses, leaves, keeps, stops, stops_at, new_frame, does, runs, entered, enter, resumed, goes_on, goes_back, step, first_of, call_of, values, more, inside, passed, within, shielded, cut_to, at_rule, keeps_value, takes, with_gathering, newest_with, takes_newest}
 use Rattle.dg_mid.specs.Runs.{after}
-use Rattle.dg_mid.specs.Actions.{terms_of, act_at, asked_at, found_at, outside_in}
+use Rattle.dg_mid.specs.Actions.{terms_of, act_at, asked_at, found_at, lasting_in}
 use Rattle.dg_mid.specs.Heights.{AgreeAll, IsNamed, PlacesNamed, FramesNamed, StopsNamed, WayNamed, AreNamed, ChoicesNamed, IsOrdered, MidOrdered, StatusOrdered}
 
 -- ## Names among other choices
@@ -285,17 +285,17 @@ shielded_ordered alt m o =
 -- ## A step
 
 done_ordered : (g : Setting) (act : Act) (m : Mid) → MidOrdered m → StatusOrdered (done g act m)
-done_ordered g (GoesNow [] w) m o = keeps_within_ordered g w.meters.keep (Runs (outside_in w m)) o
+done_ordered g (GoesNow [] w) m o = keeps_within_ordered g w.meters.keep (Runs (lasting_in w m)) o
 done_ordered g (GoesNow (s ∷ steps) w) m o = cut_ordered (cut_of m.frames) m o
-done_ordered g (Tests b w) m o = if_passed_ordered b (outside_in w m) o
+done_ordered g (Tests b w) m o = if_passed_ordered b (lasting_in w m) o
 done_ordered g (Unifies made es w) m o =
     let k = made.heap - m.state.heap in
-    let m' = made_in made (outside_in w m) in
+    let m' = made_in made (lasting_in w m) in
     let u = solve made.bound es in
     charged_ordered g k m _ (unified_ordered g u m' (Runs (bound u m')) (more_ordered k m o) (more_ordered k m o))
 done_ordered g (Ends e w) m o = tt
 done_ordered g (FailsNow w) m o = o.choices
-done_ordered g (Stops w) m o = stops_ordered g m.stop (outside_in w m) o
+done_ordered g (Stops w) m o = stops_ordered g m.stop (lasting_in w m) o
 
 seeks_ordered : (g : Setting) (f : Find) (e : Effect) (m : Mid) → MidOrdered m → StatusOrdered (seeks g f e m)
 seeks_ordered g f (Acts act) m o = done_ordered g act m o

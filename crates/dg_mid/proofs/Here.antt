@@ -12,21 +12,21 @@ use Rattle.dg_meaning.proofs.Keeps.{passes_answer, takes}
 use Rattle.dg_meaning.proofs.Dropping.{prints_append}
 use Rattle.dg_unify.specs.Store.{State}
 use Rattle.dg_mid.specs.declared.code.Code.{Code}
-use Rattle.dg_mid.specs.State.{Choice, Stop, Outside, Mid, vars_of, cut_of}
+use Rattle.dg_mid.specs.State.{Choice, Stop, Lasting, Mid, vars_of, cut_of}
 use Rattle.dg_mid.specs.Step.{followed}
 use Rattle.dg_mid.specs.Codes.{End}
-use Rattle.dg_mid.specs.Reads.{silents, end_steps, outside_of, MirrorsWith}
+use Rattle.dg_mid.specs.Reads.{silents, end_steps, lasting_of, MirrorsWith}
 
 -- a machine that mirrors the search stands in front of these steps
-pub record HereWith (g : Game) (code : Code) (state : State) (next_tag : ℕ) (choices : List Choice) (stops : List Stop) (stop : Option ℕ) (gathered : List Gathering) (outside : Outside) (ps : List Print) (steps : List Step) (n : ℕ) (w : World) (run : Run) : Type 0 where
+pub record HereWith (g : Game) (code : Code) (state : State) (next_tag : ℕ) (choices : List Choice) (stops : List Stop) (stop : Option ℕ) (gathered : List Gathering) (lasting : Lasting) (ps : List Print) (steps : List Step) (n : ℕ) (w : World) (run : Run) : Type 0 where
   pub lives : List Live
   pub ways : List WayOn
   pub registers : Registers
-  pub mirrors : MirrorsWith g code state next_tag choices stops stop gathered outside ps registers lives ways w
+  pub mirrors : MirrorsWith g code state next_tag choices stops stop gathered lasting ps registers lives ways w
   pub stands : StandsIn g lives ways (path_of steps registers) n w run
 
 abbrev pub Here : Code → Mid → List Print → List Step → Game → ℕ → World → Run → Type 0
-Here code m ps steps g n w run = HereWith g code m.state m.next_tag m.choices m.stops m.stop m.gathered m.outside ps steps n w run
+Here code m ps steps g n w run = HereWith g code m.state m.next_tag m.choices m.stops m.stop m.gathered m.lasting ps steps n w run
 
 -- the steps of some goals and what comes behind them
 abbrev pub steps_of : Mid → List Goal → End → List Step → List Step
@@ -55,10 +55,10 @@ followed_is ps (q ∷ qs) = refl
 -- ## Answers
 
 -- the same in a world in which nothing else has changed
-pub mirrors_on : (g : Game) (code : Code) (state : State) (next_tag : ℕ) (choices : List Choice) (stops : List Stop) (stop : Option ℕ) (gathered : List Gathering) (outside : Outside) (ps qs : List Print) (r : Registers) (lives : List Live) (ways : List WayOn) (w v : World) → v.gathered ≡ w.gathered → outside_of v ≡ outside_of w → prints v.events ≡ qs →
-    MirrorsWith g code state next_tag choices stops stop gathered outside ps r lives ways w → MirrorsWith g code state next_tag choices stops stop gathered outside qs r lives ways v
-mirrors_on g code state next_tag choices stops stop gathered outside ps qs r lives ways w v same out printed m =
-    record { agrees = m.agrees; tag = m.tag; choices_are = m.choices_are; below = m.below; stops_are = m.stops_are; stop_is = m.stop_is; gathered_is = same ∙ m.gathered_is; outside_is = out ∙ m.outside_is; printed_is = printed }
+pub mirrors_on : (g : Game) (code : Code) (state : State) (next_tag : ℕ) (choices : List Choice) (stops : List Stop) (stop : Option ℕ) (gathered : List Gathering) (lasting : Lasting) (ps qs : List Print) (r : Registers) (lives : List Live) (ways : List WayOn) (w v : World) → v.gathered ≡ w.gathered → lasting_of v ≡ lasting_of w → prints v.events ≡ qs →
+    MirrorsWith g code state next_tag choices stops stop gathered lasting ps r lives ways w → MirrorsWith g code state next_tag choices stops stop gathered lasting qs r lives ways v
+mirrors_on g code state next_tag choices stops stop gathered lasting ps qs r lives ways w v same out printed m =
+    record { agrees = m.agrees; tag = m.tag; choices_are = m.choices_are; below = m.below; stops_are = m.stops_are; stop_is = m.stop_is; gathered_is = same ∙ m.gathered_is; lasting_is = out ∙ m.lasting_is; printed_is = printed }
 
 -- answers that were noted are passed
 pub record Passed (code : Code) (m : Mid) (ps : List Print) (steps : List Step) (g : Game) (n : ℕ) (w : World) (run : Run) : Type 0 where
@@ -74,7 +74,7 @@ answers code m ps (q ∷ qs) steps g n w run h =
       lives = h.lives;
       ways = h.ways;
       registers = h.registers;
-      mirrors = mirrors_on g code m.state m.next_tag m.choices m.stops m.stop m.gathered m.outside ps ps h.registers h.lives h.ways w v refl refl (nothing_more (Answered q) w ps refl h.mirrors.printed_is) h.mirrors;
+      mirrors = mirrors_on g code m.state m.next_tag m.choices m.stops m.stop m.gathered m.lasting ps ps h.registers h.lives h.ways w v refl refl (nothing_more (Answered q) w ps refl h.mirrors.printed_is) h.mirrors;
       stands = passes_answer g h.lives h.ways q (silents qs steps) h.registers n w run h.stands;
     }) in
     record { world = rest.world; here = rest.here; work = rest.work }

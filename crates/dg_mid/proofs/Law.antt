@@ -31,7 +31,7 @@ use Rattle.dg_mid.specs.Step.{Setting, parameter, body_frame, body_equations, en
 use Rattle.dg_mid.specs.Units.{asking, units, units_of, earned, earned_of, earned_by, effort, entering, drops, dropped, dropped_in, dropped_once, undone, unwound, unwound_to, one_if, act_work, effect_work, found_work, body_work, query_work, dropped_by, resuming, units_by, taking, taking_newest}
 use Rattle.dg_mid.specs.Potential.{cut_from, pending, all_pending, nothing, is_goto, is_return, returning, due_at, due, stored, potential, begins_goto, begins_return, OpTidy, OpsTidy, EntersRule, AllEnter, Tidy, CutsFirst, MayAnswer, FramesTidy, Lower, CallFine, WayFine, ChoicesFine, FineWith, MidFine, Reaching, StatusFine, Affords}
 use Rattle.dg_mid.proofs.Pending.{one_gone, cut_falls, pending_falls, Fewer, all_fewer, choices_fewer, nothing_fewer, choices_trail, cut_fine, cut_pending, cut_lower, cut_length, WithPlace, with_fewer, executed, opened, opened_fine}
-use Rattle.dg_mid.specs.Actions.{terms_of, act_at, registers_of, world_of, world_by, outside_in}
+use Rattle.dg_mid.specs.Actions.{terms_of, act_at, registers_of, world_of, world_by, lasting_in}
 use Rattle.dg_mid.proofs.Trails.{few_trailed}
 use Rattle.dg_mid.proofs.Alike.{Alike, goes, cuts, tests, unifies as unifies', quits, lacks_input, fails as fails', stops as stops', action_alike, AlikeAsked, at_once, in_turn, asked_alike}
 use Rattle.dg_mid.proofs.Acts.{nothing_counted, effects_act}
@@ -445,7 +445,7 @@ module _ (g : Setting) (tidy : Tidy g.code) (rules : (pred : ℕ) → AllEnter g
 
   made_pays : (c b : ℕ) (es : Equations) (made : Registers) (w : World) (m : Mid) → made.bound ≡ m.state.subst → MidFine g.code m → OpsTidy g.code m.ops → c + (7 + stored (pending m.frames m.inner) m.choices m.state.trail) + (solve m.state.subst es).count ≤ b → Affords g.code c b (done g (Unifies made es w) m)
   made_pays c b es made w m e h t le =
-      let m' = made_in made (outside_in w m) in
+      let m' = made_in made (lasting_in w m) in
       let un = solve m.state.subst es in
       let few = few_trailed m.state es in
       let more_trail : trail_more m'.state un ≡ trail_more m.state un = refl in
@@ -459,21 +459,21 @@ module _ (g : Setting) (tidy : Tidy g.code) (rules : (pred : ℕ) → AllEnter g
   act_pays : (c b : ℕ) (m : Mid) (ps : List Print) (t : ℕ) (x y : Act) → Alike (registers_of m) (registers_of m) t [] (world_of ps m) (world_of [] m) x y → MidFine g.code m → MayStop g.code m → OpsTidy g.code m.ops →
       c + 16 + stored (pending m.frames m.inner) m.choices m.state.trail + 2 * act_work x ≤ b → Affords g.code (1 + (c + act_work x) + dropped_by y m) b (done g y m)
   act_pays c b m ps t x y (goes v1 w1 d) h s ts le =
-      cond_both (nat_lt g.limits.keep w1.meters.keep) (Ended ending.KeepLimit) (Runs (outside_in w1 m)) (Affords g.code _ b) (λ e. record { fine = tt; few = omega (arith, le) }) (λ e. follows _ b (outside_in w1 m) h ts (omega (arith, le)))
+      cond_both (nat_lt g.limits.keep w1.meters.keep) (Ended ending.KeepLimit) (Runs (lasting_in w1 m)) (Affords g.code _ b) (λ e. record { fine = tt; few = omega (arith, le) }) (λ e. follows _ b (lasting_in w1 m) h ts (omega (arith, le)))
   act_pays c b m ps t x y cuts h s ts le = follows _ b (cut_to (cut_of m.frames) m) (cut_is_fine m.frames m.inner m.choices m.next_tag m.state.trail (cut_of m.frames) h) ts (let z = cut_pays m.frames m.inner m.choices m.next_tag m.state.trail (cut_of m.frames) h in omega (arith, le, z))
-  act_pays c b m ps t x y (tests p v1 w1 d) h s ts le = test_pays _ b p (outside_in w1 m) h ts (omega (arith, le))
+  act_pays c b m ps t x y (tests p v1 w1 d) h s ts le = test_pays _ b p (lasting_in w1 m) h ts (omega (arith, le))
   act_pays c b m ps t x y (unifies' made here es v1 w1 ma d) h s ts le =
       let z = ap (λ S. (solve S es).count) ma.bound in
       made_pays _ b es here w1 m ma.here_bound h ts (omega (arith, le, z))
   act_pays c b m ps t x y quits h s ts le = record { fine = tt; few = omega (arith, le) }
   act_pays c b m ps t x y lacks_input h s ts le = record { fine = tt; few = omega (arith, le) }
-  act_pays c b m ps t x y (fails' v1 w1 d) h s ts le = fails _ b (outside_in w1 m) m.frames m.inner h.choices_are (omega (arith, le))
+  act_pays c b m ps t x y (fails' v1 w1 d) h s ts le = fails _ b (lasting_in w1 m) m.frames m.inner h.choices_are (omega (arith, le))
   act_pays c b m ps t x y stops' h s ts le =
       let p = stops_pay (b - (c + act_work x)) m.stop m.ops m h s (omega (arith, le)) in
       record { fine = p.fine; few = let z = p.few in omega (arith, z, le) }
 
   number_pays : (c b : ℕ) (o : Option ℕ) (into : Value) (w : World) (m : Mid) → MidFine g.code m → OpsTidy g.code m.ops → c + act_work (gives_number o into (registers_of m) w) + (7 + stored (pending m.frames m.inner) m.choices m.state.trail) + act_work (gives_number o into (registers_of m) w) ≤ b → (v : World) → Affords g.code (c + act_work (gives_number o into (registers_of m) w)) b (done g (gives_number o into (registers_of m) v) m)
-  number_pays c b None into w m h t le v = fails _ b (outside_in v m) m.frames m.inner h.choices_are (omega (arith, le))
+  number_pays c b None into w m h t le v = fails _ b (lasting_in v m) m.frames m.inner h.choices_are (omega (arith, le))
   number_pays c b (Some n) into w m h t le v = made_pays _ b ((into, leaf (Num n)) ∷ []) (registers_of m) v m refl h t (omega (arith, le))
 
   taken_pays : (b : ℕ) (ps : List Print) (whole : Gathered) (into : Value) (vs : List Value) (m : Mid) → MidFine g.code m → OpsTidy g.code m.ops → 8 + stored (pending m.frames m.inner) m.choices m.state.trail + 13 * act_work (taken_out ps whole into vs m) ≤ b → Affords g.code (1 + act_work (taken_out ps whole into vs m)) b (done g (taken_out [] whole into vs m) m)
@@ -510,7 +510,7 @@ module _ (g : Setting) (tidy : Tidy g.code) (rules : (pred : ℕ) → AllEnter g
   pays_op ps (op.Do a) ops m b h w t ts le =
       let k = cells g.game.program (terms_of a) in
       let m1 = more k (record m { ops = ops }) in
-      let same = action_alike m.next_tag m.stop m.state.subst m.state.vars m1.state.heap m1.state.trail m1.state.heap m1.state.trail (map Prints ps) [] m.gathered nothing_counted nothing_counted m.outside.typed m.outside.dice m.outside.facts m.outside.sites (cut_of m.frames).tag [] g.game a (vars_of m.frames) in
+      let same = action_alike m.next_tag m.stop m.state.subst m.state.vars m1.state.heap m1.state.trail m1.state.heap m1.state.trail (map Prints ps) [] m.gathered nothing_counted nothing_counted m.lasting.typed m.lasting.dice m.lasting.facts m.lasting.sites (cut_of m.frames).tag [] g.game a (vars_of m.frames) in
       let p = act_pays (writing (terms_of a)) b m1 ps (cut_of m.frames).tag _ _ (effects_act (registers_of m1) (registers_of m1) (cut_of m.frames).tag [] (world_of ps m1) (world_of [] m1) _ _ same).1 h (λ t' e s ss f. let u = w t' e s ss f in record { fewer = u.fewer; trail = u.trail; fine = u.fine }) ts (omega (arith, le)) in
       charge _ b k (record m { ops = ops }) _ (record { fine = p.fine; few = let z = p.few in let y = drops_same (act_at g.game [] a (more k m)) ops (more k m) in omega (arith, z, y) })
   pays_op ps (op.Ask pred terms many next) ops m b h w t ts le = charge _ b _ (record m { ops = ops }) _ (asks_pays _ b pred (call_of (map (value_of g.game.program (vars_of m.frames)) terms) many next (more (cells g.game.program terms) (record m { ops = ops }))) (more (cells g.game.program terms) (record m { ops = ops })) h refl (λ e. absurd (let k : false ≡ true = sym t ∙ e in cc (k))) (omega (arith, le)))
@@ -527,7 +527,7 @@ module _ (g : Setting) (tidy : Tidy g.code) (rules : (pred : ℕ) → AllEnter g
       let k = cells g.game.program terms in
       let m1 = more k (record m { ops = ops }) in
       let f : Find = record { place = place; args = values g m terms; many = many; next = next } in
-      let same = asked_alike m.next_tag m.stop m.state.subst m.state.vars m1.state.heap m1.state.trail m1.state.heap m1.state.trail (map Prints ps) [] m.gathered nothing_counted nothing_counted m.outside.typed m.outside.dice m.outside.facts m.outside.sites (cut_of m.frames).tag [] g.game place f.args true in
+      let same = asked_alike m.next_tag m.stop m.state.subst m.state.vars m1.state.heap m1.state.trail m1.state.heap m1.state.trail (map Prints ps) [] m.gathered nothing_counted nothing_counted m.lasting.typed m.lasting.dice m.lasting.facts m.lasting.sites (cut_of m.frames).tag [] g.game place f.args true in
       charge _ b k (record m { ops = ops }) _ (seeks_pays (writing terms) b m1 ps f (cut_of m.frames).tag _ _ same h (λ t' e s ss x. let u = w t' e s ss x in record { fewer = u.fewer; trail = u.trail; fine = u.fine }) ts (omega (arith, le)))
   pays_op ps op.Take ops m b h w t ts le = follows _ b (passed (record m { ops = ops })) (passes_fine (record m { ops = ops }) h) ts (omega (arith, le))
   pays_op ps (op.Branch alt) ops m b h w t ts le = charge _ b 10 (record m { ops = ops }) _ (follows _ b (inside (Goes alt) 0 (record m { ops = ops })) (opens (record m { ops = ops }) (Goes alt) 0 h tt) ts (let x = open_costs (record m { ops = ops }) (Goes alt) 0 h in omega (arith, le, x)))
@@ -579,8 +579,8 @@ module _ (g : Setting) (tidy : Tidy g.code) (rules : (pred : ℕ) → AllEnter g
 
   found_pays : (b : ℕ) (args : List Value) (o : ℕ) (y : Option Value) (w v : World) (m : Mid) → MidFine g.code m → OpsTidy g.code m.ops → 1 ≤ w.meters.work → stored (pending m.frames m.inner) m.choices m.state.trail + 13 * act_work (finds_if_set args o (registers_of m) y w) ≤ b →
       Affords g.code (1 + act_work (finds_if_set args o (registers_of m) y w)) b (done g (finds_if_set args o (registers_of m) y v) m)
-  found_pays b args o None w v m h t one le = fails _ b (outside_in v m) m.frames m.inner h.choices_are (omega (arith, le, one))
-  found_pays b [] o (Some y) w v m h t one le = fails _ b (outside_in v m) m.frames m.inner h.choices_are (omega (arith, le, one))
+  found_pays b args o None w v m h t one le = fails _ b (lasting_in v m) m.frames m.inner h.choices_are (omega (arith, le, one))
+  found_pays b [] o (Some y) w v m h t one le = fails _ b (lasting_in v m) m.frames m.inner h.choices_are (omega (arith, le, one))
   found_pays b (a ∷ []) o (Some y) w v m h t one le = made_pays _ b ((a, leaf (Object o)) ∷ []) (registers_of m) v m refl h t (omega (arith, le, one))
   found_pays b (a ∷ a' ∷ args) o (Some y) w v m h t one le =
       made_pays _ b ((a, leaf (Object o)) ∷ (a', copy_of y (registers_of m)) ∷ []) (behind_copy y (registers_of m)) (worked (copied y) v) m refl h t (omega (arith, le, one))
@@ -598,12 +598,12 @@ module _ (g : Setting) (tidy : Tidy g.code) (rules : (pred : ℕ) → AllEnter g
       let m1 : Mid = record (passed m) { ops = block_at g.code f.next } in
       let m' = trying g f [] m in
       let p = wanted_pays f.many (place_of m) m1 (omega arith) (reaching m.next_tag m.choices h.lower) (passes_fine m h) m.inner refl in
-      found_pays b f.args o (found m.outside.facts f.place o) (begun (registers_of m') 1 (world_of ps m')) (begun (registers_of m') 1 (world_of [] m')) m' p.0 (tidy.blocks f.next) (omega arith) (let x = p.1 in omega (arith, le, x))
+      found_pays b f.args o (found m.lasting.facts f.place o) (begun (registers_of m') 1 (world_of ps m')) (begun (registers_of m') 1 (world_of [] m')) m' p.0 (tidy.blocks f.next) (omega arith) (let x = p.1 in omega (arith, le, x))
   tries_pays b ps f (o ∷ i ∷ os) m h le =
       let m1 : Mid = record (inside (Tries f (i ∷ os)) (length f.args) m) { ops = block_at g.code f.next } in
       let m' = trying g f (i ∷ os) m in
       let p = wanted_pays f.many (place_of m) m1 (omega arith) (omega arith) (opens m (Tries f (i ∷ os)) (length f.args) h tt) m.inner refl in
-      charge _ b (10 + length f.args) m _ (found_pays b f.args o (found m.outside.facts f.place o) (begun (registers_of m') 1 (world_of ps m')) (begun (registers_of m') 1 (world_of [] m')) m' p.0 (tidy.blocks f.next) (omega arith)
+      charge _ b (10 + length f.args) m _ (found_pays b f.args o (found m.lasting.facts f.place o) (begun (registers_of m') 1 (world_of ps m')) (begun (registers_of m') 1 (world_of [] m')) m' p.0 (tidy.blocks f.next) (omega arith)
       (let x = p.1 in let y = open_costs m (Tries f (i ∷ os)) (length f.args) h in omega (arith, le, x, y)))
 
   way_pays : (b : ℕ) (ps : List Print) (way : Way) (m : Mid) → MidFine g.code m → WayFine g.code way m.frames m.next_tag → 8 + stored (pending m.frames m.inner) m.choices m.state.trail + 13 * earned_by g ps way m ≤ b → Affords g.code (units_by g ps way m) b (goes_on g way m)

@@ -44,7 +44,7 @@ pub mod Shaped
 pub mod Charge
 pub mod Selects
 pub mod Worked
-pub mod Outsides
+pub mod Lasting
 pub mod Typed
 pub mod WritingLemmas
 pub mod Opening

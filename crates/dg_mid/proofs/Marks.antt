@@ -85,7 +85,7 @@ cuts code m ps p steps g n w run h =
         stops_are = i.stops_are;
         stop_is = i.stop_is;
         gathered_is = i.gathered_is;
-        outside_is = i.outside_is;
+        lasting_is = i.lasting_is;
         printed_is = i.printed_is;
       };
       stands = passes_cut g h.lives h.ways p.tag steps h.registers n w run h.stands;
@@ -106,7 +106,7 @@ goes_on {least = least} {ps = ps} set m steps answered g n w run layer h le = re
 pub fails_back : {least : ℕ} → {ps : List Print} → (set : Setting) (m : Mid) (steps : List Step) (g : Game) (n : ℕ) (w : World) (run : Run) → Here set.code m ps (Back ∷ steps) g n w run → least ≤ w.meters.work → Comes least ps set (Fails m) g n run
 fails_back {least = least} {ps = ps} set m steps g n w run h le = record {
   world = w;
-  at = record { lives = h.lives; choices = h.mirrors.choices_are; gathered = h.mirrors.gathered_is; outside = h.mirrors.outside_is; printed = h.mirrors.printed_is; failed = passes_back g h.lives h.ways steps h.registers n w run h.stands };
+  at = record { lives = h.lives; choices = h.mirrors.choices_are; gathered = h.mirrors.gathered_is; lasting = h.mirrors.lasting_is; printed = h.mirrors.printed_is; failed = passes_back g h.lives h.ways steps h.registers n w run h.stands };
   worked = le;
 }
 
@@ -138,7 +138,7 @@ refuse {least = least} {ps = ps} set m ops rest (p ∷ inner) g n w run h le = r
     lives = cut_lives p.tag h.lives;
     choices = cut_both g set.code m.choices h.lives p h.mirrors.choices_are;
     gathered = h.mirrors.gathered_is;
-    outside = h.mirrors.outside_is;
+    lasting = h.mirrors.lasting_is;
     printed = h.mirrors.printed_is;
     failed = passes_refuse g h.lives h.ways p.tag [] h.registers n w run h.stands;
   };
@@ -165,7 +165,7 @@ leave {least = least} {ps = ps} set m ops goals end rest (p ∷ inner) g n w run
         stops_are = i.stops_are;
         stop_is = refl;
         gathered_is = i.gathered_is;
-        outside_is = i.outside_is;
+        lasting_is = i.lasting_is;
         printed_is = i.printed_is;
       };
       stands = passes_leave g h.lives h.ways p.tag p.outer _ h.registers n w run h.stands;
@@ -187,7 +187,7 @@ keep_value {least = least} {ps = ps} code limits m term t (Some x) g n w run sam
     gather_on (setting g code limits) ps (newest_with (resolved m.state.subst x) m.gathered) _ u g n run i.printed_is (let a = ap gathered_size new in omega (arith, a)) (went_grows g h.lives [] n (MoveFails u) run failed)
     (record {
       world = u;
-      at = record { lives = h.lives; choices = i.choices_are; gathered = new; outside = i.outside_is; printed = i.printed_is; failed = failed };
+      at = record { lives = h.lives; choices = i.choices_are; gathered = new; lasting = i.lasting_is; printed = i.printed_is; failed = failed };
       worked = omega (arith, le, work);
     })
 

@@ -26,7 +26,7 @@ use Rattle.dg_mid.specs.declared.code.Gathered.{Gathered}
 use Rattle.dg_mid.specs.declared.code.Gathered.TheVariants as gathered
 use Rattle.dg_mid.specs.declared.code.Code.{Code}
 use Rattle.dg_mid.specs.Code.{block_at}
-use Rattle.dg_mid.specs.State.{Outside, Goes, Mid, Runs, vars_of, cut_of, Takes}
+use Rattle.dg_mid.specs.State.{Lasting, Goes, Mid, Runs, vars_of, cut_of, Takes}
 use Rattle.dg_mid.specs.Step.{Setting, setting, does, more, charged, passed, shielded, new_stop, gathers, gathering, taken_out, done, said_to, followed, takes, takes_newest}
 use Rattle.dg_mid.specs.Actions.{whole_of, registers_of, world_of, world_by, said_by}
 use Rattle.dg_mid.specs.Units.{taking, taking_newest}
@@ -128,7 +128,7 @@ module _ (code : Code) (limits : Limits) (m : Mid) (ops : List Op) (goals : List
         stops_are = i.stops_are;
         stop_is = i.stop_is;
         gathered_is = gathered;
-        outside_is = i.outside_is;
+        lasting_is = i.lasting_is;
         printed_is = i.printed_is;
       } in
       let value = value_of g.program vars in
@@ -189,15 +189,15 @@ takes_out {least = least} {ps = ps} code limits b into m c lives q g n w run i k
     let r = t.path.registers in
     let on = inside_is q r 0 t.way.registers in
     let q0 = regs m1.next_tag m1.stop m1.state.subst m1.state.vars r.heap r.trail in
-    let v0 = world_with d.events m1.gathered d.meters m1.outside.typed m1.outside.dice m1.outside.facts m1.outside.sites in
+    let v0 = world_with d.events m1.gathered d.meters m1.lasting.typed m1.lasting.dice m1.lasting.facts m1.lasting.sites in
     let st = tried_plainly g c lives (TakeOut q.next_tag whole into t.path ∷ []) n w run kind t.others_are tried in
-    let went = subst (λ v. Went g lives c.ways_on n (move_of t.path.steps q0 (takes_out_act whole into vs q0 v)) run) (world_is d m1.gathered m1.outside there i.outside_is)
+    let went = subst (λ v. Went g lives c.ways_on n (move_of t.path.steps q0 (takes_out_act whole into vs q0 v)) run) (world_is d m1.gathered m1.lasting there i.lasting_is)
     (subst (λ x. Went g lives c.ways_on n (move_of t.path.steps x (takes_out_act whole into vs x d)) run) (registers_are r m1.next_tag m1.stop m1.state.subst m1.state.vars (on.tag ∙ ap (λ k. k + 1) i.tag) (ap (λ (x : Registers). x.stoppable) t.way.registers ∙ i.stop_is) (on.bound ∙ i.agrees.bound) (on.vars ∙ i.agrees.vars))
     (subst (λ l. Went g lives c.ways_on n (move_of t.path.steps r (takes_out_act whole into l r d)) run) values st)) in
     let grown = began_grows g lives c.ways_on (TakeOut q.next_tag whole into t.path) n w run st in
-    let happened : Grows v0 run.world = subst (λ (o : Outside). Grows (world_with w.events m1.gathered w.meters o.typed o.dice o.facts o.sites) run.world) i.outside_is (record { events = grown.events; meters = grown.meters; typed = grown.typed; dice = grown.dice }) in
-    let alike : (es' : List Event) (steps : List Step) → Alike q0 (registers_of m1) (cut_of m.frames).tag steps v0 (world_with es' m1.gathered nothing_counted m1.outside.typed m1.outside.dice m1.outside.facts m1.outside.sites) (takes_out_act whole into vs q0 v0) (takes_out_act whole into vs (registers_of m1) (world_with es' m1.gathered nothing_counted m1.outside.typed m1.outside.dice m1.outside.facts m1.outside.sites)) =
-    λ es' steps. takes_alike m1.next_tag m1.stop m1.state.subst m1.state.vars r.heap r.trail m1.state.heap m1.state.trail d.events es' m1.gathered d.meters nothing_counted m1.outside.typed m1.outside.dice m1.outside.facts m1.outside.sites (cut_of m.frames).tag steps whole into vs in
+    let happened : Grows v0 run.world = subst (λ (o : Lasting). Grows (world_with w.events m1.gathered w.meters o.typed o.dice o.facts o.sites) run.world) i.lasting_is (record { events = grown.events; meters = grown.meters; typed = grown.typed; dice = grown.dice }) in
+    let alike : (es' : List Event) (steps : List Step) → Alike q0 (registers_of m1) (cut_of m.frames).tag steps v0 (world_with es' m1.gathered nothing_counted m1.lasting.typed m1.lasting.dice m1.lasting.facts m1.lasting.sites) (takes_out_act whole into vs q0 v0) (takes_out_act whole into vs (registers_of m1) (world_with es' m1.gathered nothing_counted m1.lasting.typed m1.lasting.dice m1.lasting.facts m1.lasting.sites)) =
+    λ es' steps. takes_alike m1.next_tag m1.stop m1.state.subst m1.state.vars r.heap r.trail m1.state.heap m1.state.trail d.events es' m1.gathered d.meters nothing_counted m1.lasting.typed m1.lasting.dice m1.lasting.facts m1.lasting.sites (cut_of m.frames).tag steps whole into vs in
     let work = act_works q0 (registers_of m1) (cut_of m.frames).tag t.path.steps v0 (world_of ps m1) _ _ refl (i.printed_is ∙ sym (nothing_first ps)) (alike (map Prints ps) t.path.steps) in
     let silent = taken_says whole into vs (registers_of m1) (world_of [] m1) in
     subst (λ l. Comes least ps set (takes set into l m) g n run) (sym t.block)
@@ -212,7 +212,7 @@ takes_out {least = least} {ps = ps} code limits b into m c lives q g n w run i k
       stops_are = i.stops_are;
       stop_is = refl;
       gathered_is = refl;
-      outside_is = refl;
+      lasting_is = refl;
       printed_is = i.printed_is;
     })
     (takes_grow whole into vs q0 v0) happened (subst (λ l. Went g lives c.ways_on n (move_of l q0 (takes_out_act whole into vs q0 v0)) run) t.way.reads.is went) (let z = ap (λ l. taking ps into l m) t.block ∙ ap (λ gs. taking_newest ps t.whole into gs (record m { ops = t.ops })) o.is in omega (arith, le, z, work)))))

@@ -20,7 +20,7 @@ use Rattle.dg_meaning.specs.inside.Finding.{has_objects, may_find}
 use Rattle.dg_mid.specs.declared.code.Op.{Op}
 use Rattle.dg_mid.specs.declared.code.Op.TheVariants as op
 use Rattle.dg_mid.specs.declared.code.RuleCode.{RuleCode}
-use Rattle.dg_mid.specs.Actions.{terms_of, asked, asked_at, act_at, found_at, registers_of, world_of, outside_in}
+use Rattle.dg_mid.specs.Actions.{terms_of, asked, asked_at, act_at, found_at, registers_of, world_of, lasting_in}
 use Rattle.dg_mid.specs.Code.{block_at, rules_at, selected}
 use Rattle.dg_mid.specs.Runs.{after}
 use Rattle.dg_mid.specs.State.{Place, Frame, Call, Target, ToPred, ToBody, Find, Way, Goes, Takes, Calls, Tries, Stop, Choice, Mid, Status, Runs, Enters, Resumes, Fails, Ended, vars_of, cut_of, cut_choices, stop_to}
@@ -107,16 +107,16 @@ module _ (set : Setting) (all : (b : ℕ) → OpsLeave set.code (block_at set.co
   on_stops (Some t) m f = on_stop_at (stop_to t m.stops) m f
 
   on_done : (act : Act) (m : Mid) → F m → S (done set act m)
-  on_done (GoesAct [] w) m f = if_ends _ ending.KeepLimit (Runs (outside_in w m)) f
+  on_done (GoesAct [] w) m f = if_ends _ ending.KeepLimit (Runs (lasting_in w m)) f
   on_done (GoesAct (s ∷ steps) w) m f = (f.0, on_cut (cut_of m.frames) m.choices f.1)
-  on_done (Tests passed w) m f = on_passed passed (outside_in w m) f
+  on_done (Tests passed w) m f = on_passed passed (lasting_in w m) f
   on_done (Unifies made es w) m f =
-      let m' = made_in made (outside_in w m) in
+      let m' = made_in made (lasting_in w m) in
       let u = solve made.bound es in
       on_charged (made.heap - m.state.heap) m (unified set u m' (Runs (bound u m'))) (on_unified u m' (Runs (bound u m')) f f)
   on_done (Ends x w) m f = tt
   on_done (FailsNow w) m f = f
-  on_done (Stops w) m f = on_stops m.stop (outside_in w m) f
+  on_done (Stops w) m f = on_stops m.stop (lasting_in w m) f
 
   -- ## Queries
 

@@ -21,7 +21,7 @@ use Rattle.dg_mid.specs.declared.code.Gathered.TheVariants as gathered
 use Rattle.dg_mid.specs.declared.code.Gathered.{Gathered}
 use Rattle.dg_mid.specs.declared.code.RuleCode.{RuleCode}
 use Rattle.dg_mid.specs.declared.code.BodyCode.{BodyCode}
-use Rattle.dg_mid.specs.Actions.{terms_of, act_at, asked_at, found_at, world_of, outside_in}
+use Rattle.dg_mid.specs.Actions.{terms_of, act_at, asked_at, found_at, world_of, lasting_in}
 use Rattle.dg_mid.specs.declared.code.Code.{Code}
 use Rattle.dg_mid.specs.Code.{block_at, rules_at, selected, excluded}
 use Rattle.dg_mid.specs.State.{Place, Frame, Call, Target, ToPred, ToBody, Find, Way, Goes, Calls, Tries, Stop, Choice, Mid, Status, Runs, Enters, Resumes, Fails, Ended, vars_of, cut_of, place_of, inner_for, cut_choices, stop_to, Takes}
@@ -269,18 +269,18 @@ module _ (g : Setting) (answers : block_at g.code 0 ≡ op.Return ∷ []) (rules
 
   done_s : (act : Act) (m : Mid) (goals : List Goal) (end : End) (chain r : List ℕ) → Stands g.code m.ops goals end → ShapedAt g.code m chain → FramesFit g.code m.frames r → Fits chain r end m.inner → StatusShaped g.code (done g act m)
   done_s (GoesNow [] w) m goals end chain r s h fit f =
-      cond_both (nat_lt g.limits.keep w.meters.keep) (Ended ending.KeepLimit) (Runs (outside_in w m)) (StatusShaped g.code) (λ e. tt) (λ e. (chain, h, record { r = r; code_is = record { goals = goals; end = end; stands = s; fits = f }; frames_are = fit }))
+      cond_both (nat_lt g.limits.keep w.meters.keep) (Ended ending.KeepLimit) (Runs (lasting_in w m)) (StatusShaped g.code) (λ e. tt) (λ e. (chain, h, record { r = r; code_is = record { goals = goals; end = end; stands = s; fits = f }; frames_are = fit }))
   done_s (GoesNow (x ∷ steps) w) m goals end chain r s h fit f =
       (chain, cut_s g.code m.frames m.inner m.choices m.stops m.stop m.next_tag m.state.trail chain (cut_of m.frames) h, record { r = r; code_is = record { goals = goals; end = end; stands = s; fits = f }; frames_are = fit })
-  done_s (Tests b w) m goals end chain r s h fit f = test_s b (outside_in w m) h.choices_are (chain, h, record { r = r; code_is = record { goals = goals; end = end; stands = s; fits = f }; frames_are = fit })
+  done_s (Tests b w) m goals end chain r s h fit f = test_s b (lasting_in w m) h.choices_are (chain, h, record { r = r; code_is = record { goals = goals; end = end; stands = s; fits = f }; frames_are = fit })
   done_s (Unifies made es w) m goals end chain r s h fit f =
-      let m1 = made_in made (outside_in w m) in
+      let m1 = made_in made (lasting_in w m) in
       let un = solve made.bound es in
       charge_s (made.heap - m.state.heap) m _ (unify_s un m1 (Runs (bound un m1)) h.choices_are
       (chain, trail_s g.code m.frames m.inner m.choices m.stops m.stop m.next_tag m.state.trail (trail_more m1.state un) chain (omega arith) h, record { r = r; code_is = record { goals = goals; end = end; stands = s; fits = f }; frames_are = fit }))
   done_s (Ends e w) m goals end chain r s h fit f = tt
   done_s (FailsNow w) m goals end chain r s h fit f = h.choices_are
-  done_s (Stops w) m goals end chain r s h fit f = stop_s m.stop chain (outside_in w m) h.here.stop_is h
+  done_s (Stops w) m goals end chain r s h fit f = stop_s m.stop chain (lasting_in w m) h.here.stop_is h
 
   -- ## Instructions
 

@@ -19,14 +19,14 @@ use Rattle.dg_meaning.proofs.Dropping.{prints_append}
 use Rattle.dg_meaning.proofs.OneRun.{begins_same}
 use Rattle.dg_meaning.proofs.Limits.{later_run, limit_covers}
 use Rattle.dg_mid.specs.declared.code.Code.{Code}
-use Rattle.dg_mid.specs.State.{Outside, Status, Runs, Enters, Resumes, Fails, Ended}
+use Rattle.dg_mid.specs.State.{Lasting, Status, Runs, Enters, Resumes, Fails, Ended}
 use Rattle.dg_mid.specs.Step.{Setting, setting}
 use Rattle.dg_mid.specs.Codes.{Codes}
 use Rattle.dg_mid.specs.Reads.{At, Comes, HasEnded, MeetsLimit}
 use Rattle.dg_mid.specs.Runs.{Point, after, left_after, IsAt, ShowsAll, ShowsFaults}
 use Rattle.dg_mid.proofs.Taking.{at_grows}
 use Rattle.dg_mid.proofs.Whole.{AtLimit, is_at}
-use Rattle.dg_mid.proofs.Outsides.{Leads}
+use Rattle.dg_mid.proofs.Lasting.{Leads}
 use Rattle.dg_mid.proofs.Typed.{EndLeft, left_at, stops_there, Reading, reading_at, reads_goal, left_within, line_shorter}
 
 -- ## Of two parts of a list the longer
@@ -217,8 +217,8 @@ module _ (g : Game) (code : Code) (limits : Limits) (codes : Codes g.program cod
       grown now rest goals paid ps c is = subst (λ l. EndsWith l (run g typed (goals + 0)).world.typed) is (at_grows set now ps g 0 c.world (run g typed (goals + 0)) c.at).typed
 
       by_now : (now : Status) (rest : List ℕ) (goals paid : ℕ) (ps : List Print) → Leads (λ o. o.typed ≡ rest) (EndLeft g code limits codes typed goals rest) now → Comes paid ps set now g 0 (run g typed (goals + 0)) → EndsWith rest (run g typed (goals + 0)).world.typed
-      by_now (Runs m) rest goals paid ps is c = grown (Runs m) rest goals paid ps c (ap (λ (o : Outside). o.typed) c.at.mirrors.outside_is ∙ is)
-      by_now (Enters call m) rest goals paid ps is c = grown (Enters call m) rest goals paid ps c (ap (λ (o : Outside). o.typed) c.at.mirrors.outside_is ∙ is)
-      by_now (Resumes way m) rest goals paid ps is c = grown (Resumes way m) rest goals paid ps c (ap (λ (o : Outside). o.typed) c.at.mirrors.outside_is ∙ is)
-      by_now (Fails m) rest goals paid ps is c = grown (Fails m) rest goals paid ps c (ap (λ (o : Outside). o.typed) c.at.outside ∙ is)
+      by_now (Runs m) rest goals paid ps is c = grown (Runs m) rest goals paid ps c (ap (λ (o : Lasting). o.typed) c.at.mirrors.lasting_is ∙ is)
+      by_now (Enters call m) rest goals paid ps is c = grown (Enters call m) rest goals paid ps c (ap (λ (o : Lasting). o.typed) c.at.mirrors.lasting_is ∙ is)
+      by_now (Resumes way m) rest goals paid ps is c = grown (Resumes way m) rest goals paid ps c (ap (λ (o : Lasting). o.typed) c.at.mirrors.lasting_is ∙ is)
+      by_now (Fails m) rest goals paid ps is c = grown (Fails m) rest goals paid ps c (ap (λ (o : Lasting). o.typed) c.at.lasting ∙ is)
       by_now (Ended e) rest goals paid ps h c = by_end e rest goals h

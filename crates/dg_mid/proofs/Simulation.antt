@@ -3,7 +3,7 @@ use Rattle.std.proofs.Common.{ℕ, ◌+◌, ◌≤◌, List, [], refl, sym, ap, 
 use Rattle.dg_base.specs.declared.program.Goal.{Goal}
 use Rattle.dg_base.specs.declared.run.Limits.{Limits}
 use Rattle.dg_meaning.specs.World.{Game, World, Print}
-use Rattle.dg_meaning.specs.Path.{Step, Rules, Kind}
+use Rattle.dg_meaning.specs.Path.{Step, Rules, ChoiceKind}
 use Rattle.dg_meaning.specs.Moves.{call_cells}
 use Rattle.dg_meaning.specs.Transcript.{Run}
 use Rattle.dg_meaning.specs.inside.Keeps.{Tried, open_at}
@@ -85,7 +85,7 @@ resumes_at {least = least} {ps = ps} code limits (Calls call rules) m g n w run 
     let height = sym (rule_open g c.pred call.args call.many (silents c.answered c.after) q (call_cells call.args q c.left) c.rule _ h.live.height) ∙ ap (λ l. open_at l h.live.height) (sym c.others_are) ∙ h.height in
     let tried = subst (λ l. Tried g (Rules c.pred) q.next_tag h.live.height h.live.ways_on h.lives l n w run) c.others_are
     (subst (λ t. Tried g (Rules c.pred) t h.live.height h.live.ways_on h.lives h.live.others n w run) (h.tag ∙ sym i.tag)
-    (subst (λ (k : Kind). Tried g k h.live.tag h.live.height h.live.ways_on h.lives h.live.others n w run) c.kind_is h.tried)) in
+    (subst (λ (k : ChoiceKind). Tried g k h.live.tag h.live.height h.live.ways_on h.lives h.live.others n w run) c.kind_is h.tried)) in
     subst (λ l. Comes least ps set (begins set call l m) g n run) (ap (λ S. selected (first_of S call) c.codes) i.agrees.bound ∙ sym c.rules_are)
     (rules_begin g code limits call c.pred c.answered c.after q c.sound m ps h.lives h.live.ways_on n run h.live.height c.reads c.cut height c.codes c.rule c.left w c.stand i tried (omega (arith, le)))
 resumes_at {least = least} {ps = ps} code limits (Tries f os) m g n w run h le =
@@ -95,5 +95,5 @@ pub simulates : (code : Code) (limits : Limits) (now : Status) (g : Game) → Co
 simulates code limits (Runs m) g codes least n ps w run h le = runs_at code limits m g n w run codes h le
 simulates code limits (Enters call m) g codes least n ps w run h le = enters_at g code limits call m n w run h le
 simulates code limits (Resumes way m) g codes least n ps w run h le = resumes_at code limits way m g n w run h le
-simulates code limits (Fails m) g codes least n ps w run h le = backs_on.back (setting g code limits) m g m.choices h.lives n w run 0 h.choices h.gathered h.outside h.printed h.failed (omega (arith, le))
+simulates code limits (Fails m) g codes least n ps w run h le = backs_on.back (setting g code limits) m g m.choices h.lives n w run 0 h.choices h.gathered h.lasting h.printed h.failed (omega (arith, le))
 simulates code limits (Ended e) g codes least n ps w run h le = record { world = w; at = h; worked = omega (arith, le) }

@@ -25,7 +25,7 @@ use Rattle.dg_mid.specs.declared.code.Op.{Op}
 use Rattle.dg_mid.specs.declared.code.RuleCode.{RuleCode}
 use Rattle.dg_mid.specs.declared.code.BodyCode.{BodyCode}
 use Rattle.dg_mid.specs.declared.code.Code.{Code}
-use Rattle.dg_mid.specs.Actions.{outside_in}
+use Rattle.dg_mid.specs.Actions.{lasting_in}
 use Rattle.dg_mid.specs.Code.{block_at, rules_at, excluded, selected}
 use Rattle.dg_mid.specs.Codes.{End, Returns, Stands, returns, RulesStand, BodyStands}
 use Rattle.dg_mid.specs.Singles.{PartSince}
@@ -151,11 +151,11 @@ module _ (q : Query) where
   on_cut p m le h = (hand_cut code S t0 cs0 depth q.older m.next_tag m.ops m.frames m.inner m.choices p le h.0, within_cut code S t0 cs0 depth q.older m.next_tag p m.choices m.stops le h.1)
 
   pub on_done : (act : Act) (m : Mid) → EndsWell act → t0 ≤ (cut_of m.frames).tag → C (Runs m) → C (done set act m)
-  on_done (GoesAct [] w) m e le h = if_ends _ ending.KeepLimit (Runs (outside_in w m)) h
+  on_done (GoesAct [] w) m e le h = if_ends _ ending.KeepLimit (Runs (lasting_in w m)) h
   on_done (GoesAct (s ∷ steps) w) m e le h = on_cut (cut_of m.frames) m le h
-  on_done (Tests passed w) m e le h = on_passed passed (outside_in w m) h
+  on_done (Tests passed w) m e le h = on_passed passed (lasting_in w m) h
   on_done (Unifies made es w) m e le h =
-      let m' = made_in made (outside_in w m) in
+      let m' = made_in made (lasting_in w m) in
       let u = solve made.bound es in
       on_charged (made.heap - m.state.heap) m (unified set u m' (Runs (bound u m'))) (on_unified u m' (Runs (bound u m')) h.1 h)
   on_done (Ends x w) m e le h = tt

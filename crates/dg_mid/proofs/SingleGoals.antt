@@ -22,7 +22,7 @@ use Rattle.dg_mid.specs.declared.code.Action.{Action}
 use Rattle.dg_mid.specs.declared.code.Action.TheVariants as action
 use Rattle.dg_mid.specs.declared.code.Gathered.{Gathered}
 use Rattle.dg_mid.specs.declared.code.Code.{Code}
-use Rattle.dg_mid.specs.Actions.{goal_of, form_of, asked_at, act_at, registers_of, world_of, outside_in}
+use Rattle.dg_mid.specs.Actions.{goal_of, form_of, asked_at, act_at, registers_of, world_of, lasting_in}
 use Rattle.dg_mid.specs.Code.{block_at}
 use Rattle.dg_mid.specs.Codes.{End, Commits, Refuses, Leaves, Keeps, found_goals, found_end, Stands, Branches, no_branch, a_branch}
 use Rattle.dg_mid.specs.Singles.{AnswersIn, StopsSince}
@@ -154,7 +154,7 @@ module _ (q : Query) where
     goes_behind a l = (at_hand q m.next_tag m.ops m.frames m.inner m.choices goals end rest s b a l low, w)
 
     pub on_act : (x : Action) → StopsSince t0 m.stop (op.Do x ∷ []) → A m.next_tag (Does (goal_of x) (cut_of m.frames).tag ∷ K) → L m.next_tag (Does (goal_of x) (cut_of m.frames).tag ∷ K) m.choices → C (done set (act_at g [] x m) m)
-    on_act action.Stop since a l = on_stops q m.stop (outside_in (world_of [] m) m) since w
+    on_act action.Stop since a l = on_stops q m.stop (lasting_in (world_of [] m) m) since w
     on_act action.Fail since a l = w
     on_act action.Just since a l =
         (at_hand q m.next_tag m.ops m.frames m.inner (cut_choices (cut_of m.frames) m.choices) goals end rest s b a.3 (left_just S t0 cs0 q.older m.next_tag goal.Just K m.choices (cut_of m.frames) (outs action.Just) a.0 l) low, within_cut code S t0 cs0 depth q.older m.next_tag (cut_of m.frames) m.choices m.stops a.0 w)

@@ -20,7 +20,7 @@ use Rattle.dg_mid.specs.declared.code.Action.{Action}
 use Rattle.dg_mid.specs.declared.code.Action.TheVariants as action
 use Rattle.dg_mid.specs.declared.code.Gathered.{Gathered}
 use Rattle.dg_mid.specs.declared.code.RuleCode.{RuleCode}
-use Rattle.dg_mid.specs.Actions.{terms_of, asked_at, act_at, found_at, registers_of, world_of, outside_in}
+use Rattle.dg_mid.specs.Actions.{terms_of, asked_at, act_at, found_at, registers_of, world_of, lasting_in}
 use Rattle.dg_mid.specs.Calls.{WayCuts, ChoicesCut, StatusCuts}
 use Rattle.dg_mid.specs.Code.{block_at, rules_at, selected}
 use Rattle.dg_mid.specs.Runs.{after}
@@ -85,11 +85,11 @@ module _ (set : Setting) where
   on_stops (Some u) m f = on_stop_at u m.next_tag m.state.trail m.stops m f f.0.0
 
   on_done : (act : Act) (m : Mid) → EndsWell act → F m → S (done set act m)
-  on_done (GoesAct [] w) m e f = if_ends _ ending.KeepLimit (Runs (outside_in w m)) keep_ends f
+  on_done (GoesAct [] w) m e f = if_ends _ ending.KeepLimit (Runs (lasting_in w m)) keep_ends f
   on_done (GoesAct (s ∷ steps) w) m e f = cut_is (cut_of m.frames) m f
-  on_done (Tests passed w) m e f = on_passed passed (outside_in w m) f
+  on_done (Tests passed w) m e f = on_passed passed (lasting_in w m) f
   on_done (Unifies made es w) m e f =
-      let m' = made_in made (outside_in w m) in
+      let m' = made_in made (lasting_in w m) in
       let u = solve made.bound es in
       on_charged (made.heap - m.state.heap) m (unified set u m' (Runs (bound u m'))) (on_unified u m' (Runs (bound u m')) f (bound_is u m' f))
   on_done (Ends x w) m e f = e
@@ -97,7 +97,7 @@ module _ (set : Setting) where
   on_done (Stops w) m e f = absurd e
 
   on_act : (a : Action) (m : Mid) → F m → S (done set (act_at set.game [] a m) m)
-  on_act action.Stop m f = on_stops m.stop (outside_in (world_of [] m) m) f
+  on_act action.Stop m f = on_stops m.stop (lasting_in (world_of [] m) m) f
   on_act a m f = on_done (act_at set.game [] a m) m (act_well set.game a m) f
 
   -- ## Queries

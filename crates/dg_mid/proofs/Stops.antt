@@ -14,7 +14,7 @@ use Rattle.dg_unify.specs.Store.{State}
 use Rattle.dg_mid.specs.declared.code.Code.{Code}
 use Rattle.dg_mid.specs.State.{Place, Stop, Choice, Mid, cut_choices, stop_to}
 use Rattle.dg_mid.specs.Step.{Setting, gathered_to, stopped, stops, stops_at}
-use Rattle.dg_mid.specs.Reads.{Agrees, AreChoices, AreBelow, IsStop, AreStops, outside_of, Mirrors, Comes}
+use Rattle.dg_mid.specs.Reads.{Agrees, AreChoices, AreBelow, IsStop, AreStops, lasting_of, Mirrors, Comes}
 use Rattle.dg_mid.proofs.Here.{prints_dropped, work_dropped}
 use Rattle.dg_mid.proofs.Marks.{goes_on, cut_both, ends_here, below_next}
 use Rattle.dg_mid.proofs.Drops.{drop_to}
@@ -83,7 +83,7 @@ module _ (set : Setting) (m : Mid) (ps : List Print) (g : Game) (n : ℕ) (v : W
           stops_are = f.others_are;
           stop_is = ap (λ (x : Registers). x.stoppable) r ∙ s.stop_at;
           gathered_is = there;
-          outside_is = ap outside_of on.drops.is ∙ i.outside_is;
+          lasting_is = ap lasting_of on.drops.is ∙ i.lasting_is;
           printed_is = prints_dropped v on.world on.drops ∙ i.printed_is;
         };
         stands = on.stands s.path s.work s.others;

@@ -10,7 +10,7 @@ use Rattle.dg_meaning.specs.Substitutions.{Substitution}
 use Rattle.dg_meaning.specs.Unify.{Unified}
 use Rattle.dg_meaning.specs.World.{Game, World, Gathering, Print, gathered_size, prints, worked}
 use Rattle.dg_meaning.specs.Cells.{writing}
-use Rattle.dg_meaning.specs.Path.{Step, Do, Registers, Branch, Kind, Move, FailsAt as MoveFails, Moves}
+use Rattle.dg_meaning.specs.Path.{Step, Do, Registers, Branch, ChoiceKind, Move, FailsAt as MoveFails, Moves}
 use Rattle.dg_meaning.specs.Moves.{path_of, exhausted, begun, begins, behind_terms, outcome, made_since, older_bound}
 use Rattle.dg_meaning.specs.Transcript.{Run}
 use Rattle.dg_meaning.specs.inside.OneRun.{Grows}
@@ -104,7 +104,7 @@ trail_within since (p ∷ made) = let here = one_at_most since p.0 in let rest =
 -- ## Work in the run
 
 -- what has happened where a choice goes on
-tried_grows : (g : Game) (k : Kind) (t height : ℕ) (ways : List WayOn) (cs : List Live) (bs : List Branch) (n : ℕ) (w : World) (run : Run) → Tried g k t height ways cs bs n w run → Grows w run.world
+tried_grows : (g : Game) (k : ChoiceKind) (t height : ℕ) (ways : List WayOn) (cs : List Live) (bs : List Branch) (n : ℕ) (w : World) (run : Run) → Tried g k t height ways cs bs n w run → Grows w run.world
 tried_grows g k t height ways cs [] n w run h = grows_on w (exhausted k w) run.world (exhausted_grows k w) (went_grows g cs ways n (MoveFails (exhausted k w)) run h)
 tried_grows g k t height ways cs (b ∷ bs) n w run h = began_grows g _ ways b n w run h
 

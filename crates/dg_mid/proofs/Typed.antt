@@ -33,9 +33,9 @@ use Rattle.dg_mid.specs.declared.code.Code.{Code}
 use Rattle.dg_mid.specs.Actions.{form_of, goal_of, terms_of, registers_of, world_of, act_at}
 use Rattle.dg_mid.specs.Codes.{Codes, End, Stands, acts, finishes}
 use Rattle.dg_mid.specs.Left.{overfills, reads_in, reads, left_behind}
-use Rattle.dg_mid.specs.Reads.{RunsAt, AreChoices, none, dead, kept, before, outside_of, Comes}
+use Rattle.dg_mid.specs.Reads.{RunsAt, AreChoices, none, dead, kept, before, lasting_of, Comes}
 use Rattle.dg_mid.specs.Runs.{Point, after, left_after, IsAt}
-use Rattle.dg_mid.specs.State.{Outside, Mid, Choice, Status, Runs, Enters, Resumes, Fails, Ended, vars_of, cut_of}
+use Rattle.dg_mid.specs.State.{Lasting, Mid, Choice, Status, Runs, Enters, Resumes, Fails, Ended, vars_of, cut_of}
 use Rattle.dg_mid.specs.Step.{Setting, setting, step, more, takes_goal, at_goal}
 use Rattle.dg_mid.specs.Units.{one_if}
 use Rattle.dg_mid.proofs.Here.{Here, steps_of, answers, typed_dropped}
@@ -43,11 +43,11 @@ use Rattle.dg_mid.proofs.Taking.{behind, taken_in, comes, at_grows}
 use Rattle.dg_mid.proofs.Acts.{outs, unified_reaches}
 use Rattle.dg_mid.proofs.Backs.{turns_back, clashes_fail}
 use Rattle.dg_mid.proofs.Whole.{typed_in, AtLimit, at_limit, is_at}
-use Rattle.dg_mid.proofs.Outsides.{Leads, Acting, AtLimits, Running, leads_runs, leads_entered, leads_goes_on, leads_back}
+use Rattle.dg_mid.proofs.Lasting.{Leads, Acting, AtLimits, Running, leads_runs, leads_entered, leads_goes_on, leads_back}
 
 -- ## What actions leave
 
-abbrev Typed : List ℕ → Outside → Type 0
+abbrev Typed : List ℕ → Lasting → Type 0
 Typed rest o = o.typed ≡ rest
 
 module _ (E : Ending → Type 0) (rest : List ℕ) where
@@ -89,15 +89,15 @@ module _ (E : Ending → Type 0) (rest : List ℕ) where
 
   -- what an action may end with
   abbrev MayEnd : Action → Mid → Type 0
-  MayEnd (action.Input t) m = m.outside.typed ≡ [] → E ending.InputEnded
+  MayEnd (action.Input t) m = m.lasting.typed ≡ [] → E ending.InputEnded
   MayEnd action.Stop m = m.stop ≡ None → E ending.Stopped
   MayEnd action.Quit m = E ending.Quit
   MayEnd a m = Unit {0}
 
   -- what is left behind an action that is done
   abbrev LeftBy : Action → Mid → Type 0
-  LeftBy (action.Input t) m = behind_first m.outside.typed ≡ rest
-  LeftBy a m = m.outside.typed ≡ rest
+  LeftBy (action.Input t) m = behind_first m.lasting.typed ≡ rest
+  LeftBy a m = m.lasting.typed ≡ rest
 
   pub action_leaves : (g : Game) (a : Action) (m : Mid) → MayEnd a m → LeftBy a m → Acting (Typed rest) E (act_at g [] a m) m
   action_leaves g (action.Text name) m x e = e
@@ -115,8 +115,8 @@ module _ (E : Ending → Type 0) (rest : List ℕ) where
   action_leaves g (action.Random a b c) m x e =
       let v = value_of g.program (vars_of m.frames) a in
       let u = value_of g.program (vars_of m.frames) b in
-      throw_leaves (of_numbers (thrown (die g.dice m.outside.dice)) (walk m.state.subst v) (walk m.state.subst u)) (value_of g.program (vars_of m.frames) c) (registers_of m) (worked (looked_up (registers_of m) v + looked_up (registers_of m) u) (world_of [] m)) m e
-  action_leaves g (action.Input t) m x e = line_leaves g m.outside.typed (value_of g.program (vars_of m.frames) t) (registers_of m) (world_of [] m) m x e
+      throw_leaves (of_numbers (thrown (die g.dice m.lasting.dice)) (walk m.state.subst v) (walk m.state.subst u)) (value_of g.program (vars_of m.frames) c) (registers_of m) (worked (looked_up (registers_of m) v + looked_up (registers_of m) u) (world_of [] m)) m e
+  action_leaves g (action.Input t) m x e = line_leaves g m.lasting.typed (value_of g.program (vars_of m.frames) t) (registers_of m) (world_of [] m) m x e
   action_leaves g (action.SplitWord a b) m x e =
       let v = value_of g.program (vars_of m.frames) a in
       split_leaves g (letters_in_word g.program.words (walk m.state.subst v)) (value_of g.program (vars_of m.frames) b) (registers_of m) (worked (looked_up (registers_of m) v) (world_of [] m)) m e
@@ -137,7 +137,7 @@ pub record TakesAct (g : Game) (m : Mid) (a : Action) (n : ℕ) (run : Run) : Ty
   pub steps : List Step
   pub registers : Registers
   pub world : World
-  pub typed : world.typed ≡ m.outside.typed
+  pub typed : world.typed ≡ m.lasting.typed
   pub stop_is : registers.stoppable ≡ m.stop
   pub comes : After g lives ways n (outcome g (form_of a) (vars_of m.frames) (cut_of m.frames).tag steps registers world) run
 
@@ -147,8 +147,8 @@ OpComes g m w n run (op.Do a ∷ ops) = TakesAct g m a n run
 OpComes g m w n run (op.Done ∷ ops) = Finished n w (EndsSo ending.Done) run
 OpComes g m w n run ops = Unit {0}
 
-typed_at : (w : World) (o : Outside) → outside_of w ≡ o → w.typed ≡ o.typed
-typed_at w o e = ap (λ (x : Outside). x.typed) e
+typed_at : (w : World) (o : Lasting) → lasting_of w ≡ o → w.typed ≡ o.typed
+typed_at w o e = ap (λ (x : Lasting). x.typed) e
 
 op_comes : (code : Code) (m : Mid) (ps : List Print) (rest : List Step) (g : Game) (n : ℕ) (w : World) (run : Run) (ops : List Op) (goals : List _) (end : End) → Stands code ops goals end → Here code m ps (steps_of m goals end rest) g (before (at_goal ops) n) w run → OpComes g m w n run ops
 op_comes code m ps rest g n w run ops goals end (acts a others goals' end' s) h = record {
@@ -157,7 +157,7 @@ op_comes code m ps rest g n w run ops goals end (acts a others goals' end' s) h 
   steps = steps_of m goals' end' rest;
   registers = behind code m ps (steps_of m goals' end' rest) g n w run (goal_of a) (form_of a) (outs a) h;
   world = taken_in code m ps (steps_of m goals' end' rest) g n w run (goal_of a) (form_of a) (outs a) h;
-  typed = typed_at w m.outside h.mirrors.outside_is;
+  typed = typed_at w m.lasting h.mirrors.lasting_is;
   stop_is = h.mirrors.stop_is;
   comes = comes code m ps (steps_of m goals' end' rest) g n w run (goal_of a) (form_of a) (outs a) h;
 }
@@ -167,7 +167,7 @@ op_comes code m ps rest g n w run ops goals end s h = tt
 -- the same where a machine is
 record Arrives (g : Game) (m : Mid) (ops : List Op) (n : ℕ) (run : Run) : Type 0 where
   pub world : World
-  pub typed : world.typed ≡ m.outside.typed
+  pub typed : world.typed ≡ m.lasting.typed
   pub comes : OpComes g m world n run ops
 
 arrives : (code : Code) (m : Mid) (ps : List Print) (g : Game) (n : ℕ) (w : World) (run : Run) → RunsAt code m ps g (before (at_goal m.ops) n) w run → Arrives g m m.ops n run
@@ -176,7 +176,7 @@ arrives code m ps g n w run h =
     let a = answers code m ps h.answered h.steps g k w run (record { lives = h.lives; ways = h.ways; registers = h.registers; mirrors = h.mirrors; stands = h.stands }) in
     record {
       world = a.world;
-      typed = typed_at a.world m.outside a.here.mirrors.outside_is;
+      typed = typed_at a.world m.lasting a.here.mirrors.lasting_is;
       comes = op_comes code m ps h.reads.rest g n a.world run m.ops h.reads.goals h.reads.end h.reads.stands (subst (λ l. Here code m ps l g k a.world run) h.reads.is a.here);
     }
 
@@ -194,7 +194,7 @@ fails_leaves g code ms lives n w run rest e at none f = finished_leaves n w Fail
 fails_leaves g code ms lives n w run rest e at (dead ms' c cs clash below others) f =
     let t = turns_back g c cs n w run f in
     let on = clashes_fail g c.kind c.tag c.height c.ways_on cs c.others n t.world run clash t.tried in
-    let same : on.world.typed ≡ rest = ap (λ (o : Outside). o.typed) (on.outside ∙ t.outside) ∙ at in
+    let same : on.world.typed ≡ rest = ap (λ (o : Lasting). o.typed) (on.lasting ∙ t.lasting) ∙ at in
     fails_leaves g code ms' cs n on.world run rest e same others on.failed
 fails_leaves g code ms lives n w run rest e at (kept o ms' c cs is below others) f = absurd (cc (e))
 
@@ -209,11 +209,11 @@ read_none g lives ways n steps q v w run [] f e = ap (λ (r : Run). r.ending) f.
 read_none g lives ways n steps q v w run (b ∷ bytes) f e = absurd (cc (e))
 
 -- a line was taken, as the run takes it
-pub takes_on : (g : Game) (m : Mid) (t : Term) (n : ℕ) (run : Run) → TakesAct g m (action.Input t) n run → EndsWith (behind_first m.outside.typed) run.world.typed
+pub takes_on : (g : Game) (m : Mid) (t : Term) (n : ℕ) (run : Run) → TakesAct g m (action.Input t) n run → EndsWith (behind_first m.lasting.typed) run.world.typed
 takes_on g m t n run h = subst (λ l. EndsWith (behind_first l) run.world.typed) h.typed
     (read_on g h.lives h.ways n h.steps h.registers (value_of g.program (vars_of m.frames) t) h.world run h.world.typed h.comes refl)
 
-pub takes_none : (g : Game) (m : Mid) (t : Term) (n : ℕ) (run : Run) → TakesAct g m (action.Input t) n run → m.outside.typed ≡ [] → run.ending ≡ ending.InputEnded
+pub takes_none : (g : Game) (m : Mid) (t : Term) (n : ℕ) (run : Run) → TakesAct g m (action.Input t) n run → m.lasting.typed ≡ [] → run.ending ≡ ending.InputEnded
 takes_none g m t n run h e = read_none g h.lives h.ways n h.steps h.registers (value_of g.program (vars_of m.frames) t) h.world run h.world.typed h.comes (h.typed ∙ e)
 
 -- a step that reads takes a goal
@@ -260,11 +260,11 @@ module _ (s : Setting) (E : Ending → Type 0) (m : Mid) (rest : List ℕ) where
   OpEnds (op.Done ∷ ops) = E ending.Done
   OpEnds ops = Unit {0}
 
-  act_left : (a : Action) (ops : List Op) (k : ℕ) → m.outside.typed ≡ rest → overfills s m.state.heap (cells s.game.program (terms_of a)) ≡ false → LeftBy E (behind_ops (op.Do a ∷ ops)) a (more k (record m { ops = ops }))
+  act_left : (a : Action) (ops : List Op) (k : ℕ) → m.lasting.typed ≡ rest → overfills s m.state.heap (cells s.game.program (terms_of a)) ≡ false → LeftBy E (behind_ops (op.Do a ∷ ops)) a (more k (record m { ops = ops }))
   act_left (action.Input t) ops k is room = ap behind_first is ∙ sym (ap (λ b. if not b then behind_first rest else rest) room)
   act_left a ops k is room = is
 
-  ops_lead : (ops : List Op) → m.outside.typed ≡ rest → OpEnds ops → Running (Typed (behind_ops ops)) E s ops m
+  ops_lead : (ops : List Op) → m.lasting.typed ≡ rest → OpEnds ops → Running (Typed (behind_ops ops)) E s ops m
   ops_lead [] is x = is
   ops_lead (op.Do a ∷ ops) is x = λ room.
       let k = cells s.game.program (terms_of a) in
@@ -318,7 +318,7 @@ module _ (g : Game) (code : Code) (limits : Limits) (codes : Codes g.program cod
   line_left now rest = cond_both (reads set now) (behind_first rest) rest (EndsWith rest) (λ e. (line_grows (record (start_world g typed) { typed = rest })).typed) (λ e. ends_same rest)
 
   -- where the code at hand leads
-  module _ (m : Mid) (rest : List ℕ) (goals : ℕ) (is : m.outside.typed ≡ rest) where
+  module _ (m : Mid) (rest : List ℕ) (goals : ℕ) (is : m.lasting.typed ≡ rest) where
     abbrev left_by : List Op → List ℕ
     left_by ops = if reads_in set m ops then behind_first rest else rest
 
@@ -360,19 +360,19 @@ module _ (g : Game) (code : Code) (limits : Limits) (codes : Codes g.program cod
       let goals = one_if (at_goal m.ops) + p.goals in
       let left = left_behind set (Runs m) rest in
       let come = λ (n : ℕ). arrives code m p.prints g n (c n).world (run g typed (goals + n)) (c n).at in
-      let grown : EndsWith rest (run g typed (goals + 0)).world.typed = subst (λ l. EndsWith l (run g typed (goals + 0)).world.typed) (typed_at (c 0).world m.outside (c 0).at.mirrors.outside_is ∙ is) (at_grows set (Runs m) p.prints g (before (at_goal m.ops) 0) (c 0).world (run g typed (goals + 0)) (c 0).at).typed in
+      let grown : EndsWith rest (run g typed (goals + 0)).world.typed = subst (λ l. EndsWith l (run g typed (goals + 0)).world.typed) (typed_at (c 0).world m.lasting (c 0).at.mirrors.lasting_is ∙ is) (at_grows set (Runs m) p.prints g (before (at_goal m.ops) 0) (c 0).world (run g typed (goals + 0)) (c 0).at).typed in
       leads_runs (Typed left) (EndLeft goals left) set (no_more goals left (ops_until m rest goals is m.ops (come 0).world (run g typed (goals + 0)) (come 0).comes grown)) m.ops m (ops_lead set (EndLeft goals left) m rest m.ops is (ops_end m rest goals is m.ops come))
   left_on p rest (Enters call m) c is =
       let goals = 0 + p.goals in
-      let grown : EndsWith rest (run g typed (goals + 0)).world.typed = subst (λ l. EndsWith l (run g typed (goals + 0)).world.typed) (typed_at (c 0).world m.outside (c 0).at.mirrors.outside_is ∙ is) (at_grows set (Enters call m) p.prints g 0 (c 0).world (run g typed (goals + 0)) (c 0).at).typed in
+      let grown : EndsWith rest (run g typed (goals + 0)).world.typed = subst (λ l. EndsWith l (run g typed (goals + 0)).world.typed) (typed_at (c 0).world m.lasting (c 0).at.mirrors.lasting_is ∙ is) (at_grows set (Enters call m) p.prints g 0 (c 0).world (run g typed (goals + 0)) (c 0).at).typed in
       leads_entered (Typed rest) (EndLeft goals rest) set (no_more goals rest grown) call m.ops m is
   left_on p rest (Resumes way m) c is =
       let goals = 0 + p.goals in
-      let grown : EndsWith rest (run g typed (goals + 0)).world.typed = subst (λ l. EndsWith l (run g typed (goals + 0)).world.typed) (typed_at (c 0).world m.outside (c 0).at.mirrors.outside_is ∙ is) (at_grows set (Resumes way m) p.prints g 0 (c 0).world (run g typed (goals + 0)) (c 0).at).typed in
+      let grown : EndsWith rest (run g typed (goals + 0)).world.typed = subst (λ l. EndsWith l (run g typed (goals + 0)).world.typed) (typed_at (c 0).world m.lasting (c 0).at.mirrors.lasting_is ∙ is) (at_grows set (Resumes way m) p.prints g 0 (c 0).world (run g typed (goals + 0)) (c 0).at).typed in
       leads_goes_on (Typed rest) (EndLeft goals rest) set (no_more goals rest grown) way m is
   left_on p rest (Fails m) c is =
       let goals = 0 + p.goals in
-      let here = λ (n : ℕ). typed_at (c n).world m.outside (c n).at.outside ∙ is in
+      let here = λ (n : ℕ). typed_at (c n).world m.lasting (c n).at.lasting ∙ is in
       let grown : EndsWith rest (run g typed (goals + 0)).world.typed = subst (λ l. EndsWith l (run g typed (goals + 0)).world.typed) (here 0) (at_grows set (Fails m) p.prints g 0 (c 0).world (run g typed (goals + 0)) (c 0).at).typed in
       leads_back (Typed rest) (EndLeft goals rest) set (no_more goals rest grown) m.choices m is
       (λ none n. fails_leaves g code m.choices (c n).at.lives n (c n).world (run g typed (goals + n)) rest none (here n) (c n).at.choices (c n).at.failed)
@@ -435,7 +435,7 @@ module _ (g : Game) (code : Code) (limits : Limits) (codes : Codes g.program cod
     pub on : EndsWith (behind_first rest) (run g typed goals).world.typed
     pub none : rest ≡ [] → (run g typed goals).ending ≡ ending.InputEnded
 
-  reading_in : (m : Mid) (ops : List Op) (goals : ℕ) (rest : List ℕ) → m.outside.typed ≡ rest → reads_in set m ops ≡ true → Arrives g m ops 0 (run g typed goals) → Reading goals rest
+  reading_in : (m : Mid) (ops : List Op) (goals : ℕ) (rest : List ℕ) → m.lasting.typed ≡ rest → reads_in set m ops ≡ true → Arrives g m ops 0 (run g typed goals) → Reading goals rest
   reading_in m [] goals rest is e a = absurd (cc (e))
   reading_in m (op.Do (action.Input t) ∷ ops) goals rest is e a = record {
     on = subst (λ l. EndsWith (behind_first l) (run g typed goals).world.typed) is (takes_on g m t 0 (run g typed goals) a.comes);

@@ -11,7 +11,7 @@ use Rattle.dg_base.specs.declared.program.Mode.{Mode}
 use Rattle.dg_base.specs.declared.program.Rule.{Rule}
 use Rattle.dg_base.specs.declared.program.Pred.{Pred}
 use Rattle.dg_base.specs.declared.program.ClosureBody.{ClosureBody}
-use Rattle.dg_base.specs.Goals.{goals_within, goals_of}
+use Rattle.dg_base.specs.Goals.{goals_within, all_goals_of}
 use Rattle.dg_base.proofs.NodeLemmas.{inside, within_out}
 use Rattle.dg_meaning.specs.Render.{characters}
 use Rattle.dg_mid.specs.declared.code.Action.{Action}
@@ -58,15 +58,15 @@ goals_append : (xs ys : List Goal) → goals_weight (xs ++ ys) ≡ goals_weight 
 goals_append [] ys = omega arith
 goals_append (x ∷ xs) ys = omega (arith, goals_append xs ys)
 
-lists_inside : (lists : List (List Goal)) → goals_weight (flat_map goals_of lists) + 64 * length lists ≡ lists_weight lists
+lists_inside : (lists : List (List Goal)) → goals_weight (flat_map all_goals_of lists) + 64 * length lists ≡ lists_weight lists
 lists_inside [] = refl
-lists_inside (gs ∷ lists) = omega (arith, goals_append (goals_of gs) (flat_map goals_of lists), lists_inside lists)
+lists_inside (gs ∷ lists) = omega (arith, goals_append (all_goals_of gs) (flat_map all_goals_of lists), lists_inside lists)
 
-alone : (gs : List Goal) → goals_weight (goals_of gs) + 64 * 1 ≡ lists_weight (gs ∷ [])
+alone : (gs : List Goal) → goals_weight (all_goals_of gs) + 64 * 1 ≡ lists_weight (gs ∷ [])
 alone gs = omega arith
 
-three : (a b c : List Goal) → goals_weight (goals_of a ++ goals_of b ++ goals_of c) + 64 * 3 ≡ lists_weight (a ∷ b ∷ c ∷ [])
-three a b c = omega (arith, goals_append (goals_of a ++ goals_of b) (goals_of c), goals_append (goals_of a) (goals_of b))
+three : (a b c : List Goal) → goals_weight (all_goals_of a ++ all_goals_of b ++ all_goals_of c) + 64 * 3 ≡ lists_weight (a ∷ b ∷ c ∷ [])
+three a b c = omega (arith, goals_append (all_goals_of a ++ all_goals_of b) (all_goals_of c), goals_append (all_goals_of a) (all_goals_of b))
 
 inside_weight : (layer : form.Goal-F Goal) → goals_weight (inside layer) + 64 * length (lists_in layer) ≡ lists_weight (lists_in layer)
 inside_weight (form.Either lists) = lists_inside lists
@@ -86,8 +86,8 @@ whole_is x = omega (arith, ap goals_weight (within_out x), inside_weight (out-Go
 pub body_append : (gs hs : List Goal) → body_weight (gs ++ hs) ≡ body_weight gs + body_weight hs
 body_append [] hs = omega arith
 body_append (g ∷ gs) hs =
-    let a = goals_append (goals_within g) (goals_of (gs ++ hs)) in
-    let b = goals_append (goals_within g) (goals_of gs) in
+    let a = goals_append (goals_within g) (all_goals_of (gs ++ hs)) in
+    let b = goals_append (goals_within g) (all_goals_of gs) in
     omega (arith, a, b, body_append gs hs)
 
 pub body_one : (x : Goal) → body_weight (x ∷ []) ≡ whole_weight x

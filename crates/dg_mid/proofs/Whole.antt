@@ -13,7 +13,7 @@ use Rattle.dg_meaning.proofs.Keeps.{starts as stands_at_start, limited}
 use Rattle.dg_meaning.proofs.OneRun.{begins_on}
 use Rattle.dg_mid.specs.declared.code.Op.{Op}
 use Rattle.dg_mid.specs.declared.code.Code.{Code}
-use Rattle.dg_mid.specs.State.{Outside, Mid, Status, Runs, Enters, Resumes, Fails, Ended}
+use Rattle.dg_mid.specs.State.{Lasting, Mid, Status, Runs, Enters, Resumes, Fails, Ended}
 use Rattle.dg_mid.specs.Step.{Setting, setting, step, said, followed, takes_goal, at_goal}
 use Rattle.dg_mid.specs.Units.{one_if, earned}
 use Rattle.dg_mid.specs.Codes.{Codes, End, Stands, jumps, returns, commits, refuses, backs, leaves, keeps, finishes, acts, ask, last_ask, query, last_query, holds, objects, only, either, selects, once, negates, branch, exhausts, shields, collects, accumulates, forever}
@@ -24,10 +24,10 @@ use Rattle.dg_mid.proofs.Simulation.{simulates}
 
 -- the typed bytes that a machine has; one that has ended tells none
 abbrev pub typed_in : Status → List ℕ
-typed_in (Runs m) = m.outside.typed
-typed_in (Enters call m) = m.outside.typed
-typed_in (Resumes way m) = m.outside.typed
-typed_in (Fails m) = m.outside.typed
+typed_in (Runs m) = m.lasting.typed
+typed_in (Enters call m) = m.lasting.typed
+typed_in (Resumes way m) = m.lasting.typed
+typed_in (Fails m) = m.lasting.typed
 typed_in (Ended e) = []
 
 module _ (g : Game) (code : Code) (limits : Limits) (codes : Codes g.program code) (typed : List ℕ) where
@@ -43,7 +43,7 @@ module _ (g : Game) (code : Code) (limits : Limits) (codes : Codes g.program cod
       lives = [];
       ways = [];
       registers = (start_path g).registers;
-      mirrors = record { agrees = record { bound = refl; vars = refl; heap = omega arith; trail = omega arith; since = omega arith }; tag = refl; choices_are = none; below = tt; stops_are = tt; stop_is = refl; gathered_is = refl; outside_is = refl; printed_is = refl };
+      mirrors = record { agrees = record { bound = refl; vars = refl; heap = omega arith; trail = omega arith; since = omega arith }; tag = refl; choices_are = none; below = tt; stops_are = tt; stop_is = refl; gathered_is = refl; lasting_is = refl; printed_is = refl };
       answered = [];
       steps = (start_path g).steps;
       reads = record { goals = _; end = _; rest = _; stands = codes.starts; below = refl; gathers = tt; is = refl };
@@ -106,7 +106,7 @@ module _ (g : Game) (code : Code) (limits : Limits) (codes : Codes g.program cod
     pub printed_is : prints world.events ≡ printed
     pub typed_is : world.typed ≡ left
 
-  limited_at : (m : Mid) (ps : List Print) (w : World) (r : Run) → at_goal m.ops ≡ true → RunsAt code m ps g 0 w r → AtLimit ps m.outside.typed r
+  limited_at : (m : Mid) (ps : List Print) (w : World) (r : Run) → at_goal m.ops ≡ true → RunsAt code m ps g 0 w r → AtLimit ps m.lasting.typed r
   limited_at m ps w r e h =
       let layer = h.reads in
       let a = answers code m ps h.answered h.steps g 0 w r (record { lives = h.lives; ways = h.ways; registers = h.registers; mirrors = h.mirrors; stands = h.stands }) in
@@ -115,7 +115,7 @@ module _ (g : Game) (code : Code) (limits : Limits) (codes : Codes g.program cod
         world = f.world;
         is = f.is;
         printed_is = prints_dropped a.world f.world f.drops ∙ a.here.mirrors.printed_is;
-        typed_is = typed_dropped a.world f.world f.drops ∙ ap (λ (o : Outside). o.typed) a.here.mirrors.outside_is;
+        typed_is = typed_dropped a.world f.world f.drops ∙ ap (λ (o : Lasting). o.typed) a.here.mirrors.lasting_is;
       }
 
   pub at_limit : (now : Status) (ps : List Print) (w : World) (r : Run) → takes_goal now ≡ true → At set now ps g 0 w r → AtLimit ps (typed_in now) r

@@ -88,10 +88,10 @@ world_of ps m = record {
   events = map Prints ps;
   gathered = m.gathered;
   meters = record { heap = 0; trail = 0; aux = 0; keep = 0; work = 0 };
-  typed = m.outside.typed;
-  dice = m.outside.dice;
-  facts = m.outside.facts;
-  sites = m.outside.sites;
+  typed = m.lasting.typed;
+  dice = m.lasting.dice;
+  facts = m.lasting.facts;
+  sites = m.lasting.sites;
 }
 
 -- The act of an effect; an action offers no branches.
@@ -114,7 +114,7 @@ asked_at g ps place args m = asked g place args true [] (registers_of m) (world_
 
 -- An object is tried in a machine.
 abbrev pub found_at : List Print → Find → ℕ → Mid → Act
-found_at ps f o m = finds_if_set f.args o (registers_of m) (found m.outside.facts f.place o) (begun (registers_of m) 1 (world_of ps m))
+found_at ps f o m = finds_if_set f.args o (registers_of m) (found m.lasting.facts f.place o) (begun (registers_of m) 1 (world_of ps m))
 
 -- The world that an act leaves.
 abbrev pub world_by : Act → World
@@ -129,6 +129,6 @@ world_by (Stops w) = w
 abbrev pub said_by : Act → List Print
 said_by act = prints (world_by act).events
 
--- The machine with what is outside in a world.
-abbrev pub outside_in : World → Mid → Mid
-outside_in w m = record m { outside = record { typed = w.typed; dice = w.dice; facts = w.facts; sites = w.sites } }
+-- The machine with what lasts in a world.
+abbrev pub lasting_in : World → Mid → Mid
+lasting_in w m = record m { lasting = record { typed = w.typed; dice = w.dice; facts = w.facts; sites = w.sites } }

@@ -7,7 +7,7 @@ use Rattle.dg_base.specs.declared.program.Goal.{Goal, out-Goal}
 use Rattle.dg_base.specs.declared.program.Pred.{Pred}
 use Rattle.dg_base.specs.declared.program.Rule.{Rule}
 use Rattle.dg_base.specs.declared.program.Term.{Term}
-use Rattle.dg_base.specs.Goals.{goals_of, terms_held}
+use Rattle.dg_base.specs.Goals.{all_goals_of, terms_held}
 use Rattle.dg_mid.specs.declared.code.Op.{Op}
 use Rattle.dg_mid.specs.declared.code.Op.TheVariants as op
 use Rattle.dg_mid.specs.declared.code.RuleCode.{RuleCode}
@@ -43,8 +43,8 @@ HoldsFew n x = length (terms_held (out-Goal x)) ≤ n
 
 -- So does each goal of a program, at every depth.
 pub record AllHoldFew (n : ℕ) (program : CoreProgram) : Type 0 where
-  pub preds : All (λ (pred : Pred). All (λ (rule : Rule). All (HoldsFew n) (goals_of rule.body)) pred.rules) program.preds
-  pub closures : All (λ (closure : ClosureBody). All (HoldsFew n) (goals_of closure.body)) program.closures
+  pub preds : All (λ (pred : Pred). All (λ (rule : Rule). All (HoldsFew n) (all_goals_of rule.body)) pred.rules) program.preds
+  pub closures : All (λ (closure : ClosureBody). All (HoldsFew n) (all_goals_of closure.body)) program.closures
 
 -- Code begins with the entering of a rule whose head has so many terms.
 pub record EntersWith (n : ℕ) (ops : List Op) : Type 0 where

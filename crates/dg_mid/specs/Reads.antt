@@ -9,7 +9,7 @@ use Rattle.dg_meaning.specs.Values.{Value, value_of}
 use Rattle.dg_meaning.specs.Substitutions.{Substitution}
 use Rattle.dg_meaning.specs.inside.Substitutions.{IsSubstitution}
 use Rattle.dg_meaning.specs.World.{Game, World, Gathering, Print, prints}
-use Rattle.dg_meaning.specs.Path.{Step, Answers, Cut, Refuse, Back, Keep, Leave, Registers, Path, Branch, Enter, Clash, TakeOut, Finds, Kind, Plain, Rules, Result}
+use Rattle.dg_meaning.specs.Path.{Step, Answers, Cut, Refuse, Back, Keep, Leave, Registers, Path, Branch, Enter, Clash, TakeOut, Finds, ChoiceKind, Plain, Rules, Result}
 use Rattle.dg_meaning.specs.Moves.{path_of, goals_at, first_alone, inside, object_branches, is_excluded, rule_branch, rule_branches}
 use Rattle.dg_meaning.specs.Transcript.{Run, run_of, ending_of}
 use Rattle.dg_meaning.specs.Search.{answer}
@@ -23,7 +23,7 @@ use Rattle.dg_mid.specs.declared.code.Gathered.{Gathered}
 use Rattle.dg_mid.specs.declared.code.RuleCode.{RuleCode}
 use Rattle.dg_mid.specs.declared.code.Code.{Code}
 use Rattle.dg_mid.specs.Code.{block_at, selected}
-use Rattle.dg_mid.specs.State.{Place, Frame, Call, Find, Way, Goes, Takes, Calls, Tries, Stop, Choice, Outside, Mid, Status, Runs, Enters, Resumes, Fails, Ended, vars_of, cut_of}
+use Rattle.dg_mid.specs.State.{Place, Frame, Call, Find, Way, Goes, Takes, Calls, Tries, Stop, Choice, Lasting, Mid, Status, Runs, Enters, Resumes, Fails, Ended, vars_of, cut_of}
 use Rattle.dg_mid.specs.Actions.{whole_of}
 use Rattle.dg_mid.specs.Step.{Setting, first_of, step, said, followed, takes_goal}
 use Rattle.dg_mid.specs.Units.{earned}
@@ -128,7 +128,7 @@ GoesAt g code b frames inner r (Finds place o args path ∷ others) = ⊥
 
 -- Branches that are not begun are rules of a query, of which these are left from the first on that isn't excluded.
 pub record CallsAt (g : Game) (code : Code) (call : Call) (rules : List RuleCode) (frames : List Frame) (inner : List Place)
-    (S : Substitution) (r : Registers) (kind : Kind) (others : List Branch) : Type 0 where
+    (S : Substitution) (r : Registers) (kind : ChoiceKind) (others : List Branch) : Type 0 where
   pub pred : ℕ
   pub rule : Rule
   pub left : List Rule
@@ -175,7 +175,7 @@ pub record TriesAt (g : Game) (code : Code) (f : Find) (objects : List ℕ) (fra
       (goals_at (vars_of frames) (cut_of frames).tag goals ++ end_steps end (vars_of frames) (cut_of frames).tag inner rest) r objects
 
 -- What a choice goes on with is the branches that are not begun.
-abbrev pub WayOf : Game → Code → Way → List Frame → List Place → Substitution → Registers → Kind → List Branch → Type 0
+abbrev pub WayOf : Game → Code → Way → List Frame → List Place → Substitution → Registers → ChoiceKind → List Branch → Type 0
 WayOf g code (Goes b) frames inner S r kind others = (kind ≡ Plain) × GoesAt g code b frames inner r others
 WayOf g code (Takes b into) frames inner S r kind others = (kind ≡ Plain) × TakesAt g code b into frames inner r others
 WayOf g code (Calls call rules) frames inner S r kind others = CallsAt g code call rules frames inner S r kind others
@@ -234,14 +234,14 @@ pub data AreChoices (g : Game) (code : Code) : List Choice → List Live → Typ
 
 -- ## Where a run is
 
--- What is outside in a world.
-abbrev pub outside_of : World → Outside
-outside_of w = record { typed = w.typed; dice = w.dice; facts = w.facts; sites = w.sites }
+-- What lasts in a world.
+abbrev pub lasting_of : World → Lasting
+lasting_of w = record { typed = w.typed; dice = w.dice; facts = w.facts; sites = w.sites }
 
--- A machine in this state, with so many choices opened, with these choices, stoppable parts and gatherings, and this outside, that has printed this,
+-- A machine in this state, with so many choices opened, with these choices, stoppable parts and gatherings, in which this lasts, that has printed this,
 -- is where the search has these registers, choices and ways on, in this world.
 pub record MirrorsWith (g : Game) (code : Code) (state : State) (next_tag : ℕ) (choices : List Choice) (stops : List Stop) (stop : Option ℕ)
-    (gathered : List Gathering) (outside : Outside) (ps : List Print) (r : Registers) (lives : List Live) (ways : List WayOn) (w : World) : Type 0 where
+    (gathered : List Gathering) (lasting : Lasting) (ps : List Print) (r : Registers) (lives : List Live) (ways : List WayOn) (w : World) : Type 0 where
   pub agrees : Agrees state r
   pub tag : r.next_tag ≡ next_tag
   pub choices_are : AreChoices g code choices lives
@@ -249,12 +249,12 @@ pub record MirrorsWith (g : Game) (code : Code) (state : State) (next_tag : ℕ)
   pub stops_are : AreStops g code stops ways
   pub stop_is : r.stoppable ≡ stop
   pub gathered_is : w.gathered ≡ gathered
-  pub outside_is : outside_of w ≡ outside
+  pub lasting_is : lasting_of w ≡ lasting
   pub printed_is : prints w.events ≡ ps
 
 -- A machine that has printed this is where the search has these registers, choices and ways on, in this world.
 abbrev pub Mirrors : Game → Code → Mid → List Print → Registers → List Live → List WayOn → World → Type 0
-Mirrors g code m ps r lives ways w = MirrorsWith g code m.state m.next_tag m.choices m.stops m.stop m.gathered m.outside ps r lives ways w
+Mirrors g code m ps r lives ways w = MirrorsWith g code m.state m.next_tag m.choices m.stops m.stop m.gathered m.lasting ps r lives ways w
 
 -- The code at hand stands for the path.
 pub record RunsAt (code : Code) (m : Mid) (ps : List Print) (g : Game) (n : ℕ) (w : World) (run : Run) : Type 0 where
@@ -303,7 +303,7 @@ pub record FailsAt (code : Code) (m : Mid) (ps : List Print) (g : Game) (n : ℕ
   pub lives : List Live
   pub choices : AreChoices g code m.choices lives
   pub gathered : w.gathered ≡ m.gathered
-  pub outside : outside_of w ≡ m.outside
+  pub lasting : lasting_of w ≡ m.lasting
   pub printed : prints w.events ≡ ps
   pub failed : Failed g lives n w run
 

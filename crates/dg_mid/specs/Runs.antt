@@ -11,7 +11,7 @@ use Rattle.dg_mid.specs.State.{Status, Runs, Ended}
 use Rattle.dg_mid.specs.Step.{Setting, step, said, followed, takes_goal}
 use Rattle.dg_mid.specs.Left.{reads, left_behind}
 use Rattle.dg_mid.specs.Units.{one_if, units, earned, selects}
-use Rattle.dg_mid.specs.Reads.{outside_of, Comes}
+use Rattle.dg_mid.specs.Reads.{lasting_of, Comes}
 
 -- The start on typed bytes: in front of the query of the entry, where what starts set is set.
 abbrev pub start : Setting → List ℕ → Status
@@ -25,7 +25,7 @@ start s typed = Runs (record {
   gathered = [];
   next_tag = 1;
   state = record { vars = 0; subst = []; since = 0; heap = 0; trail = 0 };
-  outside = outside_of (start_world s.game typed);
+  lasting = lasting_of (start_world s.game typed);
 })
 
 -- Where a run of code is: the status, what was printed, how many goals were taken, what the steps have cost, how much of it is work of the search,

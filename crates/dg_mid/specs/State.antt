@@ -78,15 +78,15 @@ pub record Choice : Type 0 where
 
 -- What backtracking doesn't take back, beside what is gathered: the typed bytes left, how many dice words were drawn, what is set, and what is kept
 -- of each select.
-pub record Outside : Type 0 where
+pub record Lasting : Type 0 where
   pub typed : List ℕ
   pub dice : ℕ
   pub facts : List Fact
   pub sites : List Picks
 
 -- The code at hand, the frames with the newest first, the inner constructs that are open in the newest one, the choices, the stoppable parts around,
--- the innermost of them that is still open, the open gatherings, how many choices were opened along the path, the state of the store, and what is
--- outside.
+-- the innermost of them that is still open, the open gatherings, how many choices were opened along the path, the state of the store, and what
+-- lasts.
 pub record Mid : Type 0 where
   pub ops : List Op
   pub frames : List Frame
@@ -97,7 +97,7 @@ pub record Mid : Type 0 where
   pub gathered : List Gathering
   pub next_tag : ℕ
   pub state : State
-  pub outside : Outside
+  pub lasting : Lasting
 
 -- It runs its code, enters a rule, goes on with what a choice had left, goes back to the newest choice, or has ended.
 pub data Status : Type 0 where

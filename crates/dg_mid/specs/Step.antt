@@ -24,7 +24,7 @@ use Rattle.dg_mid.specs.declared.code.BodyCode.{BodyCode}
 use Rattle.dg_mid.specs.declared.code.Code.{Code}
 use Rattle.dg_mid.specs.Code.{block_at, rules_at, selected}
 use Rattle.dg_mid.specs.State.{Place, Frame, Call, Target, ToPred, ToBody, Find, Way, Goes, Takes, Calls, Tries, Stop, Choice, Mid, Status, Runs, Enters, Resumes, Fails, Ended, vars_of, cut_of, place_of, inner_for, cut_choices, stop_to}
-use Rattle.dg_mid.specs.Actions.{terms_of, whole_of, registers_of, world_of, act_at, asked_at, found_at, said_by, outside_in}
+use Rattle.dg_mid.specs.Actions.{terms_of, whole_of, registers_of, world_of, act_at, asked_at, found_at, said_by, lasting_in}
 
 -- What stays the same: the game, for what its program prints, captures and keeps, and for its dice, its code, and the limits.
 pub record Setting : Type 0 where
@@ -302,20 +302,20 @@ made_in r m = record m { state = record m.state { vars = r.next_var; heap = m.st
 
 -- What an act leads to; the only steps that one goes on with are a cut of the rule.
 abbrev pub done : Setting → Act → Mid → Status
-done g (Goes [] w) m = keeps_within g w.meters.keep (Runs (outside_in w m))
+done g (Goes [] w) m = keeps_within g w.meters.keep (Runs (lasting_in w m))
 done g (Goes (s ∷ steps) w) m = Runs (cut_to (cut_of m.frames) m)
-done g (Tests passed w) m = if_passed passed (outside_in w m)
+done g (Tests passed w) m = if_passed passed (lasting_in w m)
 done g (Unifies made es w) m =
-    let m' = made_in made (outside_in w m) in
+    let m' = made_in made (lasting_in w m) in
     let u = solve made.bound es in
     charged g (made.heap - m.state.heap) m (unified g u m' (Runs (bound u m')))
 done g (Ends e w) m = Ended e
-done g (FailsNow w) m = Fails (outside_in w m)
-done g (Stops w) m = stops g m.stop (outside_in w m)
+done g (FailsNow w) m = Fails (lasting_in w m)
+done g (Stops w) m = stops g m.stop (lasting_in w m)
 
 -- The machine at the block of the branch that a select has chosen.
 abbrev pub at_choice : Setting → Chosen → ℕ → List ℕ → ℕ → Mid → Mid
-at_choice g c site blocks behind m = record (outside_in (picked site c (world_of [] m)) m) { ops = block_at g.code (get_or blocks c.branch behind) }
+at_choice g c site blocks behind m = record (lasting_in (picked site c (world_of [] m)) m) { ops = block_at g.code (get_or blocks c.branch behind) }
 
 -- A query of objects is answered at once, or the objects are tried in turn.
 abbrev pub seeks : Setting → Find → Effect → Mid → Status

@@ -7,7 +7,7 @@ use Rattle.dg_base.specs.declared.program.Rule.{Rule}
 use Rattle.dg_base.specs.declared.program.Pred.{Pred}
 use Rattle.dg_base.specs.declared.program.ClosureBody.{ClosureBody}
 use Rattle.dg_base.specs.declared.program.CoreProgram.{CoreProgram}
-use Rattle.dg_base.specs.Goals.{goals_of}
+use Rattle.dg_base.specs.Goals.{all_goals_of}
 use Rattle.dg_meaning.specs.Render.{characters}
 use Rattle.dg_mid.specs.declared.code.Action.TheVariants as action
 use Rattle.dg_mid.specs.declared.code.Op.{Op}
@@ -61,7 +61,7 @@ goals_weight (goal ∷ goals) = goal_weight (out-Goal goal) + goals_weight goals
 
 -- A body, with its goals at every depth.
 abbrev pub body_weight : List Goal → ℕ
-body_weight body = goals_weight (goals_of body)
+body_weight body = goals_weight (all_goals_of body)
 
 -- Lists that a goal holds.
 abbrev pub lists_weight : List (List Goal) → ℕ

@@ -6,9 +6,9 @@ mod closures;
 mod code;
 mod heads;
 mod laws;
-mod letting;
 mod places;
 mod programs;
+mod release;
 mod terms;
 mod writing;
 
@@ -21,6 +21,6 @@ pub use laws::{
     objects_are_tried_where_they_may_be, runs_meet_no_step_limit, singles_leave_no_choice,
     steps_come_to_a_goal, trails_order_places,
 };
-pub use letting::let_go;
 pub use programs::to_mid;
+pub use release::let_go;
 pub use writing::{Level, Work, Writer};

@@ -6,7 +6,7 @@ ghost use Rattle.dg_mid.specs.Potential.{Tidy};
 ghost use Rattle.dg_mid.specs.Weights.{IsLight};
 
 use crate::code::Code;
-use crate::letting::let_go_places;
+use crate::release::let_go_places;
 use crate::writing::Writer;
 use dg_base::CoreProgram;
 use std::alloc::{AllocError, Global};

@@ -7,7 +7,7 @@ use Rattle.dg_base.specs.Goals.{terms_held}
 use Rattle.dg_meaning.specs.Values.{Value}
 use Rattle.dg_meaning.specs.World.{Game, World, Event, Answered, Retried, HasFailed, noted, worked}
 use Rattle.dg_meaning.specs.Cells.{writing}
-use Rattle.dg_meaning.specs.Path.{Step, Do, Answers, Cut, Refuse, Back, Keep, Leave, Registers, Path, Result, Failing, CutFail, StopTo, End, Answer, Branch, Enter, Clash, TakeOut, Finds, Kind, Plain, Rules, Shield, Gathers, Move, GoesOn, FailsAt, EndsAt, StopsAt, Outcome, Moves, Chooses, Act, Goes, Tests, Unifies, Ends, Fails, Stops, Effect, Acts, Offers}
+use Rattle.dg_meaning.specs.Path.{Step, Do, Answers, Cut, Refuse, Back, Keep, Leave, Registers, Path, Result, Failing, CutFail, StopTo, End, Answer, Branch, Enter, Clash, TakeOut, Finds, ChoiceKind, Plain, Rules, Shield, Gathers, Move, GoesOn, FailsAt, EndsAt, StopsAt, Outcome, Moves, Chooses, Act, Goes, Tests, Unifies, Ends, Fails, Stops, Effect, Acts, Offers}
 use Rattle.dg_meaning.specs.Unify.{solve}
 use Rattle.dg_meaning.specs.Moves.{begun, bound_by, made_since, unifying, exhausted, goes_on_if, stop, move_of, path_at, beginning, begins, choice, effect, outcome_of, behind_terms, move}
 use Rattle.dg_meaning.specs.Search.{Search, answer, cut_first, branch_cut, branches_cut, later, retried, leave, catches, after_branch, after_move, begin, choose, choose_first, after_goal, take_goal, go, nowhere, search_to}
@@ -23,19 +23,19 @@ Same q w v = passes q v.events ≡ passes q w.events
 pub noted_same : (q : ℕ) (e : Event) (w : World) → passes q (e ∷ []) ≡ 0 → Same q w (noted e w)
 noted_same q e w h = omega (arith, passes_append q w.events (e ∷ []), h)
 
-pub exhausted_same : (q : ℕ) (k : Kind) (w : World) → Same q w (exhausted k w)
+pub exhausted_same : (q : ℕ) (k : ChoiceKind) (w : World) → Same q w (exhausted k w)
 exhausted_same q (Rules p) w = noted_same q (HasFailed p) w refl
 exhausted_same q Plain w = refl
 exhausted_same q Shield w = refl
 exhausted_same q Gathers w = refl
 
-pub retried_same : (q : ℕ) (k : Kind) (w : World) → Same q w (retried k w)
+pub retried_same : (q : ℕ) (k : ChoiceKind) (w : World) → Same q w (retried k w)
 retried_same q (Rules p) w = noted_same q (Retried p) w refl
 retried_same q Plain w = refl
 retried_same q Shield w = refl
 retried_same q Gathers w = refl
 
-pub leave_same : (q : ℕ) (k : Kind) (t : ℕ) (w : World) → Same q w (leave k t w)
+pub leave_same : (q : ℕ) (k : ChoiceKind) (t : ℕ) (w : World) → Same q w (leave k t w)
 leave_same q Gathers t w = refl
 leave_same q Plain t w = refl
 leave_same q (Rules p) t w = refl
@@ -71,7 +71,7 @@ effect_same q t w (Offers Plain bs v) h = h.answers q
 effect_same q t w (Offers (Rules p) bs v) h = h.answers q
 effect_same q t w (Offers Shield bs v) h = h.answers q
 
-choice_same : (q : ℕ) (k : Kind) (t : ℕ) (bs : List Branch) (w : World) → Same q w (world_of (choice k t bs w))
+choice_same : (q : ℕ) (k : ChoiceKind) (t : ℕ) (bs : List Branch) (w : World) → Same q w (world_of (choice k t bs w))
 choice_same q k t [] w = exhausted_same q k w
 choice_same q k t (b ∷ bs) w = refl
 
@@ -134,7 +134,7 @@ abbrev OutcomeFree : ℕ → Outcome → Type 0
 OutcomeFree q (Moves m) = MoveFits (Frees q) m
 OutcomeFree q (Chooses k t b bs w) = AllFree q (b ∷ bs)
 
-choice_free : (q : ℕ) (k : Kind) (t : ℕ) (bs : List Branch) (w : World) → AllFree q bs → OutcomeFree q (choice k t bs w)
+choice_free : (q : ℕ) (k : ChoiceKind) (t : ℕ) (bs : List Branch) (w : World) → AllFree q bs → OutcomeFree q (choice k t bs w)
 choice_free q k t [] w h = tt
 choice_free q k t (b ∷ bs) w h = h
 
@@ -157,14 +157,14 @@ module _ (q : ℕ) (s : Search) (cold : IsCold q s) where
   pub begin_cold : (b : Branch) (n : ℕ) (w : World) → IsFree q (path_at b).steps → Same q w (begin s b n w).world
   begin_cold b n w h = after_move_cold n (begins b w) (begins_fits (Frees q) b w h) ∙ begins_same q b w
 
-  after_branch_cold : (k : Kind) (t n : ℕ) (w : World) (r : Result) (next : ℕ → World → Answer) (stopped : Option ℕ → ℕ → World → Answer) → Same q w (next n w).world → ((c : Option ℕ) → Same q w (stopped c n w).world) → Same q w (after_branch k t n w r next stopped).world
+  after_branch_cold : (k : ChoiceKind) (t n : ℕ) (w : World) (r : Result) (next : ℕ → World → Answer) (stopped : Option ℕ → ℕ → World → Answer) → Same q w (next n w).world → ((c : Option ℕ) → Same q w (stopped c n w).world) → Same q w (after_branch k t n w r next stopped).world
   after_branch_cold k t n w Failing next stopped h hs = h
   after_branch_cold k t n w (CutFail u) next stopped h hs = leave_same q k t w
   after_branch_cold k t n w (StopTo u c) next stopped h hs =
       cond_both (catches k t u) (stopped c n w) (answer n (leave k t w) (StopTo u c)) (λ (a : Answer). Same q w a.world) (λ e. hs c) (λ e. leave_same q k t w)
   after_branch_cold k t n w (End e) next stopped h hs = leave_same q k t w
 
-  pub choose_cold : (k : Kind) (t : ℕ) (bs : List Branch) (n : ℕ) (w : World) → AllFree q bs → Same q w (choose s k t bs n w).world
+  pub choose_cold : (k : ChoiceKind) (t : ℕ) (bs : List Branch) (n : ℕ) (w : World) → AllFree q bs → Same q w (choose s k t bs n w).world
   choose_cold k t [] n w h = exhausted_same q k w
   choose_cold k t (b ∷ bs) n w h =
       let a = begin s b n (retried k w) in
@@ -185,7 +185,7 @@ module _ (q : ℕ) (s : Search) (cold : IsCold q s) where
   all_cut_free t c [] h = tt
   all_cut_free t c (b ∷ bs) h = (cut_free t c b h.0, all_cut_free t c bs h.1)
 
-  choose_first_cold : (k : Kind) (t : ℕ) (b : Branch) (bs : List Branch) (n : ℕ) (w : World) → AllFree q (b ∷ bs) → Same q w (choose_first s k t b bs n w).world
+  choose_first_cold : (k : ChoiceKind) (t : ℕ) (b : Branch) (bs : List Branch) (n : ℕ) (w : World) → AllFree q (b ∷ bs) → Same q w (choose_first s k t b bs n w).world
   choose_first_cold k t b bs n w h =
       let a = begin s b n w in
       after_branch_cold k t a.left a.world a.result (choose s (later k) t bs) (λ c. choose s (later k) t (branches_cut t c bs)) (choose_cold (later k) t bs a.left a.world h.1)

@@ -8,7 +8,7 @@ use Rattle.dg_base.specs.Goals.{terms_held}
 use Rattle.dg_meaning.specs.Values.{Value}
 use Rattle.dg_meaning.specs.World.{Game, World, Answered, noted, worked}
 use Rattle.dg_meaning.specs.Cells.{writing}
-use Rattle.dg_meaning.specs.Path.{Step, Do, Answers, Cut, Refuse, Back, Keep, Leave, Registers, Path, Result, Failing, CutFail, StopTo, End, Answer, Branch, Enter, Clash, TakeOut, Finds, Kind, Plain, Rules, Shield, Gathers, Move, GoesOn, FailsAt, EndsAt, StopsAt, Outcome, Effect, Acts, Offers}
+use Rattle.dg_meaning.specs.Path.{Step, Do, Answers, Cut, Refuse, Back, Keep, Leave, Registers, Path, Result, Failing, CutFail, StopTo, End, Answer, Branch, Enter, Clash, TakeOut, Finds, ChoiceKind, Plain, Rules, Shield, Gathers, Move, GoesOn, FailsAt, EndsAt, StopsAt, Outcome, Effect, Acts, Offers}
 use Rattle.dg_meaning.specs.Moves.{path_of, begun, path_at, begins, effect, outcome_of, behind_terms, move}
 use Rattle.dg_meaning.specs.Search.{Search, answer, cut_result, cut_first, branches_cut, later, retried, leave, catches, after_branch, after_move, begin, choose, choose_first, after_goal, take_goal, go, nowhere, search_to}
 use Rattle.dg_meaning.specs.inside.Context.{Around, InBranch, InCut, Older, Holds, Shielded, StopIn, StepsIn, PathIn, BranchIn, BranchesIn}
@@ -88,7 +88,7 @@ module _ (g : Game) (q : ℕ) (none : slice_get g.program.preds q ≡ None) (S :
   abbrev pub BranchRes : (ℕ → Type 0) → World → World → Result → List Branch → Type 0
   BranchRes Q u w r bs = Same q u w ⊎ ((passes q w.events ≡ suc (passes q u.events)) × After Q r × (((c : ℕ) × ResultSealed c r) ⊎ (bs ≡ [])))
 
-  after_hot : (Q : ℕ → Type 0) (k : Kind) (t : ℕ) (bs : List Branch) (n : ℕ) (u w : World) (r : Result) (next : ℕ → World → Answer) (stopped : Option ℕ → ℕ → World → Answer) → ((c : ℕ) → Q c → c < t) → ((x : ℕ) → Shielded ctx0 x → catches k t x ≡ false) → BranchRes Q u w r bs → Res Q w (next n w) → (bs ≡ [] → Same q w (next n w).world × ((next n w).result ≡ Failing)) → ((x : ℕ) (c : Option ℕ) → r ≡ StopTo x c → catches k t x ≡ true → Res Q w (stopped c n w)) → Res Q u (after_branch k t n w r next stopped)
+  after_hot : (Q : ℕ → Type 0) (k : ChoiceKind) (t : ℕ) (bs : List Branch) (n : ℕ) (u w : World) (r : Result) (next : ℕ → World → Answer) (stopped : Option ℕ → ℕ → World → Answer) → ((c : ℕ) → Q c → c < t) → ((x : ℕ) → Shielded ctx0 x → catches k t x ≡ false) → BranchRes Q u w r bs → Res Q w (next n w) → (bs ≡ [] → Same q w (next n w).world × ((next n w).result ≡ Failing)) → ((x : ℕ) (c : Option ℕ) → r ≡ StopTo x c → catches k t x ≡ true → Res Q w (stopped c n w)) → Res Q u (after_branch k t n w r next stopped)
   after_hot Q k t bs n u w Failing next stopped lt old (inl e) hn hl hs = res_from Q u w (next n w) e hn
   after_hot Q k t bs n u w Failing next stopped lt old (inr h) hn hl hs =
       elim h.2 [
@@ -125,10 +125,10 @@ module _ (g : Game) (q : ℕ) (none : slice_get g.program.preds q ≡ None) (S :
   cut_ok Q t c (TakeOut u whole into path ∷ bs) h = (path_cut_ok Q t c path bs h.0, cut_ok Q t c bs h.1)
   cut_ok Q t c (Finds place o args path ∷ bs) h = (path_cut_ok Q t c path bs h.0, cut_ok Q t c bs h.1)
 
-  one_more : (k : Kind) (t : ℕ) (bs : List Branch) (ctx : List Around) → IsBehind ctx0 ctx → IsBehind ctx0 (InBranch k t bs ∷ ctx)
+  one_more : (k : ChoiceKind) (t : ℕ) (bs : List Branch) (ctx : List Around) → IsBehind ctx0 ctx → IsBehind ctx0 (InBranch k t bs ∷ ctx)
   one_more k t bs ctx b = record { front = InBranch k t bs ∷ b.front; is = ap (λ l. InBranch k t bs ∷ l) b.is }
 
-  old_parts : (k : Kind) (t : ℕ) (ctx : List Around) → IsBehind ctx0 ctx → Older t ctx → (x : ℕ) → Shielded ctx0 x → catches k t x ≡ false
+  old_parts : (k : ChoiceKind) (t : ℕ) (ctx : List Around) → IsBehind ctx0 ctx → Older t ctx → (x : ℕ) → Shielded ctx0 x → catches k t x ≡ false
   old_parts Plain t ctx b older x h = refl
   old_parts (Rules p) t ctx b older x h = refl
   old_parts Gathers t ctx b older x h = refl
@@ -153,7 +153,7 @@ module _ (g : Game) (q : ℕ) (none : slice_get g.program.preds q ≡ None) (S :
           | inr r ↦ inr (r.0, ((λ c wanted. r.1.0 c (f.0.1 c wanted)), r.1.1), elim f.1 [ inl z ↦ inl (z.0, r.1.0 z.0 z.1) | inr e ↦ inr e ])
         ]
 
-    choose_hot : (Q : ℕ → Type 0) (j : Kind) (t : ℕ) (ctx : List Around) (bs : List Branch) (n : ℕ) (w : World) → IsBehind ctx0 ctx → ((x : ℕ) → catches j t x ≡ false) → ((c : ℕ) → Q c → c < t) → BranchesIn (InBranch Plain t [] ∷ ctx) bs → BranchesOk q S rest o0 Q bs → Res Q w (choose s j t bs n w)
+    choose_hot : (Q : ℕ → Type 0) (j : ChoiceKind) (t : ℕ) (ctx : List Around) (bs : List Branch) (n : ℕ) (w : World) → IsBehind ctx0 ctx → ((x : ℕ) → catches j t x ≡ false) → ((c : ℕ) → Q c → c < t) → BranchesIn (InBranch Plain t [] ∷ ctx) bs → BranchesOk q S rest o0 Q bs → Res Q w (choose s j t bs n w)
     choose_hot Q j t ctx [] n w b never lt h ok = inl (exhausted_same q j w)
     choose_hot Q j t ctx (x ∷ bs) n w b never lt h ok =
         let u = retried j w in
@@ -162,11 +162,11 @@ module _ (g : Game) (q : ℕ) (none : slice_get g.program.preds q ≡ None) (S :
         (after_hot Q j t bs a.left u a.world a.result (choose s j t bs) (λ c. choose s j t bs) lt (λ y z. never y) (begin_hot Q (InBranch Plain t [] ∷ ctx) x bs n u (one_more Plain t [] ctx b) h.0 ok.0)
         (choose_hot Q j t ctx bs a.left a.world b never lt h.1 ok.1) (none_left j t bs a.left a.world) (λ y c e caught. let no' = never y in absurd (cc (caught, no'))))
       where
-        none_left : (j : Kind) (t : ℕ) (bs : List Branch) (n : ℕ) (w : World) → bs ≡ [] → Same q w (choose s j t bs n w).world × ((choose s j t bs n w).result ≡ Failing)
+        none_left : (j : ChoiceKind) (t : ℕ) (bs : List Branch) (n : ℕ) (w : World) → bs ≡ [] → Same q w (choose s j t bs n w).world × ((choose s j t bs n w).result ≡ Failing)
         none_left j t [] n w e = (exhausted_same q j w, refl)
         none_left j t (x ∷ bs) n w e = absurd (cc (e))
 
-    first_hot : (Q : ℕ → Type 0) (k : Kind) (t : ℕ) (ctx : List Around) (x : Branch) (bs : List Branch) (n : ℕ) (w : World) → IsBehind ctx0 ctx → Older t ctx → ((c : ℕ) → Q c → c < t) → BranchIn (InBranch k t bs ∷ ctx) x → BranchesIn (InBranch Plain t [] ∷ ctx) bs → BranchesOk q S rest o0 Q (x ∷ bs) → Res Q w (choose_first s k t x bs n w)
+    first_hot : (Q : ℕ → Type 0) (k : ChoiceKind) (t : ℕ) (ctx : List Around) (x : Branch) (bs : List Branch) (n : ℕ) (w : World) → IsBehind ctx0 ctx → Older t ctx → ((c : ℕ) → Q c → c < t) → BranchIn (InBranch k t bs ∷ ctx) x → BranchesIn (InBranch Plain t [] ∷ ctx) bs → BranchesOk q S rest o0 Q (x ∷ bs) → Res Q w (choose_first s k t x bs n w)
     first_hot Q k t ctx x bs n w b older lt hx h ok =
         let a = begin s x n w in
         let j = later k in
@@ -175,7 +175,7 @@ module _ (g : Game) (q : ℕ) (none : slice_get g.program.preds q ≡ None) (S :
         (λ y c e caught. let held = caught_held k t bs ctx y c caught (subst (ResultIn (InBranch k t bs ∷ ctx)) e (begin_scoped s scoped (InBranch k t bs ∷ ctx) x n w hx)) in
         choose_hot Q j t ctx (branches_cut t c bs) a.left a.world b (later_never k t) lt (branches_cut_in (InBranch Plain t [] ∷ ctx) t c bs held h) (cut_ok Q t c bs ok.1))
       where
-        none_left : (j : Kind) (t : ℕ) (bs : List Branch) (n : ℕ) (w : World) → bs ≡ [] → Same q w (choose s j t bs n w).world × ((choose s j t bs n w).result ≡ Failing)
+        none_left : (j : ChoiceKind) (t : ℕ) (bs : List Branch) (n : ℕ) (w : World) → bs ≡ [] → Same q w (choose s j t bs n w).world × ((choose s j t bs n w).result ≡ Failing)
         none_left j t [] n w e = (exhausted_same q j w, refl)
         none_left j t (x ∷ bs) n w e = absurd (cc (e))
 

@@ -8,7 +8,7 @@ use Rattle.dg_base.specs.declared.program.Term.{Term}
 use Rattle.dg_base.specs.declared.program.Term.TheVariants as term
 use Rattle.dg_base.specs.declared.program.Term.TheBlock.{hidden-the_row-Term-0}
 use Rattle.dg_base.specs.Terms.{nodes}
-use Rattle.dg_base.specs.Goals.{goals_within, goals_of}
+use Rattle.dg_base.specs.Goals.{goals_within, all_goals_of}
 use Rattle.dg_base.proofs.NodeLemmas.{inside, within_out}
 use Rattle.dg_story.specs.declared.counting.Left.{Left}
 use Rattle.dg_story.specs.Sizes.{lists_held, goals_size, body_size}
@@ -23,15 +23,15 @@ goals_append [] ys = omega arith
 goals_append (x ∷ xs) ys = omega (arith, goals_append xs ys)
 
 -- the goals in lists, with a node for each list
-lists_inside : (lists : List (List Goal)) → goals_size (flat_map goals_of lists) + 100 * length lists ≡ lists_size lists
+lists_inside : (lists : List (List Goal)) → goals_size (flat_map all_goals_of lists) + 100 * length lists ≡ lists_size lists
 lists_inside [] = refl
-lists_inside (gs ∷ lists) = omega (arith, goals_append (goals_of gs) (flat_map goals_of lists), lists_inside lists)
+lists_inside (gs ∷ lists) = omega (arith, goals_append (all_goals_of gs) (flat_map all_goals_of lists), lists_inside lists)
 
-alone : (gs : List Goal) → goals_size (goals_of gs) + 100 * 1 ≡ lists_size (gs ∷ [])
+alone : (gs : List Goal) → goals_size (all_goals_of gs) + 100 * 1 ≡ lists_size (gs ∷ [])
 alone gs = omega arith
 
-three : (a b c : List Goal) → goals_size (goals_of a ++ goals_of b ++ goals_of c) + 100 * 3 ≡ lists_size (a ∷ b ∷ c ∷ [])
-three a b c = omega (arith, goals_append (goals_of a ++ goals_of b) (goals_of c), goals_append (goals_of a) (goals_of b))
+three : (a b c : List Goal) → goals_size (all_goals_of a ++ all_goals_of b ++ all_goals_of c) + 100 * 3 ≡ lists_size (a ∷ b ∷ c ∷ [])
+three a b c = omega (arith, goals_append (all_goals_of a ++ all_goals_of b) (all_goals_of c), goals_append (all_goals_of a) (all_goals_of b))
 
 inside_size : (layer : part.Goal-F Goal) → goals_size (inside layer) + 100 * length (lists_held layer) ≡ lists_size (lists_held layer)
 inside_size (part.Either lists) = lists_inside lists
@@ -54,8 +54,8 @@ whole_is x =
 body_append : (gs hs : List Goal) → body_size (gs ++ hs) ≡ body_size gs + body_size hs
 body_append [] hs = omega arith
 body_append (g ∷ gs) hs =
-    let a = goals_append (goals_within g) (goals_of (gs ++ hs)) in
-    let b = goals_append (goals_within g) (goals_of gs) in
+    let a = goals_append (goals_within g) (all_goals_of (gs ++ hs)) in
+    let b = goals_append (goals_within g) (all_goals_of gs) in
     omega (arith, a, b, body_append gs hs)
 
 body_one : (x : Goal) → body_size (x ∷ []) ≡ whole_size (out-Goal x)

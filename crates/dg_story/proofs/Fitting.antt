@@ -7,7 +7,7 @@ use Rattle.dg_base.specs.declared.program.Rule.{Rule}
 use Rattle.dg_base.specs.declared.program.Pred.{Pred}
 use Rattle.dg_base.specs.declared.program.ClosureBody.{ClosureBody}
 use Rattle.dg_base.specs.declared.program.CoreProgram.{CoreProgram}
-use Rattle.dg_base.specs.Goals.{goals_of}
+use Rattle.dg_base.specs.Goals.{all_goals_of}
 use Rattle.dg_meaning.specs.Moves.{rules_of}
 use Rattle.dg_mid.specs.declared.code.RuleCode.{RuleCode}
 use Rattle.dg_mid.specs.declared.code.Code.{Code}
@@ -50,7 +50,7 @@ goals_count [] = omega arith
 goals_count (g ∷ gs) = omega (arith, goal_counts (out-Goal g), goals_count gs)
 
 body_counts : (gs : List Goal) → body_weight gs ≤ body_size gs
-body_counts gs = goals_count (goals_of gs)
+body_counts gs = goals_count (all_goals_of gs)
 
 rules_count_so : (rs : List Rule) → rules_weight rs + 16 * length rs ≤ rules_size rs
 rules_count_so [] = omega arith

@@ -3,7 +3,7 @@ use Rattle.std.proofs.Common.{◌≡◌, ℕ, ◌<◌, ◌≤◌, List, [], ◌�
 use Rattle.std.proofs.lemmas.Bool.{cases_lt}
 use Rattle.std.proofs.lemmas.List.{append-nil}
 use Rattle.dg_meaning.specs.World.{Game, World, Event, Print, prints}
-use Rattle.dg_meaning.specs.Path.{Kind, Branch, Moves, FailsAt}
+use Rattle.dg_meaning.specs.Path.{ChoiceKind, Branch, Moves, FailsAt}
 use Rattle.dg_meaning.specs.Moves.{begins, exhausted}
 use Rattle.dg_meaning.specs.Render.{nothing_met, met_from, render, render_from}
 use Rattle.dg_meaning.specs.Transcript.{Run, text_of}
@@ -33,7 +33,7 @@ text_grows xs ys h = record {
 
 -- ## Runs
 
-tried_happened : (g : Game) (k : Kind) (t height : ℕ) (ws : List WayOn) (cs : List Live) (bs : List Branch) (n : ℕ) (w : World) (run : Run) → Tried g k t height ws cs bs n w run → Grows w run.world
+tried_happened : (g : Game) (k : ChoiceKind) (t height : ℕ) (ws : List WayOn) (cs : List Live) (bs : List Branch) (n : ℕ) (w : World) (run : Run) → Tried g k t height ws cs bs n w run → Grows w run.world
 tried_happened g k t height ws cs [] n w run h = grows_on w (exhausted k w) run.world (exhausted_grows k w) (has_happened g cs ws n (Moves (FailsAt (exhausted k w))) run h)
 tried_happened g k t height ws cs (b ∷ bs) n w run h =
     grows_on w _ run.world (beginning_grows b w) (has_happened g (pushed (record { kind = k; tag = t; others = bs; height = height; ways_on = ws }) cs) ws n (Moves (begins b w)) run h)

@@ -9,7 +9,7 @@ use Rattle.dg_base.specs.declared.program.Goal.TheOpen as form
 use Rattle.dg_base.specs.declared.program.Term.{Term}
 use Rattle.dg_base.specs.declared.program.Rule.{Rule}
 use Rattle.dg_base.specs.declared.program.CoreProgram.{CoreProgram}
-use Rattle.dg_base.specs.Goals.{goals_of}
+use Rattle.dg_base.specs.Goals.{all_goals_of}
 use Rattle.dg_base.specs.Sound.{FitsHeads, FitsProgram, IsGoalOf, IsRuleOf}
 use Rattle.dg_base.proofs.NodeLemmas.{inside, within_out}
 use Rattle.dg_mid.specs.declared.code.Op.TheVariants as op
@@ -50,20 +50,20 @@ plain_goal program (form.Ask pred terms many) e fits =
 plain_goal program layer e fits = false_is e
 
 -- a body's goals, the first with those in it
-first_of_body : (g : Goal) (gs : List Goal) → goals_of (g ∷ gs) ≡ (g ∷ inside (out-Goal g)) ++ goals_of gs
-first_of_body g gs = ap (λ (l : List Goal). l ++ goals_of gs) (within_out g)
+first_of_body : (g : Goal) (gs : List Goal) → all_goals_of (g ∷ gs) ≡ (g ∷ inside (out-Goal g)) ++ all_goals_of gs
+first_of_body g gs = ap (λ (l : List Goal). l ++ all_goals_of gs) (within_out g)
 
 drop_front : {A : Type 0} (P : A → Type 0) (xs ys : List A) → All P (xs ++ ys) → All P ys
 drop_front P [] ys all = all
 drop_front P (x ∷ xs) ys all = drop_front P xs ys (All-tail P x (xs ++ ys) all)
 
-pub plain_goals : (program : CoreProgram) (vars : ℕ) (gs : List Goal) → are_plain_goals gs ≡ true → All (IsGoalOf program vars) (goals_of gs) → PlainGoals program gs
+pub plain_goals : (program : CoreProgram) (vars : ℕ) (gs : List Goal) → are_plain_goals gs ≡ true → All (IsGoalOf program vars) (all_goals_of gs) → PlainGoals program gs
 plain_goals program vars [] e all = tt
 plain_goals program vars (g ∷ gs) e all =
     let both = both_true (is_plain_goal (out-Goal g)) (are_plain_goals gs) e in
-    let split : All (IsGoalOf program vars) ((g ∷ inside (out-Goal g)) ++ goals_of gs) = subst (All (IsGoalOf program vars)) (first_of_body g gs) all in
-    let here : IsGoalOf program vars g = All-head (IsGoalOf program vars) g (inside (out-Goal g) ++ goals_of gs) split in
-    (plain_goal program (out-Goal g) both.0 here.fits, plain_goals program vars gs both.1 (drop_front (IsGoalOf program vars) (g ∷ inside (out-Goal g)) (goals_of gs) split))
+    let split : All (IsGoalOf program vars) ((g ∷ inside (out-Goal g)) ++ all_goals_of gs) = subst (All (IsGoalOf program vars)) (first_of_body g gs) all in
+    let here : IsGoalOf program vars g = All-head (IsGoalOf program vars) g (inside (out-Goal g) ++ all_goals_of gs) split in
+    (plain_goal program (out-Goal g) both.0 here.fits, plain_goals program vars gs both.1 (drop_front (IsGoalOf program vars) (g ∷ inside (out-Goal g)) (all_goals_of gs) split))
 
 -- ## Rules that a plain query may come to
 

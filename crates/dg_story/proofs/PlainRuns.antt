@@ -19,7 +19,7 @@ use Rattle.dg_meaning.specs.Unify.{solve}
 use Rattle.dg_meaning.specs.Cells.{cells}
 use Rattle.std.specs.List.{zip}
 use Rattle.std.specs.Prelude.{map}
-use Rattle.dg_mid.specs.Actions.{world_of, outside_in}
+use Rattle.dg_mid.specs.Actions.{world_of, lasting_in}
 use Rattle.dg_mid.specs.Step.{more, inside, at_rule, new_choice, new_frame, trail_more, Setting, charged, if_agreed, unified, bound, first_of, walked, enters, begins, asks, asks_last, last, returned, returns as returns_to, runs, enter, entered, goes_on, goes_back, step}
 use Rattle.dg_story.specs.inside.PlainCode.{PlainOps, PlainRule, PlainRules, PlainNext, a_text, an_ask, a_last_ask, a_return, a_goto, a_done, GoesPlainly, PlainFrame, PlainFrames, PlainCall, PlainWay, PlainChoices, PlainMid, PlainStatus}
 use Rattle.dg_story.proofs.PlainNexts.{plain_next}
@@ -98,7 +98,7 @@ module _ (program : CoreProgram) (s : Setting) (answers : block_at s.code 0 ≡ 
   runs_plain : (ops : List Op) (m : Mid) → PlainNext program s.code ops → PlainMid program s.code m → Is (runs s ops m)
   runs_plain ops m (a_text text rest name more_ops) h =
       let m' : Mid = more 0 (record m { ops = rest }) in
-      if_plain _ _ (Runs (outside_in (printed (Piece text) (world_of [] m')) m')) (record { frames = h.frames; inner = h.inner; choices = h.choices; stops = h.stops; stop = h.stop }, more_ops)
+      if_plain _ _ (Runs (lasting_in (printed (Piece text) (world_of [] m')) m')) (record { frames = h.frames; inner = h.inner; choices = h.choices; stops = h.stops; stop = h.stop }, more_ops)
   runs_plain ops m (an_ask pred next rest rs more) h =
       asks_plain pred _ _ (record { args = refl; many = refl; next = more }) rs (record { frames = h.frames; inner = h.inner; choices = h.choices; stops = h.stops; stop = h.stop })
   runs_plain ops m (a_last_ask pred rest rs) h = last_plain pred m.frames _ rs h.frames (record { frames = h.frames; inner = h.inner; choices = h.choices; stops = h.stops; stop = h.stop })

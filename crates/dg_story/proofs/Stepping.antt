@@ -18,7 +18,7 @@ use Rattle.dg_mid.specs.declared.code.Op.TheVariants as op
 use Rattle.dg_mid.specs.declared.code.RuleCode.{RuleCode}
 use Rattle.dg_mid.specs.Code.{block_at, rules_at, selected}
 use Rattle.dg_mid.specs.State.{Place, Frame, Call, ToPred, Way, Goes, Takes, Calls, Tries, Choice, Mid, Status, Runs, Enters, Resumes, Fails, Ended, cut_choices}
-use Rattle.dg_mid.specs.Actions.{world_of, outside_in}
+use Rattle.dg_mid.specs.Actions.{world_of, lasting_in}
 use Rattle.dg_mid.specs.Potential.{IsOver}
 use Rattle.dg_mid.specs.Step.{Setting, more, passed, inside, at_rule, new_choice, new_frame, trail_more, charged, unified, bound, first_of, walked, enters as enters_by, begins, asks as asks_by, asks_last, last as last_by, returned, returns as returns_to, runs, enter, entered, goes_on, goes_back as back_to, step, call_of, said, said_in, said_to}
 use Rattle.dg_story.specs.inside.PlainCode.{PlainOps, PlainRule, PlainRules, PlainNext, a_text, an_ask, a_last_ask, a_return, a_goto, a_done, PlainFrames, PlainWay, PlainStatus}
@@ -110,7 +110,7 @@ module _ (program : CoreProgram) (s : Setting) (rules : (pred : ℕ) → FitsHea
   runs_so : (m : Mid) (ops : List Op) → m.ops ≡ ops → PlainNext program s.code ops → PlainFrames program s.code m.frames → StepsTo s (Runs m) (said_to (said_in s m ops) (runs s ops m)) (runs s ops m)
   runs_so m ops e (a_text text rest name after) plain =
       let m1 : Mid = more 0 (record m { ops = rest }) in
-      let next : Mid = outside_in (printed (Piece text) (world_of [] m1)) m1 in
+      let next : Mid = lasting_in (printed (Piece text) (world_of [] m1)) m1 in
       subst (λ (b : Bool). StepsTo s (Runs m) (said_to (Piece text ∷ []) (if b then Ended endings.KeepLimit else Runs next)) (if b then Ended endings.KeepLimit else Runs next)) (sym (le-ltb s.limits.keep 0 (omega arith)))
       (prints m next text rest e name (record { frames = refl; choices = refl; heap = same_heap m }) (record { tag = refl; trail = refl }) refl)
   runs_so m ops e (an_ask pred next rest rs after) plain =

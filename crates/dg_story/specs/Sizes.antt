@@ -11,7 +11,7 @@ use Rattle.dg_base.specs.declared.program.PlaceKind.{PlaceKind}
 use Rattle.dg_base.specs.declared.program.PlaceKind.TheVariants.{Flag, ObjectFlag, ObjectVar, Parent, Global}
 use Rattle.dg_base.specs.declared.program.CoreProgram.{CoreProgram}
 use Rattle.dg_base.specs.Terms.{nodes}
-use Rattle.dg_base.specs.Goals.{goals_of, terms_held}
+use Rattle.dg_base.specs.Goals.{all_goals_of, terms_held}
 use Rattle.dg_meaning.specs.Render.{characters}
 
 -- ## The world
@@ -77,7 +77,7 @@ goals_size (goal ∷ goals) = goal_size (out-Goal goal) + goals_size goals
 
 -- A body, with its goals at every depth.
 abbrev pub body_size : List Goal → ℕ
-body_size body = goals_size (goals_of body)
+body_size body = goals_size (all_goals_of body)
 
 abbrev pub rules_size : List Rule → ℕ
 rules_size [] = 0

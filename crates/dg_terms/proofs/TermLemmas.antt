@@ -13,7 +13,7 @@ use Rattle.dg_base.specs.declared.program.Term.TheVariants.{Pair as Pair-Term, C
 use Rattle.dg_base.specs.declared.program.ClosureBody.{ClosureBody}
 use Rattle.dg_base.specs.declared.program.CoreProgram.{CoreProgram}
 use Rattle.dg_base.specs.Terms.{nodes}
-use Rattle.dg_meaning.specs.Values.{Value, Closure, Var, Node, pair, parts_of, value_of_var, captured_by, value_of}
+use Rattle.dg_meaning.specs.Values.{Value, Closure, Var, Node, pair, node_parts, value_of_var, captured_values, value_of}
 use Rattle.dg_meaning.specs.Cells.{captured_count, node_cells, cells}
 use Rattle.dg_meaning.specs.Moves.{new_vars}
 use Rattle.dg_unify.specs.Store.{State, Store, told, told_parts, Holds, Kept, Charged, HeapFull, Fresh, Made}
@@ -317,7 +317,7 @@ vars_step env env' vars i x s u v xs ys zs r is le k l w ee made e =
 pub vars_end : (env : List Value) (vars : List ℕ) (i : ℕ) (s u : Store) (xs ys : List Ref) → length vars ≤ i → Written 0 (map (value_of_var env) (take i vars)) s u xs ys → Written 0 (map (value_of_var env) vars) s u xs ys
 vars_end env vars i s u xs ys le w = subst (λ vs. Written 0 (map (value_of_var env) vs) s u xs ys) (take_all i vars le) w
 
-captured_parts : (env : List Value) (o : Option ClosureBody) → captured_by env o ≡ parts_of (map (value_of_var env) (captured_in o))
+captured_parts : (env : List Value) (o : Option ClosureBody) → captured_values env o ≡ node_parts (map (value_of_var env) (captured_in o))
 captured_parts env None = refl
 captured_parts env (Some closure) = refl
 
@@ -325,7 +325,7 @@ captured_many : (o : Option ClosureBody) → captured_count o ≡ length (captur
 captured_many None = refl
 captured_many (Some closure) = refl
 
-closure_value : (program : CoreProgram) (env : List Value) (place : ℕ) → value_of program env (Closure-Term place) ≡ Node (Closure place) (parts_of (map (value_of_var env) (captured_in (slice_get program.closures place))))
+closure_value : (program : CoreProgram) (env : List Value) (place : ℕ) → value_of program env (Closure-Term place) ≡ Node (Closure place) (node_parts (map (value_of_var env) (captured_in (slice_get program.closures place))))
 unfolding out-Term denote.Hole.Carrier.out
 closure_value program env place = ap (Node (Closure place)) (captured_parts env (slice_get program.closures place))
 
@@ -348,7 +348,7 @@ captured_length vs u xs ys a = sym (length-map a.made (told u)) ∙ ap length a.
 pub closure_written : (program : CoreProgram) (env : List Value) (place : ℕ) (vars : List ℕ) (s u v : Store) (xs ys refs : List Ref) (n : ℕ) (r : Ref) → vars ≡ captured_in (slice_get program.closures place) → Kept s u → Written 0 (map (value_of_var env) vars) s u xs ys → n ≡ length xs → refs ≡ take (length ys - n) (drop n ys) → Made (3 + length refs) u v r (Node (Closure place) (told_parts u refs)) → Made (cells program (Closure-Term place ∷ [])) s v r (value_of program env (Closure-Term place))
 closure_written program env place vars s u v xs ys refs n r are k w e is made =
     let same = captured_refs (map (value_of_var env) vars) u xs ys refs n w.appended e is in
-    let parts : told_parts u refs ≡ parts_of (map (value_of_var env) (captured_in (slice_get program.closures place))) = ap (told_parts u) same ∙ ap parts_of w.appended.values ∙ ap (λ ws. parts_of (map (value_of_var env) ws)) are in
+    let parts : told_parts u refs ≡ node_parts (map (value_of_var env) (captured_in (slice_get program.closures place))) = ap (told_parts u) same ∙ ap node_parts w.appended.values ∙ ap (λ ws. node_parts (map (value_of_var env) ws)) are in
     let many : length refs ≡ length (captured_in (slice_get program.closures place)) = ap length same ∙ captured_length (map (value_of_var env) vars) u xs ys w.appended ∙ length-map vars (value_of_var env) ∙ ap length are in
     record {
       charged = charged_on 0 (3 + length refs) (cells program (Closure-Term place ∷ [])) s u v (omega (arith, closure_cells program place, many)) k w.charged made.charged;

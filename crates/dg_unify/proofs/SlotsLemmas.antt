@@ -4,7 +4,7 @@ use Rattle.std.specs.Prelude.{eqb, nat_lt, nat_le, ◌||◌, ◌&&◌, if◌then
 use Rattle.std.specs.List.{slice_get}
 use Rattle.std.proofs.lemmas.Bool.{or_cases, and_parts, both_ways, cond-true, cond-false, lt-ltb, le-ltb, cases_eq, eq-eqb, ne_eqb}
 use Rattle.std.proofs.lemmas.Option.{slice_get_within, get_or_from_slice_get}
-use Rattle.dg_meaning.specs.Values.{Unknown, Closure, Value, Var, Node, Values, leaf, pair, parts_of}
+use Rattle.dg_meaning.specs.Values.{Unknown, Closure, Value, Var, Node, Values, leaf, pair, node_parts}
 use Rattle.dg_meaning.specs.inside.Substitutions.{is_bound, FitsFront, IsSubstitution}
 use Rattle.dg_meaning.specs.inside.Unifiers.{binding_of}
 use Rattle.dg_meaning.proofs.LookUps.{none_unbound, unbound_none, LooksUp, looks_up}
@@ -402,7 +402,7 @@ each_told slots [] h = tt
 each_told slots (r ∷ rs) h = (h 0 r (omega arith), each_told slots rs (λ k d lt. h (suc k) d (omega arith)))
 
 abbrev pub values_of : List Slot → List Ref → Values
-values_of slots rs = parts_of (map (λ (r : Ref). or_nil (value_in slots r.0)) rs)
+values_of slots rs = node_parts (map (λ (r : Ref). or_nil (value_in slots r.0)) rs)
 
 captured_here : (go : ℕ → Option Value) (slots : List Slot) → ((r : ℕ) (v : Value) → value_in slots r ≡ Some v → go r ≡ Some v) → (before : List Slot) (rs : List Ref) (at : ℕ) → at ≡ length before → AllTold slots rs → captured_in go (before ++ captured_slots rs) at (length rs) ≡ Some (values_of slots rs)
 captured_here go slots up before [] at is h = refl

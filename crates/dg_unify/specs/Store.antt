@@ -3,7 +3,7 @@
 use Rattle.std.specs.Prelude.{◌≡◌, ℕ, zero, suc, ◌+◌, ◌<◌, ◌≤◌, nat_lt, List, [], ◌∷◌, map, length, ◌++◌, Option, Some, None, Bool, true, false, if◌then◌else◌, IsTrue, Result, Ok, Err}
 use Rattle.dg_base.specs.declared.cells.Simple.{Simple}
 use Rattle.dg_base.specs.declared.cells.Simple.TheVariants as simple
-use Rattle.dg_meaning.specs.Values.{Label, Num, Word, Unknown, Object, Nil, Closure, Value, Var, Node, Values, NoMore, More, leaf, pair, parts_of}
+use Rattle.dg_meaning.specs.Values.{Label, Num, Word, Unknown, Object, Nil, Closure, Value, Var, Node, Values, NoMore, More, leaf, pair, node_parts}
 use Rattle.dg_meaning.specs.Substitutions.{Substitution, walk}
 use Rattle.dg_meaning.specs.inside.Substitutions.{FitsFront}
 use Rattle.dg_meaning.specs.Unify.{Unified}
@@ -59,7 +59,7 @@ told s r = or_nil (s.value r)
 
 -- The values of some Refs.
 abbrev pub told_parts : Store → List Ref → Values
-told_parts s rs = parts_of (map (told s) rs)
+told_parts s rs = node_parts (map (told s) rs)
 
 -- A Ref stands for a value.
 abbrev pub Holds : Store → Ref → Type 0

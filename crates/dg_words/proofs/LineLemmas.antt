@@ -3,9 +3,9 @@ use Rattle.std.proofs.Common.{◌≡◌, ℕ, ◌≤◌, List, ◌++◌, length,
 use Rattle.std.specs.Io.KnownBytes.{Consumes}
 use Rattle.dg_meaning.specs.Words.{first_line, behind_first, line_within, behind_line, without_return}
 use Rattle.dg_meaning.specs.Shows.{IsLeft}
-use Rattle.dg_lines.specs.Lines.{IsPlain, TookLine, IsText}
-use Rattle.dg_lines.proofs.LineLemmas.{IsLine, line_told, line_untold}
-use Rattle.dg_lines.proofs.Meant.{Means, behind_shorter, line_is as meant_line, part_is}
+use Rattle.dg_base.specs.Lines.{IsPlain, TookLine, IsText}
+use Rattle.dg_base.proofs.LineLemmas.{IsLine, line_told, line_untold}
+use Rattle.dg_base.proofs.Meant.{Means, behind_shorter, line_is as meant_line, part_is}
 use Rattle.dg_words.specs.Lines.{Took}
 
 meant : Means line_within behind_line without_return

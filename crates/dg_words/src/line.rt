@@ -5,8 +5,7 @@ ghost use Rattle.dg_words.specs.Letters.{all_letters, ReadsLine};
 ghost use Rattle.std.specs.Prelude.{take};
 
 use crate::letters::{keep_letters, spell};
-use dg_base::{Failed, Source};
-use dg_lines::take_line;
+use dg_base::{Failed, Source, take_line};
 use std::marker::Model;
 
 /// A typed line, spelled by its letters, of which at most 200 are kept.

@@ -12,7 +12,7 @@ use Rattle.dg_base.specs.declared.cells.Simple.TheVariants as simple
 use Rattle.dg_base.specs.declared.program.PlaceKind.{PlaceKind}
 use Rattle.dg_base.specs.declared.program.PlaceKind.TheVariants.{Flag, ObjectFlag, ObjectVar, Parent, Global}
 use Rattle.dg_meaning.specs.Values.{Value}
-use Rattle.dg_meaning.specs.TypeTests.{is_full}
+use Rattle.dg_meaning.specs.TypeTests.{is_fully_bound}
 use Rattle.dg_meaning.specs.ValueCells.{cells_of}
 use Rattle.dg_meaning.specs.Facts.{Fact, value_at, kept_size, Alteration, Sets, Clears, ClearsAll, altered, takes}
 use Rattle.dg_meaning.specs.inside.Objects.{IsFirstSet}
@@ -135,16 +135,16 @@ kept_world o facts old new p l v (Ok true) h is e st =
     let hit : cells_set (value_at after p 0) ≡ l = ap cells_set (set_there p 0 v facts) ∙ sym e in
     let miss = λ (q m : ℕ) (ne : q ≡ p → ⊥). set_elsewhere p 0 v facts q m (λ y z. ne y) in
     let size = new_size o facts after old.tables.items old.area.lists old.area.keep p l st is hit miss in
-    let full : is_full v ≡ true = from_not (is_full v) (sym (variable_in v) ∙ ap (list_any is_fresh) (sym e) ∙ h.0) in
+    let full : is_fully_bound v ≡ true = from_not (is_fully_bound v) (sym (variable_in v) ∙ ap (list_any is_fresh) (sym e) ∙ h.0) in
     let done = kept_stands o facts after old.tables.items old.area.lists old.area.keep p l st is hit miss (omega (arith, size, h.1, st.limit)) in
     (ap (λ x. takes_in x v) is ∙ full, subst (λ (w : World). StandsFor w o after) (sym h.2) done)
-kept_world o facts old new p l v (Ok false) h is e st = (ap (λ x. takes_in x v) is ∙ from_not_true (is_full v) (sym (variable_in v) ∙ ap (list_any is_fresh) (sym e) ∙ h.0), h.1)
+kept_world o facts old new p l v (Ok false) h is e st = (ap (λ x. takes_in x v) is ∙ from_not_true (is_fully_bound v) (sym (variable_in v) ∙ ap (list_any is_fresh) (sym e) ∙ h.0), h.1)
 kept_world o facts old new p l v (Err x) h is e st =
     let after = altered (Sets p 0 v) facts in
     let hit : cells_set (value_at after p 0) ≡ l = ap cells_set (set_there p 0 v facts) ∙ sym e in
     let miss = λ (q m : ℕ) (ne : q ≡ p → ⊥). set_elsewhere p 0 v facts q m (λ y z. ne y) in
     let size = new_size o facts after old.tables.items old.area.lists old.area.keep p l st is hit miss in
-    let full : is_full v ≡ true = from_not (is_full v) (sym (variable_in v) ∙ ap (list_any is_fresh) (sym e) ∙ h.0) in
+    let full : is_fully_bound v ≡ true = from_not (is_fully_bound v) (sym (variable_in v) ∙ ap (list_any is_fresh) (sym e) ∙ h.0) in
     let total = length (joined old.area.lists) - length (get_or old.area.lists p []) + length l in
     let over : old.area.keep < total = either (cases_lt old.area.keep total) (λ y. y) (λ le. absurd (h.1 le)) in
     (ap (λ y. takes_in y v) is ∙ full, omega (arith, size, over, st.limit), h.2)

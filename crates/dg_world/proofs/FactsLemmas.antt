@@ -7,7 +7,7 @@ use Rattle.std.proofs.lemmas.List.Folds.{list_any-append}
 use Rattle.dg_base.specs.declared.cells.Cell.{Cell}
 use Rattle.dg_base.specs.declared.cells.Cell.TheVariants as cell
 use Rattle.dg_meaning.specs.Values.{Label, Num, Word, Unknown, Object, Nil, Pair, Closure, Value, Var, Node, Values, NoMore, More}
-use Rattle.dg_meaning.specs.TypeTests.{is_full, are_full}
+use Rattle.dg_meaning.specs.TypeTests.{is_fully_bound, are_fully_bound}
 use Rattle.dg_meaning.specs.ValueCells.{count_of, label_cells, cells_of, cells_of_all}
 use Rattle.dg_meaning.specs.Facts.{Fact, is_at, value_at, Alteration, Sets, Clears, ClearsAll, altered}
 use Rattle.dg_world.specs.Tables.{is_fresh}
@@ -116,13 +116,13 @@ or_not true b x y e f = ap (λ z. z || y) e ∙ f
 or_not false b x y e f = ap (λ z. z || y) e
 
 mutual
-  pub variable_in : (v : Value) → list_any is_fresh (cells_of v) ≡ not (is_full v)
+  pub variable_in : (v : Value) → list_any is_fresh (cells_of v) ≡ not (is_fully_bound v)
   variable_in (Var n) = refl
   variable_in (Node label parts) = list_any-append is_fresh (label_cells label (count_of parts)) (cells_of_all parts) ∙ ap (λ b. b || list_any is_fresh (cells_of_all parts)) (no_label label (count_of parts)) ∙ variable_in_all parts
 
-  variable_in_all : (vs : Values) → list_any is_fresh (cells_of_all vs) ≡ not (are_full vs)
+  variable_in_all : (vs : Values) → list_any is_fresh (cells_of_all vs) ≡ not (are_fully_bound vs)
   variable_in_all NoMore = refl
-  variable_in_all (More v vs) = list_any-append is_fresh (cells_of v) (cells_of_all vs) ∙ or_not (is_full v) (are_full vs) _ _ (variable_in v) (variable_in_all vs)
+  variable_in_all (More v vs) = list_any-append is_fresh (cells_of v) (cells_of_all vs) ∙ or_not (is_fully_bound v) (are_fully_bound vs) _ _ (variable_in v) (variable_in_all vs)
 
 -- a value has a cell
 some_label : (label : Label) (n : ℕ) (more : List Cell) → length (label_cells label n ++ more) ≡ 0 → ⊥

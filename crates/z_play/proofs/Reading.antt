@@ -3,9 +3,9 @@ use Rattle.std.proofs.Common.{◌≡◌, ℕ, ◌≤◌, List, [], ◌++◌, len
 use Rattle.std.specs.Io.KnownBytes.{Consumes, IsAtEnd, Keeps}
 use Rattle.std.proofs.lemmas.List.{length-append}
 use Rattle.z_model.specs.Typed.{typed_bytes, typed_left, line_within, left_within, without_return}
-use Rattle.dg_lines.specs.Lines.{IsPlain, KeepsText}
-use Rattle.dg_lines.proofs.LineLemmas.{IsLine}
-use Rattle.dg_lines.proofs.Meant.{Means, behind_shorter, line_is, part_is}
+use Rattle.dg_base.specs.Lines.{IsPlain, KeepsText}
+use Rattle.dg_base.proofs.LineLemmas.{IsLine}
+use Rattle.dg_base.proofs.Meant.{Means, behind_shorter, line_is, part_is}
 
 -- So many bytes are left, and at least those behind the line.
 pub record StopsWithin (behind typed : List ℕ) (left : Option (List ℕ)) : Type 0 where

@@ -4,8 +4,8 @@ use Rattle.dg_base.specs.Mentions.{of_body}
 use Rattle.dg_base.specs.Tree.{Parts, Body, Said}
 use Rattle.dg_base.specs.TreeView.{body_view}
 use Rattle.dg_base.specs.declared.program.ClosureBody.{ClosureBody}
-use Rattle.dg_closures.specs.Closures.{Layout, variables_in}
-use Rattle.dg_closures.specs.inside.View.{layout_view}
+use Rattle.dg_scopes.specs.Closures.{Layout, variables_in}
+use Rattle.dg_scopes.specs.inside.View.{layout_view}
 use Rattle.dg_core.specs.Bodies.{in_branches}
 use Rattle.dg_core.specs.Core.{rows_in, closures_of}
 use Rattle.dg_core.specs.Goals.{Scope, count_selects}

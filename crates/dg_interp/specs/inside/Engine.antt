@@ -20,7 +20,7 @@ use Rattle.dg_meaning.specs.Transcript.{Run, run, start_world}
 use Rattle.dg_meaning.specs.inside.Context.{Way, Live}
 use Rattle.dg_meaning.specs.inside.Keeps.{Stands, Failed, Finished, Tried, WentOn as LeftPart}
 use Rattle.dg_meaning.specs.Peaks.{Area, Heap, Trail, Aux, Keep, greatest, limit_of}
-use Rattle.dg_built.specs.Built.{IsBuilt, IsBuiltGoal, AreBuilt}
+use Rattle.dg_interp.specs.Runnable.{IsRunnable, IsRunnableGoal, AreRunnable}
 use Rattle.dg_unify.specs.Store.{Store, Saved, Holds, told}
 use Rattle.dg_unify.specs.inside.Engines.{Agrees, IsPlace as IsPlaceOf}
 use Rattle.dg_unify.specs.Slots.{store_of, Stand}
@@ -36,10 +36,10 @@ use Rattle.dg_interp.specs.declared.frames.Left.TheVariants.{Behind}
 use Rattle.dg_interp.specs.declared.frames.Frame.{Frame}
 use Rattle.dg_interp.specs.declared.frames.Choice.{Choice}
 use Rattle.dg_interp.specs.declared.engine.Engine.{Engine}
-use Rattle.dg_outside.specs.declared.lack.Lack.{Lack}
-use Rattle.dg_outside.specs.declared.outside.Outside.{Outside}
-use Rattle.dg_outside.specs.Lacks.{area_of}
-use Rattle.dg_outside.specs.Outside.{picks_in, InWorld, MayPick}
+use Rattle.dg_lasting.specs.declared.lack.Lack.{Lack}
+use Rattle.dg_lasting.specs.declared.lasting.Lasting.{Lasting}
+use Rattle.dg_lasting.specs.Lacks.{area_of}
+use Rattle.dg_lasting.specs.Lasting.{picks_in, InWorld, MayPick}
 use Rattle.dg_interp.specs.declared.engine.Settled.{Settled}
 use Rattle.dg_interp.specs.declared.engine.Settled.TheVariants as settled
 use Rattle.dg_interp.specs.inside.Frames.{values_in, steps_at, kind_of, branches_of, AreChoices, IsFrame, AreFrames, StandOn, GoBackTo, lives_of, ways_of, noting, TakesNewest, all_left}
@@ -60,9 +60,9 @@ pub record HasPlaces (store : ListBindings) (refs : List Ref) (os : List Choice)
   pub keeps : KeepsPlaces store saved
   pub back_to : GoBackTo refs (store_in store).heap_limit (store_in store).trail_limit os saved
 
--- All is built and sound, Refs have values, and links and choices are in order.
+-- All is runnable and sound, Refs have values, and links and choices are in order.
 pub record Sound (p : CoreProgram) (store : ListBindings) (refs : List Ref) (fs : List Frame) (os : List Choice) (newest : ℕ) : Type 0 where
-  pub program : IsBuilt p
+  pub program : IsRunnable p
   pub sound : IsSoundProgram p
   pub hold : All (Holds (store_in store)) refs
   pub frames : AreFrames (length fs) (length refs) fs
@@ -73,7 +73,7 @@ pub record Sound (p : CoreProgram) (store : ListBindings) (refs : List Ref) (fs 
 pub record IsSound (e : Engine) : Type 0 where
   pub base : Sound e.program.now e.store e.refs.items e.frames.items (reverse e.choices.items) e.newest
   pub room : e.newest + e.left < 2 ^ 64
-  pub picks : MayPick e.left (picks_in e.outside)
+  pub picks : MayPick e.left (picks_in e.lasting)
 
 -- The same, with goals at hand.
 pub record IsReady (e : Engine) : Type 0 where
@@ -84,7 +84,7 @@ pub record IsReady (e : Engine) : Type 0 where
 
 -- How many gatherings are open.
 abbrev pub open_in : Engine → ℕ
-open_in e = length e.outside.gathered.rows
+open_in e = length e.lasting.gathered.rows
 
 -- Where a run may be: the game, the goals left of its budget, its world, and all that it comes to.
 abbrev pub Point : Type 1
@@ -94,8 +94,8 @@ Point = Game → ℕ → World → Run → Type 0
 abbrev pub steps_of : Engine → List Step
 steps_of e = steps_at (values_in (store_in e.store) e.refs.items) e.frames.items e.here
 
--- A program, what is outside, a store, Refs, frames and choices are in this world, inside choices of the meaning.
-pub record Within (p : CoreProgram) (out : Outside) (store : ListBindings) (refs : List Ref) (frames : List Frame) (os : List Choice)
+-- A program, what lasts, a store, Refs, frames and choices are in this world, inside choices of the meaning.
+pub record Within (p : CoreProgram) (out : Lasting) (store : ListBindings) (refs : List Ref) (frames : List Frame) (os : List Choice)
     (g : Game) (w : World) : Type 0 where
   pub program : p ≡ g.program
   pub entries : List Live
@@ -108,10 +108,10 @@ pub record Within (p : CoreProgram) (out : Outside) (store : ListBindings) (refs
 
 -- The same of an engine.
 abbrev pub Inside : Engine → Game → World → Type 0
-Inside e g w = Within e.program.now e.outside e.store e.refs.items e.frames.items (reverse e.choices.items) g w
+Inside e g w = Within e.program.now e.lasting e.store e.refs.items e.frames.items (reverse e.choices.items) g w
 
 -- They are there on a path with these registers, on which the next choice has this tag, inside this stoppable part.
-pub record On (p : CoreProgram) (out : Outside) (store : ListBindings) (refs : List Ref) (frames : List Frame) (os : List Choice) (next : ℕ)
+pub record On (p : CoreProgram) (out : Lasting) (store : ListBindings) (refs : List Ref) (frames : List Frame) (os : List Choice) (next : ℕ)
     (part : Option ℕ) (g : Game) (w : World) : Type 0 where
   pub inside : Within p out store refs frames os g w
   pub ways : List Way
@@ -123,7 +123,7 @@ pub record On (p : CoreProgram) (out : Outside) (store : ListBindings) (refs : L
 
 -- The same of an engine.
 abbrev pub There : Engine → ℕ → Game → World → Type 0
-There e next g w = On e.program.now e.outside e.store e.refs.items e.frames.items (reverse e.choices.items) next e.stoppable g w
+There e next g w = On e.program.now e.lasting e.store e.refs.items e.frames.items (reverse e.choices.items) next e.stoppable g w
 
 -- The run comes from where the engine is, with so many goals left of its budget.
 pub record StandsAt (e : Engine) (g : Game) (n : ℕ) (w : World) (run : Run) : Type 0 where
@@ -152,8 +152,8 @@ pub record Then (es : List Print) (w : World) (P : World → Type 0) : Type 0 wh
 abbrev pub limit_in : Area → Engine → ℕ
 limit_in Heap e = (store_in e.store).heap_limit
 limit_in Trail e = (store_in e.store).trail_limit
-limit_in Aux e = e.outside.gathered.aux
-limit_in Keep e = e.outside.world.area.keep
+limit_in Aux e = e.lasting.gathered.aux
+limit_in Keep e = e.lasting.world.area.keep
 
 -- It stands at the start of each run of the program with these dice words, and has these limits.
 pub record Starts (program : CoreProgram) (limits : Limits) (dice : List ℕ) (e : Engine) : Type 0 where
@@ -195,8 +195,8 @@ LackAt From e lack = LacksIn (area_of lack) From e
 pub record SameLimits (old new : Engine) : Type 0 where
   pub heap : (store_in new.store).heap_limit ≡ (store_in old.store).heap_limit
   pub trail : (store_in new.store).trail_limit ≡ (store_in old.store).trail_limit
-  pub aux : new.outside.gathered.aux ≡ old.outside.gathered.aux
-  pub keep : new.outside.world.area.keep ≡ old.outside.world.area.keep
+  pub aux : new.lasting.gathered.aux ≡ old.lasting.gathered.aux
+  pub keep : new.lasting.world.area.keep ≡ old.lasting.world.area.keep
 
 -- An open stoppable part stays where a cut is made that isn't younger, and the cut waits in it; no other choice does.
 abbrev pub waits_in : ℕ → Choice → Left → Option Choice
@@ -324,9 +324,9 @@ pub record Taken (x : Goal) (old new : Engine) : Type 0 where
   pub left : old.left ≡ suc new.left
   pub limits : SameLimits old new
   pub room : new.newest + 1 + new.left < 2 ^ 64
-  pub picks : MayPick (new.left + 1) (picks_in new.outside)
-  pub built : IsBuiltGoal x
-  pub whole : AreBuilt (x ∷ [])
+  pub picks : MayPick (new.left + 1) (picks_in new.lasting)
+  pub runnable : IsRunnableGoal x
+  pub whole : AreRunnable (x ∷ [])
   pub again : IsAgain x old.here new
   pub takes : (g : Game) (n : ℕ) (w : World) (run : Run) → StandsAt old g (suc n) w run → TakesAt x new g n w run
 

@@ -6,11 +6,11 @@ use Rattle.dg_base.specs.declared.program.Term.TheVariants.{Var as Var-Term}
 use Rattle.dg_meaning.specs.Values.{Value, value_of_var}
 use Rattle.dg_meaning.specs.Facts.{kinds_of}
 use Rattle.dg_meaning.specs.World.{Game, World}
-use Rattle.dg_meaning.specs.Path.{Step, Answers, Cut, Refuse, Back, Keep, Leave, Registers, Whole, AsList, AsSum, Branch, TakeOut as TakeOutBranch, Kind, Plain, Rules as RulesOf}
+use Rattle.dg_meaning.specs.Path.{Step, Answers, Cut, Refuse, Back, Keep, Leave, Registers, Whole, AsList, AsSum, Branch, TakeOut as TakeOutBranch, ChoiceKind, Plain, Rules as RulesOf}
 use Rattle.dg_meaning.specs.Moves.{path_of, goals_at, first_alone, inside, enter, list_branches, rule_branches}
 use Rattle.dg_meaning.specs.inside.Context.{Live, Way as WayOn, tags_of, cut_to, IsNewest}
 use Rattle.dg_meaning.specs.inside.Keeps.{open_at}
-use Rattle.dg_built.specs.Built.{AreBuilt, IsBuiltRule}
+use Rattle.dg_interp.specs.Runnable.{AreRunnable, IsRunnableRule}
 use Rattle.dg_unify.specs.Store.{Store, Saved, told, Holds}
 use Rattle.dg_unify.specs.inside.Engines.{Agrees, GoBackTo as GoBack}
 use Rattle.dg_unify.specs.declared.bindings.Ref.{Ref}
@@ -23,7 +23,7 @@ use Rattle.dg_interp.specs.declared.frames.Frame.{Frame}
 use Rattle.dg_interp.specs.declared.frames.Left.{Left}
 use Rattle.dg_interp.specs.declared.frames.Left.TheVariants.{Rules, Lists, Ways, Way, Behind, TakeOut, Things}
 use Rattle.dg_interp.specs.declared.frames.Choice.{Choice}
-use Rattle.dg_outside.specs.Finding.{counted}
+use Rattle.dg_lasting.specs.Finding.{counted}
 use Rattle.dg_meaning.specs.inside.Finding.{may_find}
 use Rattle.dg_interp.specs.inside.Trying.{trial_branches}
 
@@ -74,7 +74,7 @@ steps_at values fs f = frame_steps (values f.env) f.goals.now f.tag f.mark (step
 -- ## Choices
 
 -- The kind of a choice with these branches left.
-abbrev pub kind_of : Left → Kind
+abbrev pub kind_of : Left → ChoiceKind
 kind_of (Rules query args rules) = RulesOf query.pred
 kind_of other = Plain
 
@@ -198,20 +198,20 @@ AreChoices g refs fs os ms cs = ⊥
 abbrev pub EndsBy : ℕ → Env → Type 0
 EndsBy n env = env.from + env.len ≤ n
 
--- All goals are built, what stands behind a frame is older, and its values are among so many Refs.
+-- All goals are runnable, what stands behind a frame is older, and its values are among so many Refs.
 pub record IsFrame (k n : ℕ) (f : Frame) : Type 0 where
-  pub built : AreBuilt f.goals.now
+  pub runnable : AreRunnable f.goals.now
   pub older : f.behind ≤ k
   pub env : EndsBy n f.env
 
--- The first so many frames have built goals, older ones behind them, and values among so many Refs.
+-- The first so many frames have runnable goals, older ones behind them, and values among so many Refs.
 abbrev pub AreFrames : ℕ → ℕ → List Frame → Type 0
 AreFrames height n fs = (k : ℕ) (f : Frame) → k < height → slice_get fs k ≡ Some f → IsFrame k n f
 
--- All branches that are left are built, and their values are among so many Refs.
+-- All branches that are left are runnable, and their values are among so many Refs.
 abbrev pub IsLeft : ℕ → ℕ → Left → Type 0
-IsLeft height n (Rules query args rules) = All IsBuiltRule rules.now × EndsBy n args
-IsLeft height n (Lists env tag lists) = All AreBuilt lists.now × EndsBy n env
+IsLeft height n (Rules query args rules) = All IsRunnableRule rules.now × EndsBy n args
+IsLeft height n (Lists env tag lists) = All AreRunnable lists.now × EndsBy n env
 IsLeft height n (Ways first other) = IsFrame height n first × IsFrame height n other
 IsLeft height n (Way frame) = IsFrame height n frame
 IsLeft height n (Behind frame cut) = IsFrame height n frame

@@ -12,7 +12,7 @@ use Rattle.dg_world.specs.Tables.{Outline}
 use Rattle.dg_world.specs.Worlds.{StandsFor}
 use Rattle.dg_world.specs.declared.change.KeepFull.{KeepFull}
 use Rattle.dg_interp.specs.declared.engine.Engine.{Engine}
-use Rattle.dg_outside.specs.Changing.{all_in_store, Became}
+use Rattle.dg_lasting.specs.Changing.{all_in_store, Became}
 use Rattle.dg_interp.specs.inside.Frames.{values_in}
 use Rattle.dg_interp.specs.inside.Engine.{store_in, KeepsPlaces}
 use Rattle.dg_terms.specs.Terms.{Written}
@@ -33,12 +33,12 @@ changes_at objects place sets values (Some kind) = change_of objects kind place 
 
 -- A place was changed with the values that were made last, and nothing else.
 pub record ChangedMade (place : ℕ) (sets : Bool) (result : Result Bool KeepFull) (old new : Engine) : Type 0 where
-  pub same : new ≡ record old { store = new.store; outside = record old.outside { world = new.outside.world; row = new.outside.row } }
+  pub same : new ≡ record old { store = new.store; lasting = record old.lasting { world = new.lasting.world; row = new.lasting.row } }
   pub store : store_in new.store ≡ store_in old.store
   pub saved : (ms : List Saved) → KeepsPlaces old.store ms → KeepsPlaces new.store ms
-  pub row : length new.outside.row.items ≡ length old.outside.row.items
-  pub limit : new.outside.world.area.keep ≡ old.outside.world.area.keep
-  pub became : (o : Outline) → (facts : List Fact) → StandsFor old.outside.world o facts → o.kinds ≡ kinds_of old.program.now →
-      o.objects ≡ length old.program.now.objects → length old.outside.row.items ≡ o.keep →
+  pub row : length new.lasting.row.items ≡ length old.lasting.row.items
+  pub limit : new.lasting.world.area.keep ≡ old.lasting.world.area.keep
+  pub became : (o : Outline) → (facts : List Fact) → StandsFor old.lasting.world o facts → o.kinds ≡ kinds_of old.program.now →
+      o.objects ≡ length old.program.now.objects → length old.lasting.row.items ≡ o.keep →
       Became o facts (changes_at (length old.program.now.objects) place sets (all_in_store (store_in old.store) old.made.items) (slice_get o.kinds place))
-      old.outside.world new.outside.world result
+      old.lasting.world new.lasting.world result

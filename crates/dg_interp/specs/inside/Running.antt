@@ -12,8 +12,8 @@ use Rattle.dg_base.specs.Begins.{Begins, EndsWith}
 use Rattle.dg_meaning.specs.Peaks.{Area, Heap, Trail, Aux, Keep, greatest, limit_ending}
 use Rattle.dg_spacing.specs.declared.spacer.Spacer.{Spacer}
 use Rattle.dg_interp.specs.declared.engine.Engine.{Engine}
-use Rattle.dg_outside.specs.declared.lack.Lack.{Lack}
-use Rattle.dg_outside.specs.Lacks.{area_of}
+use Rattle.dg_lasting.specs.declared.lack.Lack.{Lack}
+use Rattle.dg_lasting.specs.Lacks.{area_of}
 use Rattle.dg_base.specs.Causes.{Rose}
 use Rattle.dg_base.specs.Streams.{SourceView}
 use Rattle.dg_meaning.specs.Shows.{IsLeft}

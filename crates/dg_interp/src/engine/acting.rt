@@ -1,14 +1,14 @@
 // Goals that neither print nor end the run.
 ghost use Rattle.std.specs.Prelude.{◌≡◌, ◌+◌, ◌<◌, ◌^◌, [], ◌∷◌, IfOk, IfErr};
 ghost use Rattle.dg_base.specs.declared.program.Goal.{out-Goal};
-ghost use Rattle.dg_built.specs.Built.{AreBuilt, IsBuiltGoal};
+ghost use Rattle.dg_interp.specs.Runnable.{AreRunnable, IsRunnableGoal};
 ghost use Rattle.dg_interp.specs.inside.Engine.{IsReady, TakesAt, Branches, FullAt, LackAt, IsAct, IsOnStore, IsAgain, store_in};
-ghost use Rattle.dg_outside.specs.Outside.{picks_in, MayPick};
+ghost use Rattle.dg_lasting.specs.Lasting.{picks_in, MayPick};
 
 use super::Engine;
 use crate::frames::{Frame, Query, Whole};
 use dg_base::Goal;
-use dg_outside::{Lack, stored};
+use dg_lasting::{Lack, stored};
 use dg_unify::Full;
 
 impl<'p> Engine<'p> {
@@ -16,9 +16,9 @@ impl<'p> Engine<'p> {
     fn act_on_store(&mut self, goal: &'p Goal, again: Frame<'p>) -> Result<bool, Full>
         requires ready { IsReady self.old }
         requires room { self.old.newest + 1 + self.old.left < 2 ^ 64 }
-        requires may { MayPick (self.old.left + 1) (picks_in self.old.outside) }
-        requires built { AreBuilt (goal.now ∷ []) }
-        requires form { IsBuiltGoal goal.now }
+        requires may { MayPick (self.old.left + 1) (picks_in self.old.lasting) }
+        requires runnable { AreRunnable (goal.now ∷ []) }
+        requires form { IsRunnableGoal goal.now }
         requires act { IsAct (out-Goal goal.now) }
         requires store { IsOnStore (out-Goal goal.now) }
         requires again { IsAgain goal.now again self.old }
@@ -64,9 +64,9 @@ impl<'p> Engine<'p> {
     pub fn act(&mut self, goal: &'p Goal, again: Frame<'p>) -> Result<bool, Lack>
         requires ready { IsReady self.old }
         requires room { self.old.newest + 1 + self.old.left < 2 ^ 64 }
-        requires may { MayPick (self.old.left + 1) (picks_in self.old.outside) }
-        requires built { AreBuilt (goal.now ∷ []) }
-        requires form { IsBuiltGoal goal.now }
+        requires may { MayPick (self.old.left + 1) (picks_in self.old.lasting) }
+        requires runnable { AreRunnable (goal.now ∷ []) }
+        requires form { IsRunnableGoal goal.now }
         requires act { IsAct (out-Goal goal.now) }
         requires again { IsAgain goal.now again self.old }
         ensures done { IfOk result (λ found. Branches (TakesAt goal.entry.now self.old) found self.old self.new) }

@@ -10,7 +10,7 @@ ghost use Rattle.dg_interp.specs.inside.Made.{MadeArgs, ChangedMade};
 
 use super::{Engine, stretch};
 use dg_base::Term;
-use dg_outside::{Lack, kind_of, lacking, stored};
+use dg_lasting::{Lack, kind_of, lacking, stored};
 use dg_terms::write_terms;
 use dg_unify::Full;
 use dg_world::KeepFull;
@@ -39,7 +39,7 @@ impl<'p> Engine<'p> {
         };
         let objects = self.program.objects.as_slice().len();
         let args = self.made.as_slice();
-        self.outside
+        self.lasting
             .change(&mut self.store, objects, kind, place, args, sets)
     }
 

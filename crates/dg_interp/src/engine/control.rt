@@ -1,7 +1,7 @@
 // Choices between goals.
 ghost use Rattle.std.specs.Prelude.{◌≡◌, ◌+◌, ◌<◌, ◌^◌, IfOk, IfErr, All};
 ghost use Rattle.dg_base.specs.declared.program.Goal.TheVariants.{Either as EitherGoal, Once as OnceGoal, Not as NotGoal, If as IfGoal, Forever as ForeverGoal, Exhaust as ExhaustGoal};
-ghost use Rattle.dg_built.specs.Built.{AreBuilt};
+ghost use Rattle.dg_interp.specs.Runnable.{AreRunnable};
 ghost use Rattle.dg_interp.specs.inside.Engine.{IsReady, TakesAt, Branches, FullAt, IsAgain, store_in};
 
 use super::Engine;
@@ -14,7 +14,7 @@ impl<'p> Engine<'p> {
     pub fn either(&mut self, lists: &'p [Items<Goal>]) -> Result<bool, Full>
         requires ready { IsReady self.old }
         requires room { self.old.newest + 1 + self.old.left < 2 ^ 64 }
-        requires built { All AreBuilt lists.now }
+        requires runnable { All AreRunnable lists.now }
         ensures done { IfOk result (λ found. Branches (TakesAt (EitherGoal lists.entry.now) self.old) found self.old self.new) }
         ensures full { IfErr result (λ e. FullAt (TakesAt (EitherGoal lists.entry.now) self.old) (store_in self.old.store) e) }
         ensures left { self.new.left ≡ self.old.left }
@@ -30,7 +30,7 @@ impl<'p> Engine<'p> {
     pub fn once(&mut self, goals: &'p [Goal]) -> Result<bool, Full>
         requires ready { IsReady self.old }
         requires room { self.old.newest + 1 + self.old.left < 2 ^ 64 }
-        requires built { AreBuilt goals.now }
+        requires runnable { AreRunnable goals.now }
         ensures done { IfOk result (λ found. Branches (TakesAt (OnceGoal goals.entry.now) self.old) found self.old self.new) }
         ensures full { IfErr result (λ e. FullAt (TakesAt (OnceGoal goals.entry.now) self.old) (store_in self.old.store) e) }
         ensures left { self.new.left ≡ self.old.left }
@@ -53,7 +53,7 @@ impl<'p> Engine<'p> {
     pub fn not(&mut self, goals: &'p [Goal]) -> Result<bool, Full>
         requires ready { IsReady self.old }
         requires room { self.old.newest + 1 + self.old.left < 2 ^ 64 }
-        requires built { AreBuilt goals.now }
+        requires runnable { AreRunnable goals.now }
         ensures done { IfOk result (λ found. Branches (TakesAt (NotGoal goals.entry.now) self.old) found self.old self.new) }
         ensures full { IfErr result (λ e. FullAt (TakesAt (NotGoal goals.entry.now) self.old) (store_in self.old.store) e) }
         ensures left { self.new.left ≡ self.old.left }
@@ -71,7 +71,7 @@ impl<'p> Engine<'p> {
     pub fn exhaust(&mut self, goals: &'p [Goal]) -> Result<bool, Full>
         requires ready { IsReady self.old }
         requires room { self.old.newest + 1 + self.old.left < 2 ^ 64 }
-        requires built { AreBuilt goals.now }
+        requires runnable { AreRunnable goals.now }
         ensures done { IfOk result (λ found. Branches (TakesAt (ExhaustGoal goals.entry.now) self.old) found self.old self.new) }
         ensures full { IfErr result (λ e. FullAt (TakesAt (ExhaustGoal goals.entry.now) self.old) (store_in self.old.store) e) }
         ensures left { self.new.left ≡ self.old.left }
@@ -95,7 +95,7 @@ impl<'p> Engine<'p> {
     ) -> Result<bool, Full>
         requires ready { IsReady self.old }
         requires room { self.old.newest + 1 + self.old.left < 2 ^ 64 }
-        requires built { AreBuilt test.now × AreBuilt first.now × AreBuilt other.now }
+        requires runnable { AreRunnable test.now × AreRunnable first.now × AreRunnable other.now }
         ensures done { IfOk result (λ found. Branches (TakesAt (IfGoal test.entry.now first.entry.now other.entry.now) self.old) found self.old self.new) }
         ensures full { IfErr result (λ e. FullAt (TakesAt (IfGoal test.entry.now first.entry.now other.entry.now) self.old) (store_in self.old.store) e) }
         ensures left { self.new.left ≡ self.old.left }

@@ -12,7 +12,7 @@ ghost use Rattle.dg_interp.specs.inside.Finding.{made_values, ReadsAt, AsksPlace
 use super::Engine;
 use crate::finding::{copy, first_of, second_of, simple};
 use dg_base::{PlaceKind, Term};
-use dg_outside::{Subject, found, kind_of, subject_of};
+use dg_lasting::{Subject, found, kind_of, subject_of};
 use dg_unify::{Bindings, Full};
 
 impl<'p> Engine<'p> {
@@ -26,7 +26,7 @@ impl<'p> Engine<'p> {
         ensures full { IfErr result (λ e. FullAt (ReadsAt (λ facts. value_at facts place 0) (made_values self.old) self.old) (store_in self.old.store) e) }
         ensures left { self.new.left ≡ self.old.left }
     {
-        let Some(cells) = self.outside.world.kept(place) else {
+        let Some(cells) = self.lasting.world.kept(place) else {
             return self.back();
         };
         let Some(into) = first_of(self.made.as_slice()) else {
@@ -50,7 +50,7 @@ impl<'p> Engine<'p> {
             (store_in self.old.store) e) }
         ensures left { self.new.left ≡ self.old.left }
     {
-        let Some(value) = found(&self.outside.world, place, object) else {
+        let Some(value) = found(&self.lasting.world, place, object) else {
             return self.back();
         };
         let Some(into) = second_of(self.made.as_slice()) else {
@@ -93,7 +93,7 @@ impl<'p> Engine<'p> {
     {
         match kind {
             PlaceKind::Flag => {
-                if self.outside.world.holds(place, 0) {
+                if self.lasting.world.holds(place, 0) {
                     Ok(true)
                 } else {
                     self.back()

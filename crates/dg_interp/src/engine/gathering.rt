@@ -5,8 +5,8 @@ ghost use Rattle.dg_meaning.specs.ValueCells.{cells_of_all};
 ghost use Rattle.dg_meaning.specs.Copies.{values_of, all_copy_cells};
 ghost use Rattle.dg_lists.specs.Formed.{AreFormed};
 ghost use Rattle.dg_lists.specs.Reading.{ListCopied, Stopped};
-ghost use Rattle.dg_built.specs.Built.{AreBuilt};
-ghost use Rattle.dg_outside.specs.declared.lack.Lack.TheVariants.{OutOfMemory as WantOfMemory};
+ghost use Rattle.dg_interp.specs.Runnable.{AreRunnable};
+ghost use Rattle.dg_lasting.specs.declared.lack.Lack.TheVariants.{OutOfMemory as WantOfMemory};
 ghost use Rattle.dg_interp.specs.declared.frames.Left.TheVariants.{TakeOut};
 ghost use Rattle.dg_interp.specs.declared.frames.Whole.TheVariants.{List as InList, Sum as InSum};
 ghost use Rattle.dg_interp.specs.inside.Frames.{IsLeft};
@@ -19,8 +19,8 @@ ghost use Rattle.dg_unify.specs.declared.bindings.Mark.{Mark as ThePlace};
 use super::{Engine, stretch};
 use crate::frames::{Env, Frame, Left, Mark, Whole};
 use dg_base::{Cell, Goal, Term};
+use dg_lasting::{Lack, lacking};
 use dg_lists::{list_from_cells, sum};
-use dg_outside::{Lack, lacking};
 use dg_terms::{number, write_both, write_var};
 use dg_unify::{Bindings, Full, ListBindings, Ref, unify};
 
@@ -77,7 +77,7 @@ impl<'p> Engine<'p> {
         let env = stretch(&self.refs, self.here.env);
         match write_var(&mut self.store, env, 0) {
             Err(full) => Err(lacking(full)),
-            Ok(value) => match self.outside.gather(&mut self.store, value) {
+            Ok(value) => match self.lasting.gather(&mut self.store, value) {
                 Ok(()) => Ok(()),
                 Err(_) => Err(Lack::Aux),
             },
@@ -94,7 +94,7 @@ impl<'p> Engine<'p> {
     ) -> Result<(), Lack>
         requires ready { IsReady self.old }
         requires room { self.old.newest + 1 + self.old.left < 2 ^ 64 }
-        requires built { AreBuilt goals.now }
+        requires runnable { AreRunnable goals.now }
         requires values { Holds (store_in self.old.store) value × Holds (store_in self.old.store) into }
         ensures opened { OnOk result (WentOn (GathersAt whole value into goals.entry.now self.old) self.old self.new) }
         ensures lacks { IfErr result (λ lack. LackAt (GathersAt whole value into goals.entry.now self.old) self.old lack) }
@@ -111,7 +111,7 @@ impl<'p> Engine<'p> {
         if let Err(_) = self.frames.push(behind) {
             return Err(Lack::OutOfMemory);
         }
-        if let Err(_) = self.outside.open() {
+        if let Err(_) = self.lasting.open() {
             return Err(Lack::Aux);
         }
         let place = self.store.mark();
@@ -142,7 +142,7 @@ impl<'p> Engine<'p> {
     ) -> Result<bool, Lack>
         requires ready { IsReady self.old }
         requires room { self.old.newest + 1 + self.old.left < 2 ^ 64 }
-        requires built { AreBuilt goals.now }
+        requires runnable { AreRunnable goals.now }
         ensures done { IfOk result (λ found. Branches (TakesAt (gathering_goal whole term.now goals.entry.now into.now) self.old) found self.old self.new) }
         ensures lacks { IfErr result (λ lack. LackAt (TakesAt (gathering_goal whole term.now goals.entry.now into.now) self.old) self.old lack) }
         ensures left { self.new.left ≡ self.old.left }
@@ -185,14 +185,14 @@ impl<'p> Engine<'p> {
         ensures full { IfErr result (λ e. FullAt (TakesOutAt InList into self.old) (store_in self.old.store) e) }
         ensures left { self.new.left ≡ self.old.left }
     {
-        let Some(cells) = self.outside.gathered.newest() else {
+        let Some(cells) = self.lasting.gathered.newest() else {
             return Ok(false);
         };
         match list_of(&mut self.store, cells, &mut self.made, into) {
             Err(e) => Err(e),
             Ok(list) => {
-                let outside = self.gatherings() - 1;
-                self.outside.close_to(outside);
+                let lasting = self.gatherings() - 1;
+                self.lasting.close_to(lasting);
                 self.meet(into, list)
             }
         }
@@ -207,12 +207,12 @@ impl<'p> Engine<'p> {
         ensures full { IfErr result (λ e. FullAt (TakesOutAt InSum into self.old) (store_in self.old.store) e) }
         ensures left { self.new.left ≡ self.old.left }
     {
-        let Some(cells) = self.outside.gathered.newest() else {
+        let Some(cells) = self.lasting.gathered.newest() else {
             return Ok(false);
         };
         let total = sum(cells);
-        let outside = self.gatherings() - 1;
-        self.outside.close_to(outside);
+        let lasting = self.gatherings() - 1;
+        self.lasting.close_to(lasting);
         match total {
             None => Ok(false),
             Some(n) => {

@@ -1,9 +1,9 @@
 // Selects.
 ghost use Rattle.std.specs.Prelude.{◌≡◌, ◌+◌, [], All, IfOk, IfErr, get_or};
 ghost use Rattle.dg_base.specs.declared.program.Goal.TheVariants.{Select as SelectGoal};
-ghost use Rattle.dg_built.specs.Built.{AreBuilt};
+ghost use Rattle.dg_interp.specs.Runnable.{AreRunnable};
 ghost use Rattle.dg_interp.specs.inside.Engine.{IsReady, TakesAt, Branches, FullAt, store_in};
-ghost use Rattle.dg_outside.specs.Outside.{picks_in, MayPick};
+ghost use Rattle.dg_lasting.specs.Lasting.{picks_in, MayPick};
 
 use super::Engine;
 use crate::frames::{Frame, Mark};
@@ -24,8 +24,8 @@ impl<'p> Engine<'p> {
     /// Goes on with the one of some lists of goals that is picked at a site.
     pub fn select(&mut self, site: u16, mode: Mode, lists: &'p [Items<Goal>]) -> Result<bool, Full>
         requires ready { IsReady self.old }
-        requires may { MayPick (self.old.left + 1) (picks_in self.old.outside) }
-        requires built { All AreBuilt lists.now }
+        requires may { MayPick (self.old.left + 1) (picks_in self.old.lasting) }
+        requires runnable { All AreRunnable lists.now }
         ensures done { IfOk result (λ found. Branches (TakesAt (SelectGoal site mode lists.entry.now) self.old) found self.old self.new) }
         ensures full { IfErr result (λ e. FullAt (TakesAt (SelectGoal site mode lists.entry.now) self.old) (store_in self.old.store) e) }
         ensures left { self.new.left ≡ self.old.left }
@@ -34,7 +34,7 @@ impl<'p> Engine<'p> {
             return Err(Full::OutOfMemory);
         };
         self.push(self.here)?;
-        let branch = self.outside.pick(site, mode, branches);
+        let branch = self.lasting.pick(site, mode, branches);
         self.here = Frame {
             goals: list_at(lists, branch),
             mark: Mark::Nothing,

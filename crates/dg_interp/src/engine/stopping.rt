@@ -1,7 +1,7 @@
 // Stoppable parts.
 ghost use Rattle.std.specs.Prelude.{◌≡◌, ◌+◌, ◌<◌, ◌^◌, eqb, IfOk, IfErr};
 ghost use Rattle.dg_base.specs.declared.program.Goal.TheVariants.{Stoppable as StoppableGoal};
-ghost use Rattle.dg_built.specs.Built.{AreBuilt};
+ghost use Rattle.dg_interp.specs.Runnable.{AreRunnable};
 ghost use Rattle.dg_interp.specs.inside.Engine.{IsReady, IsSound, TakesAt, StopsAt, Branches, Stops, StopsOn, StopsTo, part_at, FullAt, store_in};
 
 use super::{Engine, cut, waiting};
@@ -30,7 +30,7 @@ impl<'p> Engine<'p> {
     pub fn stoppable(&mut self, goals: &'p [Goal]) -> Result<bool, Full>
         requires ready { IsReady self.old }
         requires room { self.old.newest + 1 + self.old.left < 2 ^ 64 }
-        requires built { AreBuilt goals.now }
+        requires runnable { AreRunnable goals.now }
         ensures done { IfOk result (λ found. Branches (TakesAt (StoppableGoal goals.entry.now) self.old) found self.old self.new) }
         ensures full { IfErr result (λ e. FullAt (TakesAt (StoppableGoal goals.entry.now) self.old) (store_in self.old.store) e) }
         ensures left { self.new.left ≡ self.old.left }
@@ -74,7 +74,7 @@ impl<'p> Engine<'p> {
                     cut(&mut self.choices, older);
                     self.frames.truncate(choice.height);
                     self.refs.truncate(choice.refs);
-                    self.outside.close_to(choice.gathered);
+                    self.lasting.close_to(choice.gathered);
                     self.store.undo(choice.place);
                     self.newest = choice.tag;
                     self.stoppable = choice.stoppable;

@@ -28,7 +28,7 @@ impl<'p> Engine<'p> {
         ) {
             Err(e) => Err(e),
             Ok((first, second, into)) => {
-                let n = throw(&self.store, &mut self.outside.dice, first, second);
+                let n = throw(&self.store, &mut self.lasting.dice, first, second);
                 self.give_number(n, into)
             }
         }

@@ -13,7 +13,7 @@ use super::{Engine, keep, stretch};
 use crate::finding::simple;
 use crate::frames::{Env, Frame, Left, Trial};
 use dg_base::Simple;
-use dg_outside::{found, may_find, objects_of};
+use dg_lasting::{found, may_find, objects_of};
 use dg_terms::unify_all;
 use dg_unify::{Bindings, Full, Mark as Place};
 
@@ -37,7 +37,7 @@ impl<'p> Engine<'p> {
         ensures full { IfErr result (λ e. FullAt (FindsAt place object args self.old) (store_in self.old.store) e) }
         ensures left { self.new.left ≡ self.old.left }
     {
-        let Some(value) = found(&self.outside.world, place, object) else {
+        let Some(value) = found(&self.lasting.world, place, object) else {
             return Ok(false);
         };
         let thing = simple(&mut self.store, Simple::Object(object));

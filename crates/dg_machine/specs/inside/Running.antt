@@ -16,7 +16,7 @@ use Rattle.dg_meaning.specs.Shows.{IsLeft}
 use Rattle.dg_meaning.specs.Engines.{left_told}
 use Rattle.dg_spacing.specs.declared.spacer.Spacer.{Spacer}
 use Rattle.dg_spacing.specs.Spacer.{StandsFor}
-use Rattle.dg_outside.specs.declared.outside.Outside.{Outside}
+use Rattle.dg_lasting.specs.declared.lasting.Lasting.{Lasting}
 use Rattle.dg_mid.specs.declared.code.Op.{Op}
 use Rattle.dg_mid.specs.declared.code.Code.{Code}
 use Rattle.dg_mid.specs.State.{Mid, Status, Runs as RunsOf, Ended as EndedOf}
@@ -34,25 +34,25 @@ use Rattle.dg_machine.specs.Tables.{IsOf}
 use Rattle.dg_machine.specs.Built.{BeginsQuietly}
 use Rattle.dg_machine.specs.Layout.{Roomy, Holds}
 use Rattle.dg_mid.specs.Seeking.{StatusSeeks}
-use Rattle.dg_machine.specs.Standing.{CodeIs, Stands, Around, HasOutside}
+use Rattle.dg_machine.specs.Standing.{CodeIs, Stands, Around, HasLasting}
 use Rattle.dg_machine.specs.Measure.{left_of, with_way}
 use Rattle.dg_machine.specs.inside.Reading.{IsEnd, LeftBehind, Gave, Failed}
 
 -- ## Steps
 
--- The machine has done a step that takes no goal: it stands for the step of what it stood for, and so does what is outside, nothing is printed, and a
+-- The machine has done a step that takes no goal: it stands for the step of what it stood for, and so does what lasts, nothing is printed, and a
 -- number has fallen.
 pub record MarkDone (code : Code) (g : Game) (l : Limits) (old : Memory) (before : Now)
-    (new : Memory) (out' : Outside) (after : Now) (s : Status) : Type 0 where
+    (new : Memory) (out' : Lasting) (after : Now) (s : Status) : Type 0 where
   pub stands : Stands code l new after (step (setting g code l) s)
-  pub outside : HasOutside out' g l (step (setting g code l) s)
+  pub lasting : HasLasting out' g l (step (setting g code l) s)
   pub falls : (IsOver s → ⊥) → left_of new after < left_of old before
   pub quiet : said (setting g code l) s ≡ []
 
-abbrev pub DoesMarks : Tables → Code → Memory → Outside → Now → Memory → Outside → Now → Type 0
+abbrev pub DoesMarks : Tables → Code → Memory → Lasting → Now → Memory → Lasting → Now → Type 0
 DoesMarks t code old out before new out' after =
     (g : Game) → IsOf g.program t → (l : Limits) (s : Status) → StatusOrdered s → StatusSeeks g code s → takes_goal s ≡ false →
-    Stands code l old before s → HasOutside out g l s → MarkDone code g l old before new out' after s
+    Stands code l old before s → HasLasting out g l s → MarkDone code g l old before new out' after s
 
 -- A machine that needs no step before its next goal, or has ended.
 abbrev pub rests : Now → Bool
@@ -60,7 +60,7 @@ rests (Runs ops) = at_goal ops.now
 rests (Ended e) = true
 rests now = false
 
--- A rule is entered, or code is at hand whose first instruction leaves what is outside.
+-- A rule is entered, or code is at hand whose first instruction leaves what lasts.
 abbrev pub IsQuick : Now → Type 0
 IsQuick (Runs ops) = BeginsQuietly ops.now
 IsQuick (Enters ops) = Unit {0}
@@ -88,26 +88,26 @@ pub record HasText (s : Spacer) (start now : SinkView) (ps : List Print) : Type 
   pub stands : StandsFor s ps
   pub wrote : Wrote start now (render ps)
 
--- An instruction that takes a goal was done: the machine and what is outside stand for what it leads to, and what it prints was written.
-pub record GoalDone (code : Code) (g : Game) (l : Limits) (new : Memory) (out : Outside) (after : Now)
+-- An instruction that takes a goal was done: the machine and what lasts stand for what it leads to, and what it prints was written.
+pub record GoalDone (code : Code) (g : Game) (l : Limits) (new : Memory) (out : Lasting) (after : Now)
     (s s' : Spacer) (k k' : SinkView) (m : Mid) : Type 0 where
   pub stands : Stands code l new after (step (setting g code l) (RunsOf m))
-  pub outside : HasOutside out g l (step (setting g code l) (RunsOf m))
+  pub lasting : HasLasting out g l (step (setting g code l) (RunsOf m))
   pub writes : (start : SinkView) (ps : List Print) → HasText s start k ps → HasText s' start k' (followed ps (said (setting g code l) (RunsOf m)))
 
-abbrev pub DoesGoal : Tables → Code → Memory → Outside → List Op → Memory → Outside → Now →
+abbrev pub DoesGoal : Tables → Code → Memory → Lasting → List Op → Memory → Lasting → Now →
     Spacer → Spacer → SinkView → SinkView → Type 0
 DoesGoal t code old out ops new out' after s s' k k' =
     (g : Game) → IsOf g.program t → (l : Limits) (m : Mid) → MidOrdered m → at_goal ops ≡ true → CodeIs ops m → Holds code l old m →
     Around out g l m → GoalDone code g l new out' after s s' k k' m
 
 -- The same of a machine whose typed bytes are those that its source gives there, and then those that are left behind it.
-pub record ReadsGoal (t : Tables) (code : Code) (old : Memory) (out : Outside) (ops : List Op) (new : Memory) (out' : Outside) (after : Now)
+pub record ReadsGoal (t : Tables) (code : Code) (old : Memory) (out : Lasting) (ops : List Op) (new : Memory) (out' : Lasting) (after : Now)
     (s s' : Spacer) (k k' : SinkView) (i i' : SourceView) : Type 0 where
   pub gave : Gave i i' after
   pub does : (rest : List ℕ) → LeftBehind gave.ended i' rest → (g : Game) → IsOf g.program t → (l : Limits) (m : Mid) → MidOrdered m →
-      at_goal ops ≡ true → CodeIs ops m → Holds code l old m → Around out g l m → m.outside.typed ≡ gave.taken ++ rest →
-      GoalDone code g l new out' after s s' k k' m × (left_behind (setting g code l) (RunsOf m) m.outside.typed ≡ rest)
+      at_goal ops ≡ true → CodeIs ops m → Holds code l old m → Around out g l m → m.lasting.typed ≡ gave.taken ++ rest →
+      GoalDone code g l new out' after s s' k k' m × (left_behind (setting g code l) (RunsOf m) m.lasting.typed ≡ rest)
 
 -- The sink failed within what an instruction prints, and the code goes on behind it.
 pub record GoalLost (g : Game) (code : Code) (l : Limits) (k k' : SinkView) (m : Mid) (start : SinkView) (ps : List Print) : Type 0 where
@@ -126,8 +126,8 @@ pub record LosesText (t : Tables) (code : Code) (old : Memory) (ops : List Op) (
   pub left : (rest : List ℕ) → IsLeft i'.left rest → IsLeft i.left (taken ++ rest)
   pub later : i.faults ≤ i'.faults
   pub loses : (rest : List ℕ) → IsLeft i'.left rest → (g : Game) → IsOf g.program t → (l : Limits) (m : Mid) → CodeIs ops m →
-      Holds code l old m → m.outside.typed ≡ taken ++ rest → (start : SinkView) (ps : List Print) → HasText s start k ps →
-      (GoalLost g code l k k' m start ps ⊎ BrokeOff start k' (render ps)) × (left_behind (setting g code l) (RunsOf m) m.outside.typed ≡ rest)
+      Holds code l old m → m.lasting.typed ≡ taken ++ rest → (start : SinkView) (ps : List Print) → HasText s start k ps →
+      (GoalLost g code l k k' m start ps ⊎ BrokeOff start k' (render ps)) × (left_behind (setting g code l) (RunsOf m) m.lasting.typed ≡ rest)
 
 -- The source failed while an instruction read its line.
 pub record LosesLine (t : Tables) (code : Code) (old : Memory) (ops : List Op) (s s' : Spacer) (k k' : SinkView) (i i' : SourceView) : Type 0 where
@@ -145,18 +145,18 @@ BreaksGoal Write t code old ops s s' k k' i i' = LosesText t code old ops s k k'
 -- ## Whole runs
 
 -- The machine is where a run of code is after some steps, of which so many goals are, what was printed was written, and these bytes are left.
-pub record IsAt (code : Code) (g : Game) (l : Limits) (typed : List ℕ) (r : Memory) (out : Outside) (now : Now) (goals : ℕ) (s : Spacer)
+pub record IsAt (code : Code) (g : Game) (l : Limits) (typed : List ℕ) (r : Memory) (out : Lasting) (now : Now) (goals : ℕ) (s : Spacer)
     (start k : SinkView) (left : List ℕ) : Type 0 where
   pub steps : ℕ
   pub stands : Stands code l r now (after (setting g code l) typed steps).now
-  pub outside : HasOutside out g l (after (setting g code l) typed steps).now
+  pub lasting : HasLasting out g l (after (setting g code l) typed steps).now
   pub goals_is : (after (setting g code l) typed steps).goals ≡ goals
   pub text : HasText s start k (after (setting g code l) typed steps).prints
   pub left_is : left_after (setting g code l) typed steps ≡ left
 
 -- Wherever the machine was, it has taken so many goals from there, and what the source gave.
-pub record Takes (t : Tables) (code : Code) (n : ℕ) (old : Memory) (out : Outside) (before : Now) (s : Spacer) (k : SinkView) (i : SourceView)
-    (new : Memory) (out' : Outside) (now : Now) (s' : Spacer) (k' : SinkView) (i' : SourceView) : Type 0 where
+pub record Takes (t : Tables) (code : Code) (n : ℕ) (old : Memory) (out : Lasting) (before : Now) (s : Spacer) (k : SinkView) (i : SourceView)
+    (new : Memory) (out' : Lasting) (now : Now) (s' : Spacer) (k' : SinkView) (i' : SourceView) : Type 0 where
   pub gave : Gave i i' now
   pub takes : (rest : List ℕ) → LeftBehind gave.ended i' rest → (g : Game) → IsOf g.program t → (l : Limits) (typed : List ℕ) (goals : ℕ)
       (start : SinkView) → IsAt code g l typed old out before goals s start k (gave.taken ++ rest) →
@@ -177,7 +177,7 @@ pub record IsLost (code : Code) (g : Game) (l : Limits) (typed : List ℕ) (goal
   pub left_is : left_after (setting g code l) typed (suc steps) ≡ left
 
 -- Wherever the machine was, the next goal has lost the output, and what the source gave was taken.
-pub record Loses (t : Tables) (code : Code) (old : Memory) (out : Outside) (before : Now) (s : Spacer) (k : SinkView) (i : SourceView)
+pub record Loses (t : Tables) (code : Code) (old : Memory) (out : Lasting) (before : Now) (s : Spacer) (k : SinkView) (i : SourceView)
     (k' : SinkView) (i' : SourceView) : Type 0 where
   pub taken : List ℕ
   pub left : (rest : List ℕ) → IsLeft i'.left rest → IsLeft i.left (taken ++ rest)
@@ -194,14 +194,14 @@ pub record IsUnread (code : Code) (g : Game) (l : Limits) (typed : List ℕ) (go
   pub left_is : left_after (setting g code l) typed steps ≡ left
 
 -- Wherever the machine was, the next goal has lost the input.
-pub record FailsToRead (t : Tables) (code : Code) (old : Memory) (out : Outside) (before : Now) (s : Spacer) (k : SinkView) (i : SourceView)
+pub record FailsToRead (t : Tables) (code : Code) (old : Memory) (out : Lasting) (before : Now) (s : Spacer) (k : SinkView) (i : SourceView)
     (s' : Spacer) (k' : SinkView) (i' : SourceView) : Type 0 where
   pub failed : Failed i i'
   pub unread : (g : Game) → IsOf g.program t → (l : Limits) (typed : List ℕ) (goals : ℕ) (start : SinkView) (left : List ℕ) →
       IsAt code g l typed old out before goals s start k left → IsUnread code g l typed goals s' start k' left
 
 -- The next goal met a fault.
-abbrev pub BreaksTurn : Fault → Tables → Code → Memory → Outside → Now → Spacer → SinkView → SourceView → Spacer → SinkView →
+abbrev pub BreaksTurn : Fault → Tables → Code → Memory → Lasting → Now → Spacer → SinkView → SourceView → Spacer → SinkView →
     SourceView → Type 0
 BreaksTurn Read t code old out before s k i s' k' i' = FailsToRead t code old out before s k i s' k' i'
 BreaksTurn Write t code old out before s k i s' k' i' = Loses t code old out before s k i k' i'
@@ -221,7 +221,7 @@ pub record HasEnded (code : Code) (g : Game) (l : Limits) (typed : List ℕ) (go
   pub roomy : Roomy l r
 
 -- Wherever the machine was with such a budget, where these bytes were left, it has ended so.
-pub record Finishes (t : Tables) (code : Code) (old : Memory) (out : Outside) (before : Now) (budget : ℕ) (s : Spacer) (k : SinkView)
+pub record Finishes (t : Tables) (code : Code) (old : Memory) (out : Lasting) (before : Now) (budget : ℕ) (s : Spacer) (k : SinkView)
     (i : SourceView) (e : Ending) (left : ℕ) (new : Memory) (s' : Spacer) (k' : SinkView) (i' : SourceView) : Type 0 where
   pub typed : List ℕ
   pub is_typed : IsLeft i.left typed
@@ -240,7 +240,7 @@ pub record IsLostWithin (code : Code) (g : Game) (l : Limits) (typed : List ℕ)
   pub lost : IsLost code g l typed goals start k left
   pub roomy : Roomy l r
 
-pub record LosesRun (t : Tables) (code : Code) (old : Memory) (out : Outside) (before : Now) (budget : ℕ) (s : Spacer) (k : SinkView)
+pub record LosesRun (t : Tables) (code : Code) (old : Memory) (out : Lasting) (before : Now) (budget : ℕ) (s : Spacer) (k : SinkView)
     (i : SourceView) (new : Memory) (k' : SinkView) (i' : SourceView) : Type 0 where
   pub typed : List ℕ
   pub is_typed : IsLeft i.left typed
@@ -258,7 +258,7 @@ pub record IsUnreadWithin (code : Code) (g : Game) (l : Limits) (typed : List �
   pub unread : IsUnread code g l typed goals s start k left
   pub roomy : Roomy l r
 
-pub record UnreadRun (t : Tables) (code : Code) (old : Memory) (out : Outside) (before : Now) (budget : ℕ) (s : Spacer) (k : SinkView)
+pub record UnreadRun (t : Tables) (code : Code) (old : Memory) (out : Lasting) (before : Now) (budget : ℕ) (s : Spacer) (k : SinkView)
     (i : SourceView) (new : Memory) (s' : Spacer) (k' : SinkView) (i' : SourceView) : Type 0 where
   pub typed : List ℕ
   pub is_typed : IsLeft i.left typed
@@ -272,7 +272,7 @@ pub record UnreadRun (t : Tables) (code : Code) (old : Memory) (out : Outside) (
       IsAt code g l bytes old out before 0 s start k typed → IsUnreadWithin code g l bytes budget new s' start k' (taken ++ rest)
 
 -- A run met a fault.
-abbrev pub BreaksRun : Fault → Tables → Code → Memory → Outside → Now → ℕ → Spacer → SinkView → SourceView → Memory → Spacer →
+abbrev pub BreaksRun : Fault → Tables → Code → Memory → Lasting → Now → ℕ → Spacer → SinkView → SourceView → Memory → Spacer →
     SinkView → SourceView → Type 0
 BreaksRun Read t code old out before budget s k i new s' k' i' = UnreadRun t code old out before budget s k i new s' k' i'
 BreaksRun Write t code old out before budget s k i new s' k' i' = LosesRun t code old out before budget s k i new k' i'
@@ -286,35 +286,35 @@ pub record IsSomewhere (t : Tables) (code : Code) (r : Memory) (now : Now) : Typ
   pub steps : ℕ
   pub stands : Stands code limits r now (after (setting game code limits) typed steps).now
 
--- So is what is outside.
-pub record IsSomewhereWith (t : Tables) (code : Code) (r : Memory) (out : Outside) (now : Now) : Type 0 where
+-- So is what lasts.
+pub record IsSomewhereWith (t : Tables) (code : Code) (r : Memory) (out : Lasting) (now : Now) : Type 0 where
   pub somewhere : IsSomewhere t code r now
-  pub outside : HasOutside out somewhere.game somewhere.limits (after (setting somewhere.game code somewhere.limits) somewhere.typed somewhere.steps).now
+  pub lasting : HasLasting out somewhere.game somewhere.limits (after (setting somewhere.game code somewhere.limits) somewhere.typed somewhere.steps).now
 
 -- And these bytes are left.
-pub record IsSomewhereLeft (t : Tables) (code : Code) (r : Memory) (out : Outside) (now : Now) (left : List ℕ) : Type 0 where
+pub record IsSomewhereLeft (t : Tables) (code : Code) (r : Memory) (out : Lasting) (now : Now) (left : List ℕ) : Type 0 where
   pub found : IsSomewhereWith t code r out now
   pub left_is : let x = found.somewhere in left_after (setting x.game code x.limits) x.typed x.steps ≡ left
 
 -- Whatever may be left of a source.
-abbrev pub IsSomewhereAt : Tables → Code → Memory → Outside → Now → SourceView → Type 0
+abbrev pub IsSomewhereAt : Tables → Code → Memory → Lasting → Now → SourceView → Type 0
 IsSomewhereAt t code r out now i = (rest : List ℕ) → IsLeft i.left rest → IsSomewhereLeft t code r out now rest
 
 -- The same where the run goes on.
-abbrev pub IsSomewhereStill : Tables → Code → Memory → Outside → Now → SourceView → Type 0
+abbrev pub IsSomewhereStill : Tables → Code → Memory → Lasting → Now → SourceView → Type 0
 IsSomewhereStill t code r out now i = (IsEnd now → ⊥) → IsSomewhereAt t code r out now i
 
 -- The machine has done steps that take no goal.
-pub record HasSettled (code : Code) (g : Game) (l : Limits) (typed : List ℕ) (steps : ℕ) (new : Memory) (out' : Outside) (now : Now) : Type 0 where
+pub record HasSettled (code : Code) (g : Game) (l : Limits) (typed : List ℕ) (steps : ℕ) (new : Memory) (out' : Lasting) (now : Now) : Type 0 where
   pub further : ℕ
   pub stands : Stands code l new now (after (setting g code l) typed further).now
-  pub outside : HasOutside out' g l (after (setting g code l) typed further).now
+  pub lasting : HasLasting out' g l (after (setting g code l) typed further).now
   pub goals : (after (setting g code l) typed further).goals ≡ (after (setting g code l) typed steps).goals
   pub prints : (after (setting g code l) typed further).prints ≡ (after (setting g code l) typed steps).prints
   pub left : left_after (setting g code l) typed further ≡ left_after (setting g code l) typed steps
 
 -- Wherever it was.
-abbrev pub Settles : Tables → Code → Memory → Outside → Now → Memory → Outside → Now → Type 0
+abbrev pub Settles : Tables → Code → Memory → Lasting → Now → Memory → Lasting → Now → Type 0
 Settles t code old out before new out' now = (g : Game) → IsOf g.program t → (l : Limits) (typed : List ℕ) (steps : ℕ) →
-    Stands code l old before (after (setting g code l) typed steps).now → HasOutside out g l (after (setting g code l) typed steps).now →
+    Stands code l old before (after (setting g code l) typed steps).now → HasLasting out g l (after (setting g code l) typed steps).now →
     HasSettled code g l typed steps new out' now

@@ -1,7 +1,7 @@
 -- What stands around a search, and what of it an engine has to keep. Hold it against the Dialog manual, chapter "Choice points".
 use Rattle.std.specs.Prelude.{ℕ, ◌<◌, ◌≤◌, ◌≡◌, ◌⊎◌, nat_lt, eqb, List, [], ◌∷◌, Option, Some, None, Bool, true, false, length, drop, if◌then◌else◌}
 use Rattle.dg_meaning.specs.World.{World, Gathering}
-use Rattle.dg_meaning.specs.Path.{Step, Do, Answers, Cut, Refuse, Back, Keep, Leave, Path, Result, Branch, Enter, Clash, TakeOut, Finds, Kind, Plain, Rules, Shield, Gathers}
+use Rattle.dg_meaning.specs.Path.{Step, Do, Answers, Cut, Refuse, Back, Keep, Leave, Path, Result, Branch, Enter, Clash, TakeOut, Finds, ChoiceKind, Plain, Rules, Shield, Gathers}
 use Rattle.dg_meaning.specs.Moves.{path_at}
 use Rattle.dg_meaning.specs.Search.{Search, answer, cut_result, later, after_branch, branches_cut, choose}
 use Rattle.dg_meaning.specs.Transcript.{Run, run_of}
@@ -12,7 +12,7 @@ use Rattle.dg_meaning.specs.inside.Bindings.{top_of_values, IsBound}
 
 -- A search is in a branch of the choice t with these others behind it, or behind a mark that cuts to t.
 pub data Around : Type 0 where
-  InBranch : (kind : Kind) → (tag : ℕ) → (others : List Branch) → Around
+  InBranch : (kind : ChoiceKind) → (tag : ℕ) → (others : List Branch) → Around
   InCut : (tag : ℕ) → Around
 
 -- What the run comes to, where a search with this around it, the innermost first, gives a result.
@@ -57,7 +57,7 @@ ways (InCut t ∷ ctx) = ways ctx
 -- A choice that was not cut: its kind, its tag, the branches that were not begun, how many gatherings are open in it, and the ways on behind the
 -- stoppable parts around it.
 pub record Live : Type 0 where
-  pub kind : Kind
+  pub kind : ChoiceKind
   pub tag : ℕ
   pub others : List Branch
   pub height : ℕ
@@ -69,7 +69,7 @@ cut_to t [] = []
 cut_to t (c ∷ cs) = if nat_lt c.tag t then c ∷ cs else cut_to t cs
 
 -- A choice between rules is kept as long as it is around, since it is told where it fails; any other as long as it has a branch that was not begun.
-abbrev pub stays : Kind → List Branch → Bool
+abbrev pub stays : ChoiceKind → List Branch → Bool
 stays (Rules q) others = true
 stays k [] = false
 stays k (b ∷ bs) = true
@@ -156,7 +156,7 @@ KeepGatherings [] = Unit {0}
 KeepGatherings (b ∷ bs) = KeepsGathering b × KeepGatherings bs
 
 -- Behind a first branch that gathers, one branch takes the gathering out; no other branch takes one out.
-abbrev pub TakesOut : Kind → ℕ → List Branch → Type 0
+abbrev pub TakesOut : ChoiceKind → ℕ → List Branch → Type 0
 TakesOut Gathers t [] = ⊥
 TakesOut Gathers t (TakeOut u whole into path ∷ []) = u ≡ t
 TakesOut Gathers t (b ∷ bs) = ⊥

@@ -9,7 +9,7 @@ use Rattle.dg_base.specs.declared.run.Ending.TheVariants.{Done as Done-Ending, S
 use Rattle.dg_meaning.specs.Values.{Value, value_of}
 use Rattle.dg_meaning.specs.Substitutions.{resolved}
 use Rattle.dg_meaning.specs.World.{Game, World, Answered, noted, worked, kept}
-use Rattle.dg_meaning.specs.Path.{Step, Do, Answers, Cut, Refuse, Back, Keep, Leave, Registers, Path, Result, Failing, StopTo, End, Answer, Whole, Branch, Enter, TakeOut, Kind, Shield, Gathers, Move, GoesOn, FailsAt, EndsAt, StopsAt, Outcome, Moves, Chooses}
+use Rattle.dg_meaning.specs.Path.{Step, Do, Answers, Cut, Refuse, Back, Keep, Leave, Registers, Path, Result, Failing, StopTo, End, Answer, Whole, Branch, Enter, TakeOut, ChoiceKind, Shield, Gathers, Move, GoesOn, FailsAt, EndsAt, StopsAt, Outcome, Moves, Chooses}
 use Rattle.dg_meaning.specs.Moves.{path_of, exhausted, begun, goals_at, begins, keeping, move}
 use Rattle.dg_meaning.specs.Search.{Search, search, answer, later, retried, choose}
 use Rattle.dg_meaning.specs.Transcript.{Run, run_of, run, start_world, start_path}
@@ -66,7 +66,7 @@ pub record Stopping (g : Game) (cs : List Live) (ws : List Way) (s : ℕ) (n : �
 
 -- The run r comes from the branches of this choice that were not begun, inside these choices.
 pub record Resumed (g : Game) (c : Live) (cs : List Live) (n : ℕ) (w : World) (r : Run) : Type 0 where
-  pub kind : Kind
+  pub kind : ChoiceKind
   pub kind_is : later kind ≡ c.kind
   pub ctx : List Around
   pub is : r ≡ unwound (search g) ctx (choose (search g) c.kind c.tag c.others n w)
@@ -113,26 +113,26 @@ abbrev pub Began : Game → List Live → List Way → Branch → ℕ → World 
 Began g cs ws b n w r = Went g cs ws n (begins b w) r
 
 -- Where a run stands at the branches that a choice has left: its first begins, with the others left, or it has failed.
-abbrev pub Tried : Game → Kind → ℕ → ℕ → List Way → List Live → List Branch → ℕ → World → Run → Type 0
+abbrev pub Tried : Game → ChoiceKind → ℕ → ℕ → List Way → List Live → List Branch → ℕ → World → Run → Type 0
 Tried g k t height ws cs [] n w r = Failed g cs n (exhausted k w) r
 Tried g k t height ws cs (b ∷ bs) n w r = Began g (pushed (record { kind = k; tag = t; others = bs; height = height; ways_on = ws }) cs) ws b n w r
 
 -- The world in which these branches of a choice are tried again.
-abbrev pub tried_in : Kind → List Branch → World → World
+abbrev pub tried_in : ChoiceKind → List Branch → World → World
 tried_in k [] w = w
 tried_in k (b ∷ bs) w = retried k w
 
 -- How many gatherings are open outside a choice whose first branch begins in this world.
-abbrev pub open_outside : Kind → World → ℕ
+abbrev pub open_outside : ChoiceKind → World → ℕ
 open_outside Gathers w = length w.gathered - 1
 open_outside k w = length w.gathered
 
 -- The choices where the first branch of a choice begins, with these behind it.
-abbrev pub new_choices : Kind → ℕ → List Branch → World → List Way → List Live → List Live
+abbrev pub new_choices : ChoiceKind → ℕ → List Branch → World → List Way → List Live → List Live
 new_choices k t bs w ws cs = pushed (record { kind = later k; tag = t; others = bs; height = open_outside k w; ways_on = ws }) cs
 
 -- The ways on there.
-abbrev pub new_ways : Kind → ℕ → List Branch → World → List Way → List Way
+abbrev pub new_ways : ChoiceKind → ℕ → List Branch → World → List Way → List Way
 new_ways Shield t bs w ws = record { tag = t; others = bs; height = length w.gathered } ∷ ws
 new_ways k t bs w ws = ws
 

@@ -1,6 +1,5 @@
-use Rattle.std.specs.Prelude.{None}
-use Rattle.dg_access.proofs.LeftLemmas.{items_plain}
+use Rattle.dg_access.proofs.LeftLemmas.{nothing_left}
 use Rattle.dg_access.proofs.laws.nothing_is_left.Goals as goal
 
 pub returns : goal.returns
-returns c = items_plain None
+returns c = nothing_left

@@ -1,5 +1,5 @@
 use Rattle.dg_base.specs.TreeView.{tree_view}
-use Rattle.dg_expand.specs.Answer.{IsRewritten}
+use Rattle.dg_access.specs.Answer.{IsRewritten}
 use Rattle.dg_names.specs.State.{names_view}
 use Rattle.dg_compile.proofs.SourceLemmas.{then_ok, then_err}
 use Rattle.dg_compile.proofs.source.named_program.Goals as goal

@@ -1,7 +1,7 @@
 use Rattle.std.proofs.Common.{◌≡◌, ◌+◌, ◌∙◌, ℕ, List, map, ap}
 use Rattle.dg_base.specs.TreeView.{head_view, body_view}
-use Rattle.dg_closures.specs.inside.View.{layout_view, layouts_view}
-use Rattle.dg_closures.specs.declared.layouts.Layout.{Layout}
+use Rattle.dg_scopes.specs.inside.View.{layout_view, layouts_view}
+use Rattle.dg_scopes.specs.declared.layouts.Layout.{Layout}
 use Rattle.dg_core.specs.Goals.{Scope}
 use Rattle.dg_core.specs.inside.Making.{bodies_view}
 use Rattle.dg_core.specs.inside.View.{scope_view, before_view}

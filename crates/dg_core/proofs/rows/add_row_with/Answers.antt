@@ -1,7 +1,7 @@
 use Rattle.std.proofs.Common.{◌∙◌, ◌++◌, ℕ, List, Bor, ap}
 use Rattle.dg_base.specs.declared.tree.Body.{Body}
-use Rattle.dg_closures.specs.Closures.{Layout, variables_in}
-use Rattle.dg_closures.specs.inside.View.{layout_view}
+use Rattle.dg_scopes.specs.Closures.{Layout, variables_in}
+use Rattle.dg_scopes.specs.inside.View.{layout_view}
 use Rattle.dg_names.specs.State.{seen}
 use Rattle.dg_core.specs.Bodies.{direct, in_branches}
 use Rattle.dg_core.specs.Goals.{Scope, body_goals}

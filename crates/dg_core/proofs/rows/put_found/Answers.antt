@@ -1,5 +1,5 @@
 use Rattle.std.proofs.Common.{map}
-use Rattle.dg_closures.specs.inside.View.{layout_view}
+use Rattle.dg_scopes.specs.inside.View.{layout_view}
 use Rattle.dg_names.specs.State.{seen}
 use Rattle.dg_core.proofs.WaitLemmas.{found_waits}
 use Rattle.dg_core.proofs.rows.put_found.Goals as goal

@@ -1,5 +1,5 @@
 use Rattle.std.proofs.Common.{◌≡◌, ◌++◌, map, length}
-use Rattle.dg_closures.specs.inside.View.{layout_view}
+use Rattle.dg_scopes.specs.inside.View.{layout_view}
 use Rattle.dg_names.specs.State.{seen}
 use Rattle.dg_core.specs.inside.Making.{bodies_view}
 use Rattle.dg_core.specs.inside.Waiting.{stack_of, waiting_from}

@@ -1,6 +1,6 @@
 use Rattle.std.proofs.Common.{map, refl}
 use Rattle.dg_base.specs.TreeView.{body_view}
-use Rattle.dg_closures.specs.inside.View.{layout_view}
+use Rattle.dg_scopes.specs.inside.View.{layout_view}
 use Rattle.dg_names.specs.State.{seen}
 use Rattle.dg_core.proofs.MakeLemmas.{on_ok}
 use Rattle.dg_core.proofs.WaitLemmas.{put_waits}

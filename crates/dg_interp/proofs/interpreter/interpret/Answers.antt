@@ -21,8 +21,8 @@ returns-in-Err-clause-err g c =
     let P : RunFault → List ℕ → Type 0 = λ fault typed. HasBrokenOff fault (game c.args.program.now c.args.dice.now) typed c.args.limits.now i i (g.K.Sink.view c.args.sink.now) (g.K.Sink.view c.write_lack.new.sink) in
     if_err_map c.write_lack.result _ (λ fault. ForTyped told (P fault)) (λ fault h. for_typed told (P fault) (λ typed is. h typed i is)) c.write_lack.ensures.err
 
-pub new-engine-requires-clause-built : goal.new-engine-requires-clause-built
-new-engine-requires-clause-built g c = c.programs_are_built.ensures c.args.program.now c.requires.sound
+pub new-engine-requires-clause-runnable : goal.new-engine-requires-clause-runnable
+new-engine-requires-clause-runnable g c = c.programs_are_runnable.ensures c.args.program.now c.requires.sound
 
 pub write_run-requires : goal.write_run-requires
 write_run-requires g c = record { starts = c.new-engine.ensures.starts c.args.limits.now c.args.dice.now refl refl refl c.in-Ok.ensures.starts }

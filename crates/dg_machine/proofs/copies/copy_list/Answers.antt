@@ -1,5 +1,5 @@
 use Rattle.std.proofs.Common.{◌∙◌, ap, arith, length}
-use Rattle.dg_meaning.specs.Values.{parts_of}
+use Rattle.dg_meaning.specs.Values.{node_parts}
 use Rattle.dg_lists.proofs.ListCopies.{row_parts, parts_formed}
 use Rattle.dg_machine.proofs.ListCopies.{copies_list, row_few}
 use Rattle.dg_machine.proofs.copies.copy_list.Goals as goal
@@ -11,4 +11,4 @@ returns-then-cells-capacity-clause-copied c vs fit is formed =
 
 pub returns-clause-copied : goal.returns-clause-copied
 returns-clause-copied c vs fit is formed =
-    copies_list vs c.args.arena.now c.list_from_cells-made.new.store c.list_from_cells-made.result (c.list_from_cells-made.ensures.copied (parts_of vs) (is ∙ row_parts vs) (parts_formed vs formed))
+    copies_list vs c.args.arena.now c.list_from_cells-made.new.store c.list_from_cells-made.result (c.list_from_cells-made.ensures.copied (node_parts vs) (is ∙ row_parts vs) (parts_formed vs formed))

@@ -1,5 +1,5 @@
 use Rattle.std.proofs.Common.{subst}
-use Rattle.dg_outside.specs.Outside.{LacksAtStart}
+use Rattle.dg_lasting.specs.Lasting.{LacksAtStart}
 use Rattle.dg_machine.proofs.Lacking.{lack_shown, lack_lost}
 use Rattle.dg_machine.proofs.program.write_lack.Goals as goal
 

@@ -16,7 +16,7 @@ pub returns-in-Ok-clause-ok : goal.returns-in-Ok-clause-ok
 returns-in-Ok-clause-ok g c code game is_of l m o e at h w =
     let bytes = c.as_slice.result.now in
     let split = c.requires.whole ∙ ap (λ a. op.Do a ∷ c.args.rest.now) (c.in-Text.is ∙ ap action.Text (sym c.as_slice.ensures)) in
-    printed_done code game l m c.args.memory.now 0 c.args.ops.now (action.Text bytes) (Piece bytes) c.args.rest split at (nothing_more code l c.args.memory.now m h) (keeps_none game code l (RunsOf (more 0 (record m { ops = c.args.rest.now })))) refl c.args.spacer.now c.event.new.self (g.K.Sink.view c.args.sink.now) (g.K.Sink.view c.event.new.sink) c.args.outside.now w c.in-Ok.ensures.stands c.in-Ok.ensures.ok
+    printed_done code game l m c.args.memory.now 0 c.args.ops.now (action.Text bytes) (Piece bytes) c.args.rest split at (nothing_more code l c.args.memory.now m h) (keeps_none game code l (RunsOf (more 0 (record m { ops = c.args.rest.now })))) refl c.args.spacer.now c.event.new.self (g.K.Sink.view c.args.sink.now) (g.K.Sink.view c.event.new.sink) c.args.lasting.now w c.in-Ok.ensures.stands c.in-Ok.ensures.ok
 
 pub returns-in-Err-clause-err : goal.returns-in-Err-clause-err
 returns-in-Err-clause-err g c code game is_of l m at h start ps text =
@@ -28,7 +28,7 @@ pub returns-in-Ok-event-clause-ok : goal.returns-in-Ok-event-clause-ok
 returns-in-Ok-event-clause-ok g c code game is_of l m o e at h w =
     let split = c.requires.whole ∙ ap (λ a. op.Do a ∷ c.args.rest.now) c.in-Gap.is in
     let same = c.event_of.ensures in
-    printed_done code game l m c.args.memory.now 0 c.args.ops.now (action.Gap c.in-Gap.kind) (GapOf c.in-Gap.kind) c.args.rest split at (nothing_more code l c.args.memory.now m h) (keeps_none game code l (RunsOf (more 0 (record m { ops = c.args.rest.now })))) refl c.args.spacer.now c.event-in-Gap.new.self (g.K.Sink.view c.args.sink.now) (g.K.Sink.view c.event-in-Gap.new.sink) c.args.outside.now w
+    printed_done code game l m c.args.memory.now 0 c.args.ops.now (action.Gap c.in-Gap.kind) (GapOf c.in-Gap.kind) c.args.rest split at (nothing_more code l c.args.memory.now m h) (keeps_none game code l (RunsOf (more 0 (record m { ops = c.args.rest.now })))) refl c.args.spacer.now c.event-in-Gap.new.self (g.K.Sink.view c.args.sink.now) (g.K.Sink.view c.event-in-Gap.new.sink) c.args.lasting.now w
     (λ ps t. subst (λ p. StandsFor c.event-in-Gap.new.self (ps ++ p ∷ [])) same (c.in-Ok-event.ensures.stands ps t))
     (λ ps t. subst (λ p. Wrote (g.K.Sink.view c.args.sink.now) (g.K.Sink.view c.event-in-Gap.new.sink) (growth ps p)) same (c.in-Ok-event.ensures.ok ps t))
 
@@ -50,11 +50,11 @@ returns-in-Random-clause-ok g c code game is_of l m o e at h w =
     let rest = c.args.rest.now in
     let split = c.requires.whole ∙ ap (λ a. op.Do a ∷ rest) x.is in
     let built : OpsBuilt (op.Do (action.Random x.a x.b x.into) ∷ rest) = subst OpsBuilt split at.1 in
-    silent_with c.args.tables.now code game is_of l m c.args.memory.now c.random.new.self c.random.result c.args.ops.now (op.Do (action.Random x.a x.b x.into)) rest split at h c.args.spacer.now (g.K.Sink.view c.args.sink.now) c.random.new.outside
+    silent_with c.args.tables.now code game is_of l m c.args.memory.now c.random.new.self c.random.result c.args.ops.now (op.Do (action.Random x.a x.b x.into)) rest split at h c.args.spacer.now (g.K.Sink.view c.args.sink.now) c.random.new.lasting
     (quiet_random (setting game code l) m x.a x.b x.into rest) (c.random.ensures.does code game is_of l (record m { ops = rest }) built.0 (refl, built.1) h w)
 
 pub returns-in-GapN-clause-ok : goal.returns-in-GapN-clause-ok
-returns-in-GapN-clause-ok g c = c.print_spaces.ensures.ok c.args.outside.now
+returns-in-GapN-clause-ok g c = c.print_spaces.ensures.ok c.args.lasting.now
 
 pub returns-in-Now-clause-ok : goal.returns-in-Now-clause-ok
 returns-in-Now-clause-ok g c code game is_of l m o e at h w =
@@ -63,8 +63,8 @@ returns-in-Now-clause-ok g c code game is_of l m o e at h w =
     let a = action.Now x.place c.as_slice-in-Now.result.now x.sets in
     let split = c.requires.whole ∙ ap (λ b. op.Do b ∷ rest) (x.is ∙ ap (λ ts. action.Now x.place ts x.sets) (sym c.as_slice-in-Now.ensures)) in
     let built : OpsBuilt (op.Do a ∷ rest) = subst OpsBuilt split at.1 in
-    silent_with c.args.tables.now code game is_of l m c.args.memory.now c.change.new.self c.change.result c.args.ops.now (op.Do a) rest split at h c.args.spacer.now (g.K.Sink.view c.args.sink.now) c.change.new.outside
+    silent_with c.args.tables.now code game is_of l m c.args.memory.now c.change.new.self c.change.result c.args.ops.now (op.Do a) rest split at h c.args.spacer.now (g.K.Sink.view c.args.sink.now) c.change.new.lasting
     (quiet_change (setting game code l) m x.place c.as_slice-in-Now.result.now x.sets rest) (c.change.ensures.does code game is_of l (record m { ops = rest }) built.0 (refl, built.1) h w)
 
 pub returns-in-Print-clause-ok : goal.returns-in-Print-clause-ok
-returns-in-Print-clause-ok g c = c.print_term.ensures.ok c.args.outside.now
+returns-in-Print-clause-ok g c = c.print_term.ensures.ok c.args.lasting.now

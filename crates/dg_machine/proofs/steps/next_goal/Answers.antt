@@ -23,7 +23,7 @@ read_line-requires-clause-built g c =
     (subst OpsBuilt (split_list all c.op-item.result c.in-len1-up.len_at_least c.op-item.is) c.requires.ops_built).1
 
 pub returns-in-Some-clause-ok : goal.returns-in-Some-clause-ok
-returns-in-Some-clause-ok g c = c.read_line.ensures.ok c.args.code.now c.args.outside.now
+returns-in-Some-clause-ok g c = c.read_line.ensures.ok c.args.code.now c.args.lasting.now
 
 pub returns-in-Some-clause-err : goal.returns-in-Some-clause-err
 returns-in-Some-clause-err g c = c.read_line.ensures.err c.args.code.now
@@ -32,7 +32,7 @@ pub returns-in-Some-clause-roomy : goal.returns-in-Some-clause-roomy
 returns-in-Some-clause-roomy g c = err_at (λ code. (l : Limits) (m : Mid) → Holds code l c.args.memory.now m → Roomy l c.read_line.new.memory) c.args.code.now c.read_line.result c.read_line.ensures.roomy
 
 pub returns-in-Some-clause-once : goal.returns-in-Some-clause-once
-returns-in-Some-clause-once g c = keeps_sites c.args.outside.now c.args.outside.now refl
+returns-in-Some-clause-once g c = keeps_sites c.args.lasting.now c.args.lasting.now refl
 
 pub goal_step-requires-clause-unread : goal.goal_step-requires-clause-unread
 goal_step-requires-clause-unread g c =
@@ -42,7 +42,7 @@ goal_step-requires-clause-unread g c =
 pub returns-in-Ok-clause-ok : goal.returns-in-Ok-clause-ok
 returns-in-Ok-clause-ok g c =
     let all = c.args.ops.now in
-    goes_unread c.args.tables.now c.args.code.now c.args.memory.now c.args.outside.now c.args.ops.now c.goal_step.new.memory c.goal_step.new.outside c.in-Ok.now c.args.spacer.now c.goal_step.new.spacer (g.K.Sink.view c.args.sink.now) (g.K.Sink.view c.goal_step.new.sink) (g.S.Source.view c.args.source.now)
+    goes_unread c.args.tables.now c.args.code.now c.args.memory.now c.args.lasting.now c.args.ops.now c.goal_step.new.memory c.goal_step.new.lasting c.in-Ok.now c.args.spacer.now c.goal_step.new.spacer (g.K.Sink.view c.args.sink.now) (g.K.Sink.view c.goal_step.new.sink) (g.S.Source.view c.args.source.now)
     (none_first all c.op-item.result (take (length all - 1) (drop 1 all)) (split_list all c.op-item.result c.in-len1-up.len_at_least c.op-item.is) c.in-None.ensures) c.in-Ok.ensures.ok
 
 pub returns-in-Err-clause-err : goal.returns-in-Err-clause-err

@@ -12,8 +12,8 @@ goals-init c =
     let code = c.args.code.now in
     record {
       takes = λ s k i. (
-        takes_none tb code c.args.memory.now c.args.outside.now c.args.start s k i (c.args.steps - c.args.steps) c.args.memory.now c.args.outside.now c.args.start (λ n. omega arith)
-            (λ g is_of l typed steps h w. settled_nowhere code g l typed c.args.memory.now c.args.outside.now c.args.start steps h w),
+        takes_none tb code c.args.memory.now c.args.lasting.now c.args.start s k i (c.args.steps - c.args.steps) c.args.memory.now c.args.lasting.now c.args.start (λ n. omega arith)
+            (λ g is_of l typed steps h w. settled_nowhere code g l typed c.args.memory.now c.args.lasting.now c.args.start steps h w),
         λ at. at,
       );
       some = c.requires.some;
@@ -27,8 +27,8 @@ goals-init c =
 pub quiet_turn-now-requires-clause-some : goal.quiet_turn-now-requires-clause-some
 quiet_turn-now-requires-clause-some c =
     let found = c.goals.invariant.some in
-    let before = subst (λ x. IsSomewhereAt c.args.tables.now c.args.code.now c.goals.memory c.goals.outside x found.2) c.in-Runs.is (found.3 (λ end. subst IsEnd c.in-Runs.is end)) in
-    somewhere_first c.args.tables.now c.args.code.now c.goals.memory c.goals.outside (Runs c.in-Runs.ops) found.2 before
+    let before = subst (λ x. IsSomewhereAt c.args.tables.now c.args.code.now c.goals.memory c.goals.lasting x found.2) c.in-Runs.is (found.3 (λ end. subst IsEnd c.in-Runs.is end)) in
+    somewhere_first c.args.tables.now c.args.code.now c.goals.memory c.goals.lasting (Runs c.in-Runs.ops) found.2 before
 
 pub returns-then-left-eq0-clause-takes : goal.returns-then-left-eq0-clause-takes
 returns-then-left-eq0-clause-takes c s k i =
@@ -37,8 +37,8 @@ returns-then-left-eq0-clause-takes c s k i =
     let more = c.goals.invariant.more in
     let within = c.goals.invariant.within in
     let done = c.quiet_turn-now.ensures.takes s k i in (
-      takes_on tb code c.args.memory.now c.args.outside.now c.args.start s k i (c.args.steps - c.goals.left) 1 (c.args.steps - (c.goals.left - 1)) c.goals.memory c.quiet_turn-now.new.memory c.goals.outside c.quiet_turn-now.new.outside c.goals.now c.quiet_turn-now.result c.in-Runs.ops s s k k i i c.in-Runs.is (λ x. omega (arith, more, within)) (c.goals.invariant.takes s k i).0 done.0,
-      λ at. done.1 (subst (λ x. IsSomewhereAt tb code c.goals.memory c.goals.outside x i) c.in-Runs.is ((c.goals.invariant.takes s k i).1 at (λ end. subst IsEnd c.in-Runs.is end))),
+      takes_on tb code c.args.memory.now c.args.lasting.now c.args.start s k i (c.args.steps - c.goals.left) 1 (c.args.steps - (c.goals.left - 1)) c.goals.memory c.quiet_turn-now.new.memory c.goals.lasting c.quiet_turn-now.new.lasting c.goals.now c.quiet_turn-now.result c.in-Runs.ops s s k k i i c.in-Runs.is (λ x. omega (arith, more, within)) (c.goals.invariant.takes s k i).0 done.0,
+      λ at. done.1 (subst (λ x. IsSomewhereAt tb code c.goals.memory c.goals.lasting x i) c.in-Runs.is ((c.goals.invariant.takes s k i).1 at (λ end. subst IsEnd c.in-Runs.is end))),
     )
 
 pub goals-preserved : goal.goals-preserved
@@ -51,10 +51,10 @@ goals-preserved c =
     let found = c.goals.invariant.some in
     record {
       takes = λ s k i. (
-        takes_on tb code c.args.memory.now c.args.outside.now c.args.start s k i (c.args.steps - c.goals.left) 1 (c.args.steps - (c.goals.left - 1)) c.goals.memory c.quiet_turn-now.new.memory c.goals.outside c.quiet_turn-now.new.outside c.goals.now c.quiet_turn-now.result c.in-Runs.ops s s k k i i c.in-Runs.is (λ x. omega (arith, more, within)) (c.goals.invariant.takes s k i).0 (c.quiet_turn-now.ensures.takes s k i).0,
-        λ at. (c.quiet_turn-now.ensures.takes s k i).1 (subst (λ x. IsSomewhereAt tb code c.goals.memory c.goals.outside x i) c.in-Runs.is ((c.goals.invariant.takes s k i).1 at (λ end. subst IsEnd c.in-Runs.is end))),
+        takes_on tb code c.args.memory.now c.args.lasting.now c.args.start s k i (c.args.steps - c.goals.left) 1 (c.args.steps - (c.goals.left - 1)) c.goals.memory c.quiet_turn-now.new.memory c.goals.lasting c.quiet_turn-now.new.lasting c.goals.now c.quiet_turn-now.result c.in-Runs.ops s s k k i i c.in-Runs.is (λ x. omega (arith, more, within)) (c.goals.invariant.takes s k i).0 (c.quiet_turn-now.ensures.takes s k i).0,
+        λ at. (c.quiet_turn-now.ensures.takes s k i).1 (subst (λ x. IsSomewhereAt tb code c.goals.memory c.goals.lasting x i) c.in-Runs.is ((c.goals.invariant.takes s k i).1 at (λ end. subst IsEnd c.in-Runs.is end))),
       );
-      some = (found.0, found.1, found.2, (c.quiet_turn-now.ensures.takes found.0 found.1 found.2).1 (subst (λ x. IsSomewhereAt tb code c.goals.memory c.goals.outside x found.2) c.in-Runs.is (found.3 (λ end. subst IsEnd c.in-Runs.is end))));
+      some = (found.0, found.1, found.2, (c.quiet_turn-now.ensures.takes found.0 found.1 found.2).1 (subst (λ x. IsSomewhereAt tb code c.goals.memory c.goals.lasting x found.2) c.in-Runs.is (found.3 (λ end. subst IsEnd c.in-Runs.is end))));
       sites = c.quiet_turn-now.ensures.sites ∙ c.goals.invariant.sites;
       rests = c.quiet_turn-now.ensures.rests;
       quick = c.if-not-goes_quietly.ensures refl;

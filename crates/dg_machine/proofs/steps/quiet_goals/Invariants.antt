@@ -8,10 +8,10 @@ use Rattle.dg_machine.proofs.steps.quiet_goals.Given as goal
 abbrev pub invariant-goals : goal.invariant-goals
 invariant-goals l = record {
   takes : (s : Spacer) (k : SinkView) (i : SourceView) →
-      Takes l.tables l.code (l.steps - l.left) l.fn.memory l.fn.outside l.initial.now s k i l.memory l.outside l.now s k i ×
-      (IsSomewhereStill l.tables l.code l.fn.memory l.fn.outside l.initial.now i → IsSomewhereStill l.tables l.code l.memory l.outside l.now i);
-  some : (s : Spacer) × (k : SinkView) × (i : SourceView) × IsSomewhereStill l.tables l.code l.memory l.outside l.now i;
-  sites : l.outside.sites ≡ l.fn.outside.sites;
+      Takes l.tables l.code (l.steps - l.left) l.fn.memory l.fn.lasting l.initial.now s k i l.memory l.lasting l.now s k i ×
+      (IsSomewhereStill l.tables l.code l.fn.memory l.fn.lasting l.initial.now i → IsSomewhereStill l.tables l.code l.memory l.lasting l.now i);
+  some : (s : Spacer) × (k : SinkView) × (i : SourceView) × IsSomewhereStill l.tables l.code l.memory l.lasting l.now i;
+  sites : l.lasting.sites ≡ l.fn.lasting.sites;
   rests : rests l.now ≡ true;
   quick : IsQuick l.now;
   more : 0 < l.left;

@@ -31,13 +31,13 @@ pub settle-requires-clause-some : goal.settle-requires-clause-some
 settle-requires-clause-some c =
     let all = c.args.ops.now in
     let split = split_list all c.op-item.result c.in-len1-up.len_at_least c.op-item.is in
-    quiet_somewhere c.args.tables.now c.args.code.now c.args.memory.now c.do_quiet-now.new.memory c.args.outside.now c.args.ops c.op-item.result (take (length all - 1) (drop 1 all)) c.do_quiet-now.result split (subst BeginsQuietly split c.requires.quiet) c.do_quiet-now.ensures c.requires.some
+    quiet_somewhere c.args.tables.now c.args.code.now c.args.memory.now c.do_quiet-now.new.memory c.args.lasting.now c.args.ops c.op-item.result (take (length all - 1) (drop 1 all)) c.do_quiet-now.result split (subst BeginsQuietly split c.requires.quiet) c.do_quiet-now.ensures c.requires.some
 
 pub returns-in-len1-up-clause-takes : goal.returns-in-len1-up-clause-takes
 returns-in-len1-up-clause-takes c s k i =
     let all = c.args.ops.now in
     let split = split_list all c.op-item.result c.in-len1-up.len_at_least c.op-item.is in
-    let does = quiet_reads c.args.tables.now c.args.code.now c.args.memory.now c.do_quiet-now.new.memory c.args.outside.now all c.op-item.result (take (length all - 1) (drop 1 all)) c.do_quiet-now.result s k i split (subst BeginsQuietly split c.requires.quiet) c.do_quiet-now.ensures in (
-      turn_takes c.args.tables.now c.args.code.now c.args.memory.now c.do_quiet-now.new.memory c.settle.new.memory c.args.outside.now c.args.outside.now c.settle.new.outside c.args.ops c.do_quiet-now.result c.settle.result s s k k i i c.requires.goal does c.settle.ensures.comes c.settle.ensures.stays,
-      turn_still c.args.tables.now c.args.code.now c.args.memory.now c.do_quiet-now.new.memory c.settle.new.memory c.args.outside.now c.args.outside.now c.settle.new.outside c.args.ops c.do_quiet-now.result c.settle.result s s k k i i c.requires.goal does c.settle.ensures.comes c.settle.ensures.stays,
+    let does = quiet_reads c.args.tables.now c.args.code.now c.args.memory.now c.do_quiet-now.new.memory c.args.lasting.now all c.op-item.result (take (length all - 1) (drop 1 all)) c.do_quiet-now.result s k i split (subst BeginsQuietly split c.requires.quiet) c.do_quiet-now.ensures in (
+      turn_takes c.args.tables.now c.args.code.now c.args.memory.now c.do_quiet-now.new.memory c.settle.new.memory c.args.lasting.now c.args.lasting.now c.settle.new.lasting c.args.ops c.do_quiet-now.result c.settle.result s s k k i i c.requires.goal does c.settle.ensures.comes c.settle.ensures.stays,
+      turn_still c.args.tables.now c.args.code.now c.args.memory.now c.do_quiet-now.new.memory c.settle.new.memory c.args.lasting.now c.args.lasting.now c.settle.new.lasting c.args.ops c.do_quiet-now.result c.settle.result s s k k i i c.requires.goal does c.settle.ensures.comes c.settle.ensures.stays,
     )

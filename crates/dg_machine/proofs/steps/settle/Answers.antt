@@ -7,14 +7,14 @@ use Rattle.dg_machine.proofs.Failing.{settled_then, failing_left}
 use Rattle.dg_machine.proofs.steps.settle.Goals as goal
 
 pub settle_first-first-requires-clause-some : goal.settle_first-first-requires-clause-some
-settle_first-first-requires-clause-some c = (c.args.outside.now, c.requires.some)
+settle_first-first-requires-clause-some c = (c.args.lasting.now, c.requires.some)
 
 pub marks-init : goal.marks-init
 marks-init c =
-    let comes = c.settle_first-first.ensures.comes c.args.outside.now in
+    let comes = c.settle_first-first.ensures.comes c.args.lasting.now in
     record {
       settles = comes;
-      somewhere = somewhere_settled c.args.tables.now c.args.code.now c.args.memory.now c.settle_first-first.new.memory c.args.outside.now c.args.outside.now c.args.start c.settle_first-first.result comes c.requires.some;
+      somewhere = somewhere_settled c.args.tables.now c.args.code.now c.args.memory.now c.settle_first-first.new.memory c.args.lasting.now c.args.lasting.now c.args.start c.settle_first-first.result comes c.requires.some;
       sites = refl;
       stays = c.settle_first-first.ensures.stays;
     }
@@ -23,8 +23,8 @@ pub marks-preserved : goal.marks-preserved
 marks-preserved c =
     let e : rests c.marks.now ≡ false = search rules in
     record {
-      settles = λ g is_of l typed steps h w. settled_on c.args.code.now g l typed c.requires.built c.args.tables.now is_of c.marks.memory c.mark_apart-now.new.memory c.marks.outside c.mark_apart-now.new.outside c.marks.now c.mark_apart-now.result steps e c.mark_apart-now.ensures.done (c.marks.invariant.settles g is_of l typed steps h w);
-      somewhere = somewhere_marked c.args.tables.now c.args.code.now c.requires.built c.marks.memory c.mark_apart-now.new.memory c.marks.outside c.mark_apart-now.new.outside c.marks.now c.mark_apart-now.result e c.mark_apart-now.ensures.done c.marks.invariant.somewhere;
+      settles = λ g is_of l typed steps h w. settled_on c.args.code.now g l typed c.requires.built c.args.tables.now is_of c.marks.memory c.mark_apart-now.new.memory c.marks.lasting c.mark_apart-now.new.lasting c.marks.now c.mark_apart-now.result steps e c.mark_apart-now.ensures.done (c.marks.invariant.settles g is_of l typed steps h w);
+      somewhere = somewhere_marked c.args.tables.now c.args.code.now c.requires.built c.marks.memory c.mark_apart-now.new.memory c.marks.lasting c.mark_apart-now.new.lasting c.marks.now c.mark_apart-now.result e c.mark_apart-now.ensures.done c.marks.invariant.somewhere;
       sites = c.mark_apart-now.ensures.sites ∙ c.marks.invariant.sites;
       stays = λ end. absurd (let x = end_rests c.marks.now (c.marks.invariant.stays end) in cc (e, x));
     }
@@ -34,14 +34,14 @@ marks-smaller c =
     let e : rests c.marks.now ≡ false = search rules in
     let with_it = c.marks.invariant.somewhere in
     let s = with_it.somewhere in
-    mark_falls c.args.code.now s.game s.limits s.typed c.requires.built c.args.tables.now s.tabled c.marks.memory c.mark_apart-now.new.memory c.marks.outside c.mark_apart-now.new.outside c.marks.now c.mark_apart-now.result s.steps e c.mark_apart-now.ensures.done s.stands with_it.outside
+    mark_falls c.args.code.now s.game s.limits s.typed c.requires.built c.args.tables.now s.tabled c.marks.memory c.mark_apart-now.new.memory c.marks.lasting c.mark_apart-now.new.lasting c.marks.now c.mark_apart-now.result s.steps e c.mark_apart-now.ensures.done s.stands with_it.lasting
 
 pub marks-preserved-then-is_quick : goal.marks-preserved-then-is_quick
 marks-preserved-then-is_quick c =
     let e : rests c.marks.now ≡ false = search rules in
     record {
-      settles = λ g is_of l typed steps h w. settled_on c.args.code.now g l typed c.requires.built c.args.tables.now is_of c.marks.memory c.quick_mark-now.new.memory c.marks.outside c.marks.outside c.marks.now c.quick_mark-now.result steps e (c.quick_mark-now.ensures c.marks.outside) (c.marks.invariant.settles g is_of l typed steps h w);
-      somewhere = somewhere_marked c.args.tables.now c.args.code.now c.requires.built c.marks.memory c.quick_mark-now.new.memory c.marks.outside c.marks.outside c.marks.now c.quick_mark-now.result e (c.quick_mark-now.ensures c.marks.outside) c.marks.invariant.somewhere;
+      settles = λ g is_of l typed steps h w. settled_on c.args.code.now g l typed c.requires.built c.args.tables.now is_of c.marks.memory c.quick_mark-now.new.memory c.marks.lasting c.marks.lasting c.marks.now c.quick_mark-now.result steps e (c.quick_mark-now.ensures c.marks.lasting) (c.marks.invariant.settles g is_of l typed steps h w);
+      somewhere = somewhere_marked c.args.tables.now c.args.code.now c.requires.built c.marks.memory c.quick_mark-now.new.memory c.marks.lasting c.marks.lasting c.marks.now c.quick_mark-now.result e (c.quick_mark-now.ensures c.marks.lasting) c.marks.invariant.somewhere;
       sites = c.marks.invariant.sites;
       stays = λ end. absurd (let x = end_rests c.marks.now (c.marks.invariant.stays end) in cc (e, x));
     }
@@ -51,7 +51,7 @@ marks-smaller-then-is_quick c =
     let e : rests c.marks.now ≡ false = search rules in
     let with_it = c.marks.invariant.somewhere in
     let s = with_it.somewhere in
-    mark_falls c.args.code.now s.game s.limits s.typed c.requires.built c.args.tables.now s.tabled c.marks.memory c.quick_mark-now.new.memory c.marks.outside c.marks.outside c.marks.now c.quick_mark-now.result s.steps e (c.quick_mark-now.ensures c.marks.outside) s.stands with_it.outside
+    mark_falls c.args.code.now s.game s.limits s.typed c.requires.built c.args.tables.now s.tabled c.marks.memory c.quick_mark-now.new.memory c.marks.lasting c.marks.lasting c.marks.now c.quick_mark-now.result s.steps e (c.quick_mark-now.ensures c.marks.lasting) s.stands with_it.lasting
 
 pub fail_apart-now-requires-clause-some : goal.fail_apart-now-requires-clause-some
 fail_apart-now-requires-clause-some c = (c.args.tables.now, c.marks.now, c.if-fails.ensures.fails refl, c.marks.invariant.somewhere)
@@ -63,8 +63,8 @@ marks-preserved-then-fails c =
     let code = c.args.code.now in
     let comes = c.fail_apart-now.ensures.comes tb c.marks.now (c.if-fails.ensures.fails refl) in
     record {
-      settles = settled_then tb code c.args.memory.now c.marks.memory c.fail_apart-now.new.memory c.args.outside.now c.marks.outside c.fail_apart-now.new.outside c.args.start c.marks.now c.fail_apart-now.result c.marks.invariant.settles comes;
-      somewhere = somewhere_settled tb code c.marks.memory c.fail_apart-now.new.memory c.marks.outside c.fail_apart-now.new.outside c.marks.now c.fail_apart-now.result comes c.marks.invariant.somewhere;
+      settles = settled_then tb code c.args.memory.now c.marks.memory c.fail_apart-now.new.memory c.args.lasting.now c.marks.lasting c.fail_apart-now.new.lasting c.args.start c.marks.now c.fail_apart-now.result c.marks.invariant.settles comes;
+      somewhere = somewhere_settled tb code c.marks.memory c.fail_apart-now.new.memory c.marks.lasting c.fail_apart-now.new.lasting c.marks.now c.fail_apart-now.result comes c.marks.invariant.somewhere;
       sites = c.fail_apart-now.ensures.sites ∙ c.marks.invariant.sites;
       stays = λ end. absurd (let x = end_rests c.marks.now (c.marks.invariant.stays end) in cc (e, x));
     }

@@ -6,9 +6,9 @@ use Rattle.dg_machine.proofs.steps.settle.Given as goal
 
 abbrev pub invariant-marks : goal.invariant-marks
 invariant-marks l = record {
-  settles : Settles l.tables l.code l.fn.memory l.fn.outside l.start l.memory l.outside l.now;
-  somewhere : IsSomewhereWith l.tables l.code l.memory l.outside l.now;
-  sites : l.outside.sites ≡ l.fn.outside.sites;
+  settles : Settles l.tables l.code l.fn.memory l.fn.lasting l.start l.memory l.lasting l.now;
+  somewhere : IsSomewhereWith l.tables l.code l.memory l.lasting l.now;
+  sites : l.lasting.sites ≡ l.fn.lasting.sites;
   stays : IsEnd l.start → IsEnd l.now;
 }
 

@@ -2,8 +2,8 @@ use Rattle.std.proofs.Common.{rules, ◌≡◌, ◌≤◌, ◌++◌, ℕ, List, 
 use Rattle.z_model.specs.Run.{line_read}
 use Rattle.z_model.specs.Typed.{typed_line}
 use Rattle.z_play.specs.View.{layout_in, machine}
-use Rattle.dg_lines.specs.Lines.{TookLine, TakesLine}
-use Rattle.dg_lines.proofs.LineLemmas.{line_told, line_untold}
+use Rattle.dg_base.specs.Lines.{TookLine, TakesLine}
+use Rattle.dg_base.proofs.LineLemmas.{line_told, line_untold}
 use Rattle.z_play.specs.inside.Scene.{given_by}
 use Rattle.z_play.proofs.Codes.{line_kept}
 use Rattle.z_play.proofs.Reading.{ended, line_kept_is, stops_behind}

@@ -3,7 +3,7 @@ use Rattle.dg_interp.specs.inside.Engine.{store_in, FailsAt}
 use Rattle.dg_interp.specs.inside.Querying.{QueriesAt}
 use Rattle.dg_interp.proofs.Branches.{full_made, back_made}
 use Rattle.dg_interp.proofs.Places.{limits_here}
-use Rattle.dg_interp.proofs.Queries.{asks_nothing, built, body_full, entering_limits, entering_sound, enters_not, begins_body}
+use Rattle.dg_interp.proofs.Queries.{asks_nothing, runnable, body_full, entering_limits, entering_sound, enters_not, begins_body}
 use Rattle.dg_interp.proofs.engine.Engine.ask_value.Goals as goal
 
 pub returns-in_default-clause-asked : goal.returns-in_default-clause-asked
@@ -19,7 +19,7 @@ returns-in_default-clause-full c =
 pub enter_body-requires-clause-own : goal.enter_body-requires-clause-own
 enter_body-requires-clause-own c =
     let old = c.args.self.now in
-    (built c.args.value c.args.many old c.requires.ready c.in-Some.closure c.in-Some.body.now c.in-Some.ensures old.store.sound.fits.sound).parameter
+    (runnable c.args.value c.args.many old c.requires.ready c.in-Some.closure c.in-Some.body.now c.in-Some.ensures old.store.sound.fits.sound).parameter
 
 pub overflow_sub-self : goal.overflow_sub-self
 overflow_sub-self c =

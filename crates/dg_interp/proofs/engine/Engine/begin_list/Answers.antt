@@ -1,6 +1,6 @@
 use Rattle.std.proofs.Common.{arith, length, take, drop, ◌-◌, ◌≡◌, ◌≤◌, rules, sym, subst}
 use Rattle.std.specs.List.{All}
-use Rattle.dg_built.specs.Built.{AreBuilt}
+use Rattle.dg_interp.specs.Runnable.{AreRunnable}
 use Rattle.dg_interp.specs.declared.frames.Left.TheVariants.{Lists}
 use Rattle.dg_interp.proofs.Turns.{all_first, all_rest, first_and_rest}
 use Rattle.dg_interp.proofs.Branches.{on_ok, on_err}
@@ -12,13 +12,13 @@ begin_frame-requires-clause-frame c =
     let all = c.args.lists.now in
     let split = first_and_rest all c.list-item.result (length all - 1) c.requires.some c.list-item.is (omega arith) in
     let within : c.len.result ≤ length c.args.self.now.frames.items = search rules in
-    record { built = subst AreBuilt (sym c.as_slice.ensures) (all_first AreBuilt c.list-item.result (take (length all - 1) (drop 1 all)) (subst (All AreBuilt) split c.requires.left.0)); older = within; env = c.requires.left.1 }
+    record { runnable = subst AreRunnable (sym c.as_slice.ensures) (all_first AreRunnable c.list-item.result (take (length all - 1) (drop 1 all)) (subst (All AreRunnable) split c.requires.left.0)); older = within; env = c.requires.left.1 }
 
 pub begin_frame-requires-clause-others : goal.begin_frame-requires-clause-others
 begin_frame-requires-clause-others c =
     let all = c.args.lists.now in
     let split = first_and_rest all c.list-item.result (length all - 1) c.requires.some c.list-item.is (omega arith) in
-    (all_rest AreBuilt c.list-item.result (take (length all - 1) (drop 1 all)) (subst (All AreBuilt) split c.requires.left.0), c.requires.left.1)
+    (all_rest AreRunnable c.list-item.result (take (length all - 1) (drop 1 all)) (subst (All AreRunnable) split c.requires.left.0), c.requires.left.1)
 
 pub returns-clause-begun : goal.returns-clause-begun
 returns-clause-begun c =

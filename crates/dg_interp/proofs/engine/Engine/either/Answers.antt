@@ -18,7 +18,7 @@ returns-then-is_empty-clause-done c =
 
 pub open-requires-clause-left : goal.open-requires-clause-left
 open-requires-clause-left c =
-    (c.requires.built, c.in_ok-push.ensures.pushed.ready.here.env)
+    (c.requires.runnable, c.in_ok-push.ensures.pushed.ready.here.env)
 
 pub open-requires-clause-room : goal.open-requires-clause-room
 open-requires-clause-room c = pushed_room c.args.self.now.here c.args.self.now c.push.new.self c.in_ok-push.ensures.pushed c.requires.room

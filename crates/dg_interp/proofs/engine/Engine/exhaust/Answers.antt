@@ -8,7 +8,7 @@ use Rattle.dg_interp.proofs.engine.Engine.exhaust.Goals as goal
 pub open-requires-clause-left : goal.open-requires-clause-left
 open-requires-clause-left c =
     let here = c.requires.ready.here in
-    (record { built = c.requires.built; older = omega arith; env = here.env }, here)
+    (record { runnable = c.requires.runnable; older = omega arith; env = here.env }, here)
 
 pub returns-clause-full : goal.returns-clause-full
 returns-clause-full c =

@@ -26,7 +26,7 @@ returns-clause-done c =
     let b = pushed_means old.here old e c.requires.ready c.requires.ready.here p in
     let k = c.in_default.ensures in
     let first = record e.here { goals = c.args.goals; mark = CutTo (e.newest + 1); behind = length e.frames.items } in
-    let is : IsFrame (length e.frames.items) (length e.refs.items) first = record { built = c.requires.built; older = omega arith; env = p.ready.here.env } in
+    let is : IsFrame (length e.frames.items) (length e.refs.items) first = record { runnable = c.requires.runnable; older = omega arith; env = p.ready.here.env } in
     let new = record e { store = c.charge.new.self; newest = e.newest + 1; here = first } in
     let at : c.len.result ≡ length e.frames.items = search rules in
     rw at

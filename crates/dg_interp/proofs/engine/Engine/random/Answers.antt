@@ -29,7 +29,7 @@ give_number-requires-clause-hold c = (c.in-Ok.ensures.written c.args.self.now.pr
 pub returns-in-Ok-clause-full : goal.returns-in-Ok-clause-full
 returns-in-Ok-clause-full c =
     let old = c.args.self.now in
-    let e = record old { outside = record old.outside { dice = c.throw-n.new.dice }; store = c.write_three.new.store; made = c.write_three.new.stack } in
+    let e = record old { lasting = record old.lasting { dice = c.throw-n.new.dice }; store = c.write_three.new.store; made = c.write_three.new.stack } in
     let x = Random c.args.from.now c.args.to.now c.args.into.now in
     full_made (TakesAt x old) (GivesAt c.throw-n.result c.in-Ok.into e) (store_in old.store) (store_in c.write_three.new.store) c.give_number.result c.write_three.ensures.kept.heap_limit c.write_three.ensures.kept.trail_limit
     (random_leads c.args.from.now c.args.to.now c.args.into.now old c.write_three.new.store c.write_three.new.stack c.throw-n.new.dice c.in-Ok.first c.in-Ok.second c.in-Ok.into c.requires.ready c.write_three.ensures.kept c.write_three.ensures.saved
@@ -38,7 +38,7 @@ returns-in-Ok-clause-full c =
 pub returns-in-Ok-clause-done : goal.returns-in-Ok-clause-done
 returns-in-Ok-clause-done c =
     let old = c.args.self.now in
-    let e = record old { outside = record old.outside { dice = c.throw-n.new.dice }; store = c.write_three.new.store; made = c.write_three.new.stack } in
+    let e = record old { lasting = record old.lasting { dice = c.throw-n.new.dice }; store = c.write_three.new.store; made = c.write_three.new.stack } in
     let x = Random c.args.from.now c.args.to.now c.args.into.now in
     let written = λ (program : CoreProgram) (e : old.program.now ≡ program). three_among program c.args.from.now c.args.to.now c.args.into.now (store_in old.store) (store_in c.write_three.new.store) (c.in-Ok.first, c.in-Ok.second, c.in-Ok.into) old.refs.items c.stretch-env.result.now old.here.env (c.stretch-env.ensures ∙ ap (λ l. stretch l old.here.env) c.deref.ensures.value) (c.in-Ok.ensures.written program e) in
     branches_made (TakesAt x old) (GivesAt c.throw-n.result c.in-Ok.into e) old e c.give_number.new.self refl

@@ -16,7 +16,7 @@ returns-in-None-clause-retried c = none_popped c.args.self.now c.pop.new.self (o
 pub returns-in-Ok-clause-retried : goal.returns-in-Ok-clause-retried
 returns-in-Ok-clause-retried c =
     let o = c.in-Some.choice in
-    let mid = record c.args.self.now { frames = c.truncate.new.self; refs = c.truncate-in-Some.new.self; outside = c.close_to.new.self; store = c.undo.new.self; choices = c.pop.new.self; newest = o.tag; stoppable = o.stoppable } in
+    let mid = record c.args.self.now { frames = c.truncate.new.self; refs = c.truncate-in-Some.new.self; lasting = c.close_to.new.self; store = c.undo.new.self; choices = c.pop.new.self; newest = o.tag; stoppable = o.stoppable } in
     retried_from (FailsAt c.args.self.now) (BeginsAt o.left o.place mid) c.args.self.now mid c.begin.new.self (left_in o.left) refl
     (popped_limits c.args.self.now o c.pop.new.self c.requires.sound c.in-Some.ensures.items c.truncate.new.self c.truncate-in-Some.new.self c.close_to.new.self c.undo.new.self c.truncate.ensures.items c.truncate-in-Some.ensures.items c.close_to.ensures c.undo.ensures.back c.undo.ensures.saved)
     (begins_popped c.args.self.now o c.pop.new.self c.requires.sound c.in-Some.ensures.items c.truncate.new.self c.truncate-in-Some.new.self c.close_to.new.self c.undo.new.self c.truncate.ensures.items c.truncate-in-Some.ensures.items c.close_to.ensures c.undo.ensures.back c.undo.ensures.saved c.in_default.ensures)
@@ -25,7 +25,7 @@ returns-in-Ok-clause-retried c =
 pub returns-in-Err-clause-full : goal.returns-in-Err-clause-full
 returns-in-Err-clause-full c =
     let o = c.in-Some.choice in
-    let mid = record c.args.self.now { frames = c.truncate.new.self; refs = c.truncate-in-Some.new.self; outside = c.close_to.new.self; store = c.undo.new.self; choices = c.pop.new.self; newest = o.tag; stoppable = o.stoppable } in
+    let mid = record c.args.self.now { frames = c.truncate.new.self; refs = c.truncate-in-Some.new.self; lasting = c.close_to.new.self; store = c.undo.new.self; choices = c.pop.new.self; newest = o.tag; stoppable = o.stoppable } in
     let limits = popped_limits c.args.self.now o c.pop.new.self c.requires.sound c.in-Some.ensures.items c.truncate.new.self c.truncate-in-Some.new.self c.close_to.new.self c.undo.new.self c.truncate.ensures.items c.truncate-in-Some.ensures.items c.close_to.ensures c.undo.ensures.back c.undo.ensures.saved in
     full_from (FailsAt c.args.self.now) (BeginsAt o.left o.place mid) (store_in c.args.self.now.store) (store_in c.undo.new.self) c.in-Err.e limits.heap limits.trail
     (begins_popped c.args.self.now o c.pop.new.self c.requires.sound c.in-Some.ensures.items c.truncate.new.self c.truncate-in-Some.new.self c.close_to.new.self c.undo.new.self c.truncate.ensures.items c.truncate-in-Some.ensures.items c.close_to.ensures c.undo.ensures.back c.undo.ensures.saved c.in_default.ensures)

@@ -29,7 +29,7 @@ returns-clause-done c =
     let b = pushed_means old.here old e c.requires.ready c.requires.ready.here p in
     let k = c.in_default.ensures in
     let first = record e.here { goals = c.args.goals; mark = LeavePart (e.newest + 1) e.stoppable; behind = length e.frames.items } in
-    let is : IsFrame (length e.frames.items) (length e.refs.items) first = record { built = c.requires.built; older = omega arith; env = p.ready.here.env } in
+    let is : IsFrame (length e.frames.items) (length e.refs.items) first = record { runnable = c.requires.runnable; older = omega arith; env = p.ready.here.env } in
     let new = record e { store = c.charge.new.self; choices = c.push-2.new.self; newest = e.newest + 1; stoppable = Some (e.newest + 1); here = first } in
     let behind : c.len.result ≡ length e.frames.items = search rules in
     rw behind

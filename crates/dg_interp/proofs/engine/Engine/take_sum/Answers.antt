@@ -1,7 +1,7 @@
 use Rattle.std.proofs.Common.{◌-◌, subst, arith, refl, Some, None}
 use Rattle.dg_unify.proofs.StoreLemmas.{holds_some, kept_holds}
 use Rattle.dg_interp.specs.declared.frames.Whole.TheVariants.{Sum as InSum}
-use Rattle.dg_outside.specs.Outside.{Closes}
+use Rattle.dg_lasting.specs.Lasting.{Closes}
 use Rattle.dg_interp.specs.inside.Giving.{UnifiesAt, GivesAt}
 use Rattle.dg_interp.specs.inside.Gathering.{TakesOutAt}
 use Rattle.dg_interp.specs.inside.Engine.{store_in, FailsAt, Leads}
@@ -15,14 +15,14 @@ use Rattle.dg_interp.proofs.engine.Engine.take_sum.Goals as goal
 pub returns-in_default-clause-tried : goal.returns-in_default-clause-tried
 returns-in_default-clause-tried c = none_wrong InSum c.args.into c.args.self.now c.requires.ready c.in_default.ensures
 
-pub overflow_sub-outside : goal.overflow_sub-outside
-overflow_sub-outside c = let some = some_first c.args.self.now.outside.gathered.rows c.in-Some.cells.now c.in-Some.ensures in omega (arith, some, c.gatherings-outside.ensures)
+pub overflow_sub-lasting : goal.overflow_sub-lasting
+overflow_sub-lasting c = let some = some_first c.args.self.now.lasting.gathered.rows c.in-Some.cells.now c.in-Some.ensures in omega (arith, some, c.gatherings-lasting.ensures)
 
 pub returns-in-None-clause-tried : goal.returns-in-None-clause-tried
 returns-in-None-clause-tried c =
     let old = c.args.self.now in
-    let e = record old { outside = c.close_to.new.self } in
-    let closed = subst (λ n. Closes (n - 1) old.outside c.close_to.new.self) c.gatherings-outside.ensures c.close_to.ensures in
+    let e = record old { lasting = c.close_to.new.self } in
+    let closed = subst (λ n. Closes (n - 1) old.lasting c.close_to.new.self) c.gatherings-lasting.ensures c.close_to.ensures in
     let taken = sum_taken c.args.into old c.requires.ready c.in-Some.cells.now c.in-Some.ensures c.close_to.new.self closed c.sum-total.result c.sum-total.ensures in
     record {
       sound = (sum_ready c.args.into old c.requires.ready c.in-Some.cells.now c.in-Some.ensures c.close_to.new.self closed c.sum-total.result c.sum-total.ensures).sound;
@@ -34,8 +34,8 @@ returns-in-None-clause-tried c =
 pub meet-requires-clause-ready : goal.meet-requires-clause-ready
 meet-requires-clause-ready c =
     let old = c.args.self.now in
-    let e = record old { outside = c.close_to.new.self } in
-    let closed = subst (λ n. Closes (n - 1) old.outside c.close_to.new.self) c.gatherings-outside.ensures c.close_to.ensures in
+    let e = record old { lasting = c.close_to.new.self } in
+    let closed = subst (λ n. Closes (n - 1) old.lasting c.close_to.new.self) c.gatherings-lasting.ensures c.close_to.ensures in
     store_ready e c.number-made.new.store e.made c.number-made.ensures.kept c.number-made.ensures.saved (sum_ready c.args.into old c.requires.ready c.in-Some.cells.now c.in-Some.ensures c.close_to.new.self closed c.sum-total.result c.sum-total.ensures)
 
 pub meet-requires-clause-hold : goal.meet-requires-clause-hold
@@ -47,9 +47,9 @@ meet-requires-clause-hold c = (
 pub returns-in-Some-total-clause-tried : goal.returns-in-Some-total-clause-tried
 returns-in-Some-total-clause-tried c =
     let old = c.args.self.now in
-    let e = record old { outside = c.close_to.new.self } in
+    let e = record old { lasting = c.close_to.new.self } in
     let f = record e { store = c.number-made.new.store } in
-    let closed = subst (λ n. Closes (n - 1) old.outside c.close_to.new.self) c.gatherings-outside.ensures c.close_to.ensures in
+    let closed = subst (λ n. Closes (n - 1) old.lasting c.close_to.new.self) c.gatherings-lasting.ensures c.close_to.ensures in
     let ready = sum_ready c.args.into old c.requires.ready c.in-Some.cells.now c.in-Some.ensures c.close_to.new.self closed c.sum-total.result c.sum-total.ensures in
     let taken = sum_taken c.args.into old c.requires.ready c.in-Some.cells.now c.in-Some.ensures c.close_to.new.self closed c.sum-total.result c.sum-total.ensures in
     tries_made (TakesOutAt InSum c.args.into old) (UnifiesAt c.args.into c.number-made.result f) old f c.meet.new.self refl
@@ -60,9 +60,9 @@ returns-in-Some-total-clause-tried c =
 pub returns-in-Some-total-clause-full : goal.returns-in-Some-total-clause-full
 returns-in-Some-total-clause-full c =
     let old = c.args.self.now in
-    let e = record old { outside = c.close_to.new.self } in
+    let e = record old { lasting = c.close_to.new.self } in
     let f = record e { store = c.number-made.new.store } in
-    let closed = subst (λ n. Closes (n - 1) old.outside c.close_to.new.self) c.gatherings-outside.ensures c.close_to.ensures in
+    let closed = subst (λ n. Closes (n - 1) old.lasting c.close_to.new.self) c.gatherings-lasting.ensures c.close_to.ensures in
     let ready = sum_ready c.args.into old c.requires.ready c.in-Some.cells.now c.in-Some.ensures c.close_to.new.self closed c.sum-total.result c.sum-total.ensures in
     let taken = sum_taken c.args.into old c.requires.ready c.in-Some.cells.now c.in-Some.ensures c.close_to.new.self closed c.sum-total.result c.sum-total.ensures in
     full_made (TakesOutAt InSum c.args.into old) (UnifiesAt c.args.into c.number-made.result f) (store_in old.store) (store_in c.number-made.new.store) c.meet.result c.number-made.ensures.kept.heap_limit c.number-made.ensures.kept.trail_limit

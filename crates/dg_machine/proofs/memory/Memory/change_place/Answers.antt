@@ -6,7 +6,7 @@ use Rattle.dg_meaning.specs.Facts.{kinds_of}
 use Rattle.dg_meaning.specs.Moves.{change_place, change_looks}
 use Rattle.dg_meaning.specs.Substitutions.{resolved}
 use Rattle.dg_base.specs.declared.run.Ending.TheVariants.{KeepLimit}
-use Rattle.dg_outside.specs.Outside.{outline}
+use Rattle.dg_lasting.specs.Lasting.{outline}
 use Rattle.dg_unify.specs.Store.{Store, Kept, Holds as Holds_s}
 use Rattle.dg_unify.proofs.StoreLemmas.{kept_same}
 use Rattle.dg_arena.specs.Held.{meaning_of}
@@ -27,7 +27,7 @@ pub returns-in-Err-clause-changes : goal.returns-in-Err-clause-changes
 returns-in-Err-clause-changes c code g is_of l m vs at h refs w =
     let place = c.args.place in
     let kind = c.in-Some.kind in
-    let out = c.args.outside.now in
+    let out = c.args.lasting.now in
     let out2 = c.change.new.self in
     let s = meaning_of c.args.self.now.arena in
     let new = record c.args.self.now { arena = c.change.new.store } in
@@ -38,7 +38,7 @@ returns-in-Err-clause-changes c code g is_of l m vs at h refs w =
     let count : length c.as_slice-objects.result.now ≡ length g.program.objects = ap length (c.as_slice-objects.ensures.value ∙ is_of.objects) in
     let looks = change_looks kind (registers_of m) vs in
     let a = change_of (length g.program.objects) kind place c.args.sets (map (resolved m.state.subst) vs) in
-    let became = became_in g (length c.as_slice-objects.result.now) kind place c.args.sets s c.as_slice-args.result.now c.args.self.now.args.items vs m o m.outside.facts out.world out2.world (Err c.in-Err.field-0) (Err c.in-Err.field-0) count c.as_slice-args.ensures.value refs h.0.state_is refl (c.in-Err.ensures.became o m.outside.facts w.0.0.stands there (sym count) w.0.0.room) in
+    let became = became_in g (length c.as_slice-objects.result.now) kind place c.args.sets s c.as_slice-args.result.now c.args.self.now.args.items vs m o m.lasting.facts out.world out2.world (Err c.in-Err.field-0) (Err c.in-Err.field-0) count c.as_slice-args.ensures.value refs h.0.state_is refl (c.in-Err.ensures.became o m.lasting.facts w.0.0.stands there (sym count) w.0.0.room) in
     subst (λ k. StandsWith code g l new (Ended KeepLimit) out2 (done (setting g code l) (change_place g place k vs c.args.sets [] (registers_of m) (world_of [] m)) m)) (sym there)
     (change_full code g l m out out2 c.in-Err.ensures.others c.in-Err.ensures.row c.in-Err.ensures.limit w new kind looks a c.in-Err.field-0 (roomy code l m new held) became)
 
@@ -46,7 +46,7 @@ pub returns-in-Ok-true-clause-changes : goal.returns-in-Ok-true-clause-changes
 returns-in-Ok-true-clause-changes c code g is_of l m vs at h refs w =
     let place = c.args.place in
     let kind = c.in-Some.kind in
-    let out = c.args.outside.now in
+    let out = c.args.lasting.now in
     let out2 = c.change.new.self in
     let s = meaning_of c.args.self.now.arena in
     let new = record c.args.self.now { arena = c.change.new.store } in
@@ -57,7 +57,7 @@ returns-in-Ok-true-clause-changes c code g is_of l m vs at h refs w =
     let count : length c.as_slice-objects.result.now ≡ length g.program.objects = ap length (c.as_slice-objects.ensures.value ∙ is_of.objects) in
     let looks = change_looks kind (registers_of m) vs in
     let a = change_of (length g.program.objects) kind place c.args.sets (map (resolved m.state.subst) vs) in
-    let became = became_in g (length c.as_slice-objects.result.now) kind place c.args.sets s c.as_slice-args.result.now c.args.self.now.args.items vs m o m.outside.facts out.world out2.world (Ok c.in-Ok-true.field-0) (Ok true) count c.as_slice-args.ensures.value refs h.0.state_is (ap Ok c.in-Ok-true.field-0-test) (c.in-Ok-true.ensures.became o m.outside.facts w.0.0.stands there (sym count) w.0.0.room) in
+    let became = became_in g (length c.as_slice-objects.result.now) kind place c.args.sets s c.as_slice-args.result.now c.args.self.now.args.items vs m o m.lasting.facts out.world out2.world (Ok c.in-Ok-true.field-0) (Ok true) count c.as_slice-args.ensures.value refs h.0.state_is (ap Ok c.in-Ok-true.field-0-test) (c.in-Ok-true.ensures.became o m.lasting.facts w.0.0.stands there (sym count) w.0.0.room) in
     subst (λ k. StandsWith code g l new (Runs c.args.rest) out2 (done (setting g code l) (change_place g place k vs c.args.sets [] (registers_of m) (world_of [] m)) m)) (sym there)
     (change_on code g l m out out2 c.in-Ok-true.ensures.others c.in-Ok-true.ensures.row c.in-Ok-true.ensures.limit w new c.args.rest kind looks a at held became)
 
@@ -65,7 +65,7 @@ pub returns-in-Ok-false-clause-changes : goal.returns-in-Ok-false-clause-changes
 returns-in-Ok-false-clause-changes c code g is_of l m vs at h refs w =
     let place = c.args.place in
     let kind = c.in-Some.kind in
-    let out = c.args.outside.now in
+    let out = c.args.lasting.now in
     let out2 = c.change.new.self in
     let s = meaning_of c.args.self.now.arena in
     let new = record c.args.self.now { arena = c.change.new.store } in
@@ -76,6 +76,6 @@ returns-in-Ok-false-clause-changes c code g is_of l m vs at h refs w =
     let count : length c.as_slice-objects.result.now ≡ length g.program.objects = ap length (c.as_slice-objects.ensures.value ∙ is_of.objects) in
     let looks = change_looks kind (registers_of m) vs in
     let a = change_of (length g.program.objects) kind place c.args.sets (map (resolved m.state.subst) vs) in
-    let became = became_in g (length c.as_slice-objects.result.now) kind place c.args.sets s c.as_slice-args.result.now c.args.self.now.args.items vs m o m.outside.facts out.world out2.world (Ok c.in-Ok-false.field-0) (Ok false) count c.as_slice-args.ensures.value refs h.0.state_is (ap Ok c.in-Ok-false.field-0-test) (c.in-Ok-false.ensures.became o m.outside.facts w.0.0.stands there (sym count) w.0.0.room) in
+    let became = became_in g (length c.as_slice-objects.result.now) kind place c.args.sets s c.as_slice-args.result.now c.args.self.now.args.items vs m o m.lasting.facts out.world out2.world (Ok c.in-Ok-false.field-0) (Ok false) count c.as_slice-args.ensures.value refs h.0.state_is (ap Ok c.in-Ok-false.field-0-test) (c.in-Ok-false.ensures.became o m.lasting.facts w.0.0.stands there (sym count) w.0.0.room) in
     subst (λ k. StandsWith code g l new Fails out2 (done (setting g code l) (change_place g place k vs c.args.sets [] (registers_of m) (world_of [] m)) m)) (sym there)
     (change_not code g l m out out2 c.in-Ok-false.ensures.others c.in-Ok-false.ensures.row c.in-Ok-false.ensures.limit w new kind looks a held became)

@@ -1,7 +1,7 @@
 use Rattle.std.proofs.Common.{ap}
-use Rattle.dg_outside.specs.declared.outside.Outside.{Outside}
+use Rattle.dg_lasting.specs.declared.lasting.Lasting.{Lasting}
 use Rattle.dg_machine.proofs.Leaving.{failed_all, failed_to}
-use Rattle.dg_machine.proofs.Outsides.{closed_back, ended_back}
+use Rattle.dg_machine.proofs.Lasting.{closed_back, ended_back}
 use Rattle.dg_machine.proofs.memory.Memory.fail.Goals as goal
 
 pub returns-in-None-clause-fails : goal.returns-in-None-clause-fails
@@ -9,7 +9,7 @@ returns-in-None-clause-fails c code g l m h w =
     let back = c.in-None.ensures.back code l m h in
     record {
       done = failed_all code l m c.args.self.now c.back.new.self h m.choices back (c.in-None.ensures.roomy code l m h);
-      outside = ended_back code g l c.back.new.self c.args.outside.now m m.choices back;
+      lasting = ended_back code g l c.back.new.self c.args.lasting.now m m.choices back;
     }
 
 pub returns-in-Some-clause-fails : goal.returns-in-Some-clause-fails
@@ -18,8 +18,8 @@ returns-in-Some-clause-fails c code g l m h w =
     let back = c.in-Some.ensures.back code l m h in
     record {
       done = failed_to code l m way c.args.self.now c.back.new.self m.choices back c.in-Some.ensures.left;
-      outside = closed_back code g l way c.back.new.self c.args.outside.now c.close_to.new.self m m.choices back c.close_to.ensures w;
+      lasting = closed_back code g l way c.back.new.self c.args.lasting.now c.close_to.new.self m m.choices back c.close_to.ensures w;
     }
 
 pub returns-in-Some-clause-sites : goal.returns-in-Some-clause-sites
-returns-in-Some-clause-sites c = ap (λ (o : Outside). o.sites) c.close_to.ensures.is
+returns-in-Some-clause-sites c = ap (λ (o : Lasting). o.sites) c.close_to.ensures.is

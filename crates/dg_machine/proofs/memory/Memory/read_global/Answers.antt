@@ -12,7 +12,7 @@ use Rattle.dg_machine.specs.Finding.{copied_in}
 use Rattle.dg_machine.specs.Refs.{RefsAt}
 use Rattle.dg_machine.specs.Standing.{Stands}
 use Rattle.dg_machine.proofs.Answered.{read_none, read_alone, read_copy, split_args, global_here, global_kept}
-use Rattle.dg_outside.proofs.Finds.{kept_none}
+use Rattle.dg_lasting.proofs.Finds.{kept_none}
 use Rattle.dg_machine.proofs.Leads.{charged_led, full_stands}
 use Rattle.dg_machine.proofs.Trying.{args_none, args_some}
 use Rattle.dg_machine.proofs.Unifying.{agreed_stands, clash_stands, unmatched_stands}
@@ -20,15 +20,15 @@ use Rattle.dg_machine.proofs.memory.Memory.read_global.Goals as goal
 
 pub returns-in_default : goal.returns-in_default
 returns-in_default c code g l m vs kind at h refs w =
-    let fact = value_at m.outside.facts c.args.place 0 in
-    let none = kept_none fact (global_here g l m c.args.outside.now c.args.place None c.in_default.ensures kind w) in
+    let fact = value_at m.lasting.facts c.args.place 0 in
+    let none = kept_none fact (global_here g l m c.args.lasting.now c.args.place None c.in_default.ensures kind w) in
     subst (Stands code l c.args.self.now Fails) (sym (read_none code g l m vs (world_of [] m) refl fact none)) h
 
 pub returns-then-is_empty : goal.returns-then-is_empty
 returns-then-is_empty c code g l m vs kind at h refs w =
     let r = c.args.self.now in
-    let fact = value_at m.outside.facts c.args.place 0 in
-    let k = global_kept g l m c.args.outside.now c.args.place c.in-Some.cells.now (global_here g l m c.args.outside.now c.args.place (Some c.in-Some.cells.now) c.in-Some.ensures kind w) w in
+    let fact = value_at m.lasting.facts c.args.place 0 in
+    let k = global_kept g l m c.args.lasting.now c.args.place c.in-Some.cells.now (global_here g l m c.args.lasting.now c.args.place (Some c.in-Some.cells.now) c.in-Some.ensures kind w) w in
     let none = args_none (meaning_of r.arena) r.args.items vs (vec_len r.args) c.is_empty.result refs (omega (arith, r.args.ok.0)) c.is_empty.ensures c.if-is_empty.true in
     subst (Stands code l r (Runs c.args.rest)) (sym (read_alone code g l m vs (world_of [] m) refl fact k.v k.is none)) (at, h)
 
@@ -44,8 +44,8 @@ pub returns-in-Err : goal.returns-in-Err
 returns-in-Err c code g l m vs kind at h refs w =
     let r = c.args.self.now in
     let new = c.copy_kept.new.self in
-    let fact = value_at m.outside.facts c.args.place 0 in
-    let k = global_kept g l m c.args.outside.now c.args.place c.in-Some.cells.now (global_here g l m c.args.outside.now c.args.place (Some c.in-Some.cells.now) c.in-Some.ensures kind w) w in
+    let fact = value_at m.lasting.facts c.args.place 0 in
+    let k = global_kept g l m c.args.lasting.now c.args.place c.in-Some.cells.now (global_here g l m c.args.lasting.now c.args.place (Some c.in-Some.cells.now) c.in-Some.ensures kind w) w in
     let some = split_args vs (args_some (meaning_of r.arena) r.args.items vs (vec_len r.args) c.is_empty.result refs (omega (arith, r.args.ok.0)) c.is_empty.ensures c.if-is_empty.false) in
     let x = unify m.state.subst some.first (copy_from m.state.vars k.v) in
     let m' = copied_in k.v m in
@@ -57,8 +57,8 @@ returns-in-Err-unify_first c code g l m vs kind at h refs w =
     let r = c.args.self.now in
     let mid = c.copy_kept.new.self in
     let new = c.unify_first.new.self in
-    let fact = value_at m.outside.facts c.args.place 0 in
-    let k = global_kept g l m c.args.outside.now c.args.place c.in-Some.cells.now (global_here g l m c.args.outside.now c.args.place (Some c.in-Some.cells.now) c.in-Some.ensures kind w) w in
+    let fact = value_at m.lasting.facts c.args.place 0 in
+    let k = global_kept g l m c.args.lasting.now c.args.place c.in-Some.cells.now (global_here g l m c.args.lasting.now c.args.place (Some c.in-Some.cells.now) c.in-Some.ensures kind w) w in
     let some = split_args vs (args_some (meaning_of r.arena) r.args.items vs (vec_len r.args) c.is_empty.result refs (omega (arith, r.args.ok.0)) c.is_empty.ensures c.if-is_empty.false) in
     let x = unify m.state.subst some.first (copy_from m.state.vars k.v) in
     let m' = copied_in k.v m in
@@ -73,8 +73,8 @@ returns-in-Ok-true c code g l m vs kind at h refs w =
     let r = c.args.self.now in
     let mid = c.copy_kept.new.self in
     let new = c.unify_first.new.self in
-    let fact = value_at m.outside.facts c.args.place 0 in
-    let k = global_kept g l m c.args.outside.now c.args.place c.in-Some.cells.now (global_here g l m c.args.outside.now c.args.place (Some c.in-Some.cells.now) c.in-Some.ensures kind w) w in
+    let fact = value_at m.lasting.facts c.args.place 0 in
+    let k = global_kept g l m c.args.lasting.now c.args.place c.in-Some.cells.now (global_here g l m c.args.lasting.now c.args.place (Some c.in-Some.cells.now) c.in-Some.ensures kind w) w in
     let some = split_args vs (args_some (meaning_of r.arena) r.args.items vs (vec_len r.args) c.is_empty.result refs (omega (arith, r.args.ok.0)) c.is_empty.ensures c.if-is_empty.false) in
     let x = unify m.state.subst some.first (copy_from m.state.vars k.v) in
     let m' = copied_in k.v m in
@@ -89,8 +89,8 @@ returns-in-Ok-false c code g l m vs kind at h refs w =
     let r = c.args.self.now in
     let mid = c.copy_kept.new.self in
     let new = c.unify_first.new.self in
-    let fact = value_at m.outside.facts c.args.place 0 in
-    let k = global_kept g l m c.args.outside.now c.args.place c.in-Some.cells.now (global_here g l m c.args.outside.now c.args.place (Some c.in-Some.cells.now) c.in-Some.ensures kind w) w in
+    let fact = value_at m.lasting.facts c.args.place 0 in
+    let k = global_kept g l m c.args.lasting.now c.args.place c.in-Some.cells.now (global_here g l m c.args.lasting.now c.args.place (Some c.in-Some.cells.now) c.in-Some.ensures kind w) w in
     let some = split_args vs (args_some (meaning_of r.arena) r.args.items vs (vec_len r.args) c.is_empty.result refs (omega (arith, r.args.ok.0)) c.is_empty.ensures c.if-is_empty.false) in
     let x = unify m.state.subst some.first (copy_from m.state.vars k.v) in
     let m' = copied_in k.v m in

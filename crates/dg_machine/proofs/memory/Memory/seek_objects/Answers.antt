@@ -2,7 +2,7 @@ use Rattle.std.proofs.Common.{◌≡◌, length, sym, ap, subst, arith}
 use Rattle.dg_meaning.specs.Moves.{looked_up}
 use Rattle.dg_meaning.specs.Substitutions.{walk}
 use Rattle.dg_unify.specs.Store.{State}
-use Rattle.dg_outside.specs.Subjects.{IsSubject}
+use Rattle.dg_lasting.specs.Subjects.{IsSubject}
 use Rattle.dg_arena.specs.Held.{meaning_of}
 use Rattle.dg_mid.specs.Actions.{registers_of}
 use Rattle.dg_machine.specs.declared.now.Now.TheVariants.{Resumes, Fails}

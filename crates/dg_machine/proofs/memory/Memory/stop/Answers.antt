@@ -1,7 +1,7 @@
 use Rattle.std.proofs.Common.{refl, sym, ap, ◌∙◌, subst}
 use Rattle.dg_base.specs.declared.run.Ending.TheVariants as ending
 use Rattle.dg_mid.specs.Step.{setting, more, stops}
-use Rattle.dg_outside.specs.declared.outside.Outside.{Outside}
+use Rattle.dg_lasting.specs.declared.lasting.Lasting.{Lasting}
 use Rattle.dg_machine.specs.declared.now.Now.TheVariants.{Ended}
 use Rattle.dg_machine.specs.declared.memory.Memory.{Memory}
 use Rattle.dg_machine.specs.Standing.{StandsWith}
@@ -19,8 +19,8 @@ restore-requires c =
 pub returns-in-None-clause-does : goal.returns-in-None-clause-does
 returns-in-None-clause-does c g l m o h w =
     let code = c.args.code.now in
-    subst (λ x. StandsWith code g l c.args.self.now (Ended ending.Stopped) c.args.outside.now (stops (setting g code l) x (more 0 m))) (sym (none_is_open code l m c.args.self.now h (sym c.in-None.ensures)))
-    (record { stands = (refl, roomy code l m c.args.self.now h); outside = tt })
+    subst (λ x. StandsWith code g l c.args.self.now (Ended ending.Stopped) c.args.lasting.now (stops (setting g code l) x (more 0 m))) (sym (none_is_open code l m c.args.self.now h (sym c.in-None.ensures)))
+    (record { stands = (refl, roomy code l m c.args.self.now h); lasting = tt })
 
 pub returns-in-Goes-clause-does : goal.returns-in-Goes-clause-does
 returns-in-Goes-clause-does c g l m o h w =
@@ -29,7 +29,7 @@ returns-in-Goes-clause-does c g l m o h w =
     let there = sym c.in-Some.ensures in
     let room = cut_roomy code l m c.args.self.now mid c.in-Some.part h there c.cut.ensures.below c.cut.ensures.same c.cut.ensures.capacity in
     let many = h.1 ∙ sym (ap (λ (r : Memory). r.gathered) c.cut.ensures.same) in
-    stops_to code l m c.args.self.now mid c.in-Some.part h there c.cut.ensures.below c.cut.ensures.same g o c.restore.new.self c.args.outside.now c.close_to.new.self w c.close_to.ensures
+    stops_to code l m c.args.self.now mid c.in-Some.part h there c.cut.ensures.below c.cut.ensures.same g o c.restore.new.self c.args.lasting.now c.close_to.new.self w c.close_to.ensures
     (λ x ds can. c.restore.ensures.back code l (more 0 m) x ds room many can) c.in-Goes.block c.code_at.result c.requires.built c.in-Goes.is c.code_at.ensures
 
 pub returns-in_default-clause-does : goal.returns-in_default-clause-does
@@ -39,11 +39,11 @@ returns-in_default-clause-does c g l m o h w =
     let there = sym c.in-Some.ensures in
     let room = cut_roomy code l m c.args.self.now mid c.in-Some.part h there c.cut.ensures.below c.cut.ensures.same c.cut.ensures.capacity in
     let many = h.1 ∙ sym (ap (λ (r : Memory). r.gathered) c.cut.ensures.same) in
-    stops_else code l m c.args.self.now mid c.in-Some.part h there c.cut.ensures.below c.cut.ensures.same g o c.restore.new.self c.args.outside.now c.close_to.new.self w c.close_to.ensures
+    stops_else code l m c.args.self.now mid c.in-Some.part h there c.cut.ensures.below c.cut.ensures.same g o c.restore.new.self c.args.lasting.now c.close_to.new.self w c.close_to.ensures
     (λ x ds can. c.restore.ensures.back code l (more 0 m) x ds room many can) c.in_default.not-Goes
 
 pub returns-in-Goes-clause-sites : goal.returns-in-Goes-clause-sites
-returns-in-Goes-clause-sites c = ap (λ (o : Outside). o.sites) c.close_to.ensures.is
+returns-in-Goes-clause-sites c = ap (λ (o : Lasting). o.sites) c.close_to.ensures.is
 
 pub returns-in_default-clause-sites : goal.returns-in_default-clause-sites
-returns-in_default-clause-sites c = ap (λ (o : Outside). o.sites) c.close_to.ensures.is
+returns-in_default-clause-sites c = ap (λ (o : Lasting). o.sites) c.close_to.ensures.is

@@ -14,7 +14,7 @@ use Rattle.dg_machine.proofs.Listings.{newest, rest_m, list_none, list_held, lis
 use Rattle.dg_machine.proofs.memory.Memory.take_list.Goals as goal
 
 pub returns-in_default-clause-takes : goal.returns-in_default-clause-takes
-returns-in_default-clause-takes c code block g l m v into at h refs w = takes_none code g l m InList into block c.args.self.now c.args.outside.now c.in_default.ensures h w
+returns-in_default-clause-takes c code block g l m v into at h refs w = takes_none code g l m InList into block c.args.self.now c.args.lasting.now c.in_default.ensures h w
 
 pub meet-requires : goal.meet-requires
 meet-requires c =
@@ -26,7 +26,7 @@ meet-requires c =
 pub returns-in-Err-clause-takes : goal.returns-in-Err-clause-takes
 returns-in-Err-clause-takes c code block g l m v into at h refs w =
     let r = c.args.self.now in
-    let out = c.args.outside.now in
+    let out = c.args.lasting.now in
     let cells = c.in-Some.cells.now in
     let x = newest code g l m r out cells c.in-Some.ensures h w in
     list_none code g l m r out cells c.in-Some.ensures h w block into c.make_list.new.self out (c.in-Err.ensures.made code l m x.newest.values h x.cells_are x.formed)
@@ -34,7 +34,7 @@ returns-in-Err-clause-takes c code block g l m v into at h refs w =
 pub returns-in-Err-meet-clause-takes : goal.returns-in-Err-meet-clause-takes
 returns-in-Err-meet-clause-takes c code block g l m v into at h refs w =
     let r = c.args.self.now in
-    let out = c.args.outside.now in
+    let out = c.args.lasting.now in
     let cells = c.in-Some.cells.now in
     let height = c.height-height.result.0 - 1 in
     let count = ap (λ n. n - 1) c.height-height.ensures in
@@ -53,7 +53,7 @@ returns-in-Err-meet-clause-takes c code block g l m v into at h refs w =
 pub returns-in-Ok-false-clause-takes : goal.returns-in-Ok-false-clause-takes
 returns-in-Ok-false-clause-takes c code block g l m v into at h refs w =
     let r = c.args.self.now in
-    let out = c.args.outside.now in
+    let out = c.args.lasting.now in
     let cells = c.in-Some.cells.now in
     let height = c.height-height.result.0 - 1 in
     let count = ap (λ n. n - 1) c.height-height.ensures in
@@ -72,7 +72,7 @@ returns-in-Ok-false-clause-takes c code block g l m v into at h refs w =
 pub returns-in-Ok-true-clause-takes : goal.returns-in-Ok-true-clause-takes
 returns-in-Ok-true-clause-takes c code block g l m v into at h refs w =
     let r = c.args.self.now in
-    let out = c.args.outside.now in
+    let out = c.args.lasting.now in
     let cells = c.in-Some.cells.now in
     let height = c.height-height.result.0 - 1 in
     let count = ap (λ n. n - 1) c.height-height.ensures in

@@ -17,7 +17,7 @@ returns-in-Sum-clause-takes c code block g l m into built is there h w =
     let x = c.in-TakeOut in
     let split = split_list all c.op-item.result c.in-len1-up.len_at_least c.op-item.is ∙ ap (λ y. y ∷ rest) (x.is ∙ ap (λ k. op.TakeOut k x.field-1) c.in-Sum.is) in
     let parts : OpsBuilt (op.TakeOut Sum x.field-1 ∷ rest) = subst OpsBuilt split (subst OpsBuilt (sym is) (built.blocks block)) in
-    subst (λ xs. FallsWith code g l (with_way c.args.self.now (Takes block)) Resumes c.take_sum.new.self c.take_sum.result c.take_sum.new.outside (takes (setting g code l) into xs m)) (sym split)
+    subst (λ xs. FallsWith code g l (with_way c.args.self.now (Takes block)) Resumes c.take_sum.new.self c.take_sum.result c.take_sum.new.lasting (takes (setting g code l) into xs m)) (sym split)
     (c.take_sum.ensures.takes code block g l (record m { ops = rest }) there.1 into (refl, parts.1) h there.2 w)
 
 pub returns-in-List-clause-takes : goal.returns-in-List-clause-takes
@@ -27,5 +27,5 @@ returns-in-List-clause-takes c code block g l m into built is there h w =
     let x = c.in-TakeOut in
     let split = split_list all c.op-item.result c.in-len1-up.len_at_least c.op-item.is ∙ ap (λ y. y ∷ rest) (x.is ∙ ap (λ k. op.TakeOut k x.field-1) c.in-List.is) in
     let parts : OpsBuilt (op.TakeOut InList x.field-1 ∷ rest) = subst OpsBuilt split (subst OpsBuilt (sym is) (built.blocks block)) in
-    subst (λ xs. FallsWith code g l (with_way c.args.self.now (Takes block)) Resumes c.take_list.new.self c.take_list.result c.take_list.new.outside (takes (setting g code l) into xs m)) (sym split)
+    subst (λ xs. FallsWith code g l (with_way c.args.self.now (Takes block)) Resumes c.take_list.new.self c.take_list.result c.take_list.new.lasting (takes (setting g code l) into xs m)) (sym split)
     (c.take_list.ensures.takes code block g l (record m { ops = rest }) there.1 into (refl, parts.1) h there.2 w)

@@ -1,7 +1,7 @@
 use Rattle.std.proofs.Common.{◌≡◌, ◌+◌, ◌-◌, ◌<◌, ◌∙◌, refl, sym, ap, subst, arith, length, take}
 use Rattle.std.proofs.lemmas.List.{take_all}
 use Rattle.dg_arena.specs.Held.{meaning_of}
-use Rattle.dg_outside.specs.Finding.{counted}
+use Rattle.dg_lasting.specs.Finding.{counted}
 use Rattle.dg_mid.specs.State.{Tries as TriesOf, place_of}
 use Rattle.dg_mid.specs.Step.{inside, passed}
 use Rattle.dg_machine.specs.declared.now.Way.TheVariants.{Tries}

@@ -1,6 +1,6 @@
 use Rattle.std.proofs.Common.{◌≡◌, ◌∙◌, sym, ap, subst, length, take, rules, Option, Ok, ℕ}
 use Rattle.std.specs.Prelude.{encode_utf8_all}
-use Rattle.dg_lines.specs.Lines.{TakesLine}
+use Rattle.dg_base.specs.Lines.{TakesLine}
 use Rattle.dg_words.specs.Letters.{IsLine}
 use Rattle.dg_words.proofs.LineLemmas.{line_is, took_line, took_part}
 use Rattle.dg_words.proofs.LetterLemmas.{line_kept}

@@ -1,5 +1,0 @@
-use Rattle.dg_access.proofs.ComesLemmas.{mentions_come}
-use Rattle.dg_access.proofs.laws.mentions_come_from_the_source.Goals as goal
-
-pub returns : goal.returns
-returns c = mentions_come

@@ -1,5 +1,0 @@
-use Rattle.dg_access.proofs.KeptLemmas.{named}
-use Rattle.dg_access.proofs.laws.plain_heads_keep_names.Goals as goal
-
-pub returns : goal.returns
-returns c = named

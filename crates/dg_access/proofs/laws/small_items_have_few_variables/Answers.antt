@@ -1,5 +1,0 @@
-use Rattle.dg_access.proofs.FewLemmas.{small_few}
-use Rattle.dg_access.proofs.laws.small_items_have_few_variables.Goals as goal
-
-pub returns : goal.returns
-returns c = small_few

@@ -1,7 +1,0 @@
-use Rattle.std.proofs.Common.{arith}
-use Rattle.std.proofs.lemmas.List.{map-append}
-use Rattle.dg_access.proofs.BranchLemmas.{front_append}
-use Rattle.dg_access.proofs.rules.in_front.Goals as goal
-
-pub returns : goal.returns
-returns c = grind (arith, map-append, front_append)

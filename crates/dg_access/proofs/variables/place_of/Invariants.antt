@@ -1,7 +1,0 @@
-use Rattle.std.proofs.Common.{◌≡◌, ◌+◌, drop}
-use Rattle.dg_access.specs.Scopes as spec
-use Rattle.dg_access.specs.State.{scope_view}
-use Rattle.dg_access.proofs.variables.place_of.Given as goal
-
-abbrev pub invariant-loop-at : goal.invariant-loop-at
-invariant-loop-at l = spec.place_of (scope_view (drop l.at l.scope)) l.name + l.at ≡ spec.place_of (scope_view l.scope) l.name

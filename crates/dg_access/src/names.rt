@@ -1,0 +1,71 @@
+// The names of variables where access rules are put in.
+ghost use Rattle.std.specs.Prelude.{◌≡◌, ◌++◌, IfOk};
+ghost use Rattle.dg_access.specs.Put as spec;
+ghost use Rattle.dg_access.specs.inside.Putting.{around};
+
+use crate::place::{Place, Uses};
+use dg_base::{Items, Name};
+use dg_plain::copied;
+use std::alloc::{AllocError, Global};
+
+const UNNAMED: &[u8] = b"$";
+
+fn begun(mut front: Vec<u8>, name: &[u8]) -> Result<Name, AllocError>
+    ensures { IfOk result (λ new. new ≡ front.items ++ name.now) }
+{
+    front.extend_from_slice(name)?;
+    Ok(Items::from_vec(front))
+}
+
+fn use_mark(alloc: Global, mark: usize, number: usize) -> Result<Vec<u8>, AllocError>
+    ensures { IfOk result (λ front. front.items ≡ spec.use_mark mark number) }
+{
+    let text = format!(in alloc; "S{mark}-{number}-")?;
+    Ok(text.into_bytes())
+}
+
+fn copy_mark(alloc: Global, number: usize) -> Result<Vec<u8>, AllocError>
+    ensures { IfOk result (λ front. front.items ≡ spec.copy_mark number) }
+{
+    let text = format!(in alloc; "${number}")?;
+    Ok(text.into_bytes())
+}
+
+fn new_name(
+    alloc: Global,
+    mark: usize,
+    number: Option<usize>,
+    name: &[u8],
+) -> Result<Name, AllocError>
+    ensures { IfOk result (λ new. new ≡ spec.new_name mark number name.now) }
+{
+    match number {
+        Some(number) => begun(use_mark(alloc, mark, number)?, name),
+        None => copied(alloc, name),
+    }
+}
+
+fn new_unnamed(alloc: Global, number: Option<usize>, name: &[u8]) -> Result<Name, AllocError>
+    ensures { IfOk result (λ new. new ≡ spec.new_unnamed number name.now) }
+{
+    match number {
+        Some(number) => begun(copy_mark(alloc, number)?, name),
+        None => copied(alloc, name),
+    }
+}
+
+/// The name of a variable that is no parameter, where it stands.
+pub fn own_name(
+    alloc: Global,
+    uses: Uses<'_>,
+    at: &Place<'_>,
+    name: &[u8],
+) -> Result<Name, AllocError>
+    ensures { IfOk result (λ new. new ≡ spec.own_name uses.entry.mark (around uses.entry at.now).place name.now) }
+{
+    if name.starts_with(UNNAMED) {
+        new_unnamed(alloc, at.copy_number, name)
+    } else {
+        new_name(alloc, uses.mark, at.use_number, name)
+    }
+}

@@ -1,5 +1,0 @@
-use Rattle.dg_closures.proofs.VariableLemmas.{all_small}
-use Rattle.dg_closures.proofs.laws.closures_are_small.Goals as goal
-
-pub returns : goal.returns
-returns c = all_small

@@ -1,5 +1,0 @@
-use Rattle.dg_closures.proofs.VariableLemmas.{all_held}
-use Rattle.dg_closures.proofs.laws.variables_are_held.Goals as goal
-
-pub returns : goal.returns
-returns c = all_held

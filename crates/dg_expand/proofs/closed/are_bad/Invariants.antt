@@ -1,8 +1,0 @@
-use Rattle.std.proofs.Common.{◌≡◌, drop, map}
-use Rattle.dg_base.specs.TreeView.{item_view}
-use Rattle.dg_expand.specs.Expanded as spec
-use Rattle.dg_expand.specs.inside.Putting.{access_view}
-use Rattle.dg_expand.proofs.closed.are_bad.Given as goal
-
-abbrev pub invariant-loop-item : goal.invariant-loop-item
-invariant-loop-item l = spec.are_bad (map access_view l.rules.all.now) (map item_view (drop l.item-index l.items)) ≡ spec.are_bad (map access_view l.rules.all.now) (map item_view l.items)

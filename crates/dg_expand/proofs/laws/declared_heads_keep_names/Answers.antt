@@ -1,7 +1,0 @@
-use Rattle.std.proofs.Common.{[]}
-use Rattle.dg_expand.specs.Put.{in_item, level}
-use Rattle.dg_expand.proofs.CarryLemmas.{named}
-use Rattle.dg_expand.proofs.laws.declared_heads_keep_names.Goals as goal
-
-pub returns : goal.returns
-returns c = named (level [] 0 0) in_item 0

@@ -1,5 +1,0 @@
-use Rattle.dg_expand.proofs.CarryLemmas.{mentions_put}
-use Rattle.dg_expand.proofs.laws.mentions_are_put.Goals as goal
-
-pub returns : goal.returns
-returns c = mentions_put

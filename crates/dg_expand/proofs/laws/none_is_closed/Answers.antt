@@ -1,5 +1,0 @@
-use Rattle.dg_expand.proofs.AnswerLemmas.{rewritten_open}
-use Rattle.dg_expand.proofs.laws.none_is_closed.Goals as goal
-
-pub returns : goal.returns
-returns c = rewritten_open

@@ -1,5 +1,0 @@
-use Rattle.dg_expand.proofs.LeftLemmas.{nothing_left}
-use Rattle.dg_expand.proofs.laws.nothing_is_left.Goals as goal
-
-pub returns : goal.returns
-returns c = nothing_left

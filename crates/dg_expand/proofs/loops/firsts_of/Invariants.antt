@@ -1,7 +1,0 @@
-use Rattle.std.proofs.Common.{◌≡◌, ◌++◌, drop, map}
-use Rattle.dg_expand.specs.inside.Putting.{access_view}
-use Rattle.dg_expand.specs.inside.Rows.{firsts}
-use Rattle.dg_expand.proofs.loops.firsts_of.Given as goal
-
-abbrev pub invariant-loop-rule : goal.invariant-loop-rule
-invariant-loop-rule l = l.numbers.items ++ firsts (map access_view l.rules.all.now) (map access_view (drop l.rule-index l.rules.all.now)) ≡ firsts (map access_view l.rules.all.now) (map access_view l.rules.all.now)

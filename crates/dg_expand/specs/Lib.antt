@@ -1,7 +1,0 @@
-pub mod Put
-pub mod Expanded
-pub mod Loops
-pub mod Answer
-pub mod Comes
-pub mod Left
-pub mod inside

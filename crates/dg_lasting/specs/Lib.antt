@@ -1,0 +1,5 @@
+pub mod Lacks
+pub mod Subjects
+pub mod Changing
+pub mod Finding
+pub mod Lasting

@@ -1,5 +1,0 @@
-pub mod Lacks
-pub mod Subjects
-pub mod Changing
-pub mod Finding
-pub mod Outside

@@ -1,0 +1,11 @@
+pub mod Views
+pub mod Before
+pub mod PartsLemmas
+pub mod BranchLemmas
+pub mod NumberLemmas
+pub mod NameLemmas
+pub mod KeptLemmas
+pub mod LeftLemmas
+pub mod ComesLemmas
+pub mod BuildLemmas
+pub mod StepLemmas

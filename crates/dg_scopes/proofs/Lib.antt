@@ -1,0 +1,9 @@
+pub mod CountLemmas
+pub mod EntryLemmas
+pub mod FullLemmas
+pub mod TotalLemmas
+pub mod NoteLemmas
+pub mod FewLemmas
+pub mod StackLemmas
+pub mod ScanLemmas
+pub mod VariableLemmas
