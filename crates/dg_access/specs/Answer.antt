@@ -10,11 +10,9 @@ use Rattle.dg_access.specs.Expanded.{access_rules, put_item, put_items, are_bad}
 use Rattle.dg_access.specs.Loops.{first_looping}
 use Rattle.dg_access.specs.Put.{Access}
 
--- Why what an item becomes is refused, behind what became of the items before it: a count passes its number, or a head or a change
--- stands where none may.
+-- Why what an item becomes is refused, behind what became of the items before it: a count passes its number, or a head or a change stands where none may.
 abbrev pub cause_of : List Access → List Item → List Item → Option Kind
-cause_of rules before new =
-    if are_large new || are_over (before ++ new) then Some TooMany else if are_bad rules new then Some BadNow else None
+cause_of rules before new = if are_large new || are_over (before ++ new) then Some TooMany else if are_bad rules new then Some BadNow else None
 
 -- A refusal of this kind on this line, or else this one.
 abbrev pub refused_or : ℕ → Option Kind → Option Refusal → Option Refusal

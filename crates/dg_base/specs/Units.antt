@@ -16,8 +16,7 @@ is_second first b =
     if first == 0xE0 then is_within 0xA0 0xBF b
     else if first == 0xED then is_within 0x80 0x9F b
     else if first == 0xF0 then is_within 0x90 0xBF b
-    else if first == 0xF4 then is_within 0x80 0x8F b
-    else is_tail b
+    else if first == 0xF4 then is_within 0x80 0x8F b else is_tail b
 
 abbrev pub is_two : ℕ → List ℕ → Bool
 is_two first bytes = is_within 0xC2 0xDF first && is_tail (slice_index bytes 0)

@@ -29,8 +29,7 @@ no_layout = record { captured = []; own = []; places = [] }
 abbrev pub layout_at : List Layout → ℕ → Layout
 layout_at ls k = get_or ls k no_layout
 
--- What the closures of a rule are made in: what names stand for outside it, the layouts of its closures, and how many closures stand in the
--- items before.
+-- What the closures of a rule are made in: what names stand for outside it, the layouts of its closures, and how many closures stand in the items before.
 pub record Home : Type 0 where
   pub around : Scope
   pub layouts : List Layout

@@ -51,16 +51,14 @@ bracket_of c =
     else (if nat_eq c 125 then Some BraceClose
     else (if nat_eq c 124 then Some Bar
     else (if nat_eq c 42 then Some Star
-    else (if nat_eq c 126 then Some Tilde
-    else None))))))))
+    else (if nat_eq c 126 then Some Tilde else None))))))))
 
 -- a word, or a sign that may have a name behind it
 abbrev pub name_at : ℕ → List ℕ → Shape
 name_at c behind =
     if nat_eq c 64 then named Dict At (word_length false behind)
     else (if nat_eq c 35 then named Object Hash (name_length behind)
-    else (if nat_eq c 36 then named Var Anon (name_length behind)
-    else shape Word (1 + word_length (nat_eq c backslash) behind)))
+    else (if nat_eq c 36 then named Var Anon (name_length behind) else shape Word (1 + word_length (nat_eq c backslash) behind)))
 
 -- the token at a character, with the text behind it
 abbrev pub shape_or : Option TokenKind → Shape → Shape

@@ -242,8 +242,7 @@ goes_on_if false steps r w = FailsAt w
 abbrev pub unified : Equations → List Step → Registers → World → Move
 unified es steps r w =
     let u = solve r.bound es in
-    let r' = bound_by u (length (made_since r.bound u.subst)) r in
-    goes_on_if u.agrees steps r' (begun r' (unifying r.bound es) w)
+    let r' = bound_by u (length (made_since r.bound u.subst)) r in goes_on_if u.agrees steps r' (begun r' (unifying r.bound es) w)
 
 -- A stop leaves the innermost stoppable part; without one the run ends.
 abbrev pub stop : Option ℕ → World → Move
@@ -437,15 +436,13 @@ spelled g letters v w = worked (reading g.program.words letters + copied v) w
 abbrev pub splits : Game → Option (List ℕ) → Value → Registers → World → Act
 splits g None into r w = Fails w
 splits g (Some letters) into r w =
-    let v = spelled_list g.program.words (each_alone letters) in
-    gives into v r (spelled g (length letters) v w)
+    let v = spelled_list g.program.words (each_alone letters) in gives into v r (spelled g (length letters) v w)
 
 -- Letters as one word; or it fails.
 abbrev pub joins : Game → Option (List ℕ) → Value → Registers → World → Act
 joins g None into r w = Fails w
 joins g (Some letters) into r w =
-    let v = spelled_value g.program.words letters in
-    gives into v r (spelled g (length letters) v w)
+    let v = spelled_value g.program.words letters in gives into v r (spelled g (length letters) v w)
 
 -- A line is taken of the typed bytes, if any is left.
 abbrev pub takes_line : Game → List ℕ → Value → Registers → World → Act
@@ -479,8 +476,7 @@ effect g (Query a b many) env t steps r w =
     ask_closure g (walk r.bound v) (map (value_of g.program env) (option_terms b)) many steps r (worked (looked_up r v) w)
 effect g (Either lists) env t steps r w = Offers Plain (list_branches env t steps r lists) w
 effect g (Select site mode lists) env t steps r w =
-    let c = selects g site mode (length lists) w in
-    Acts (Goes (goals_at env t (get_or lists c.branch []) ++ steps) (selected site c w))
+    let c = selects g site mode (length lists) w in Acts (Goes (goals_at env t (get_or lists c.branch []) ++ steps) (selected site c w))
 effect g (Once goals) env t steps r w = Offers Plain (enter 10 0 r (goals_at env t goals ++ Cut r.next_tag ∷ steps) ∷ []) w
 effect g (Not goals) env t steps r w = Offers Plain (enter 10 0 r (goals_at env t goals ++ Refuse r.next_tag ∷ []) ∷ enter 0 0 r steps ∷ []) w
 effect g (If test first other) env t steps r w =
@@ -499,8 +495,7 @@ effect g (Arith op a b c) env t steps r w =
     Acts (gives_number (of_numbers (calculated op) (walk r.bound v) (walk r.bound u)) (value_of g.program env c) r (worked (looked_up r v + looked_up r u) w))
 effect g (Compare op a b) env t steps r w =
     let v = value_of g.program env a in
-    let u = value_of g.program env b in
-    Acts (Tests (are_in_order op (walk r.bound v) (walk r.bound u)) (worked (looked_up r v + looked_up r u) w))
+    let u = value_of g.program env b in Acts (Tests (are_in_order op (walk r.bound v) (walk r.bound u)) (worked (looked_up r v + looked_up r u) w))
 effect g (Random a b c) env t steps r w =
     let v = value_of g.program env a in
     let u = value_of g.program env b in

@@ -60,8 +60,7 @@ separator gap None after = spaces_of gap
 separator gap (Some before) after =
     if list_any is_par gap then 10 ∷ 10 ∷ spaces_of gap
     else (if list_any is_line gap then 10 ∷ spaces_of gap
-    else (if nat_lt 0 (spaces_from 0 gap) then spaces_of gap
-    else space_for (last_asked None gap) before after))
+    else (if nat_lt 0 (spaces_from 0 gap) then spaces_of gap else space_for (last_asked None gap) before after))
 
 -- ## Pieces
 

@@ -70,7 +70,8 @@ catches Shield t s = eqb s t
 catches k t s = false
 
 -- What a branch of the choice t leads to: the others, the others after a stop, or what passes through.
-abbrev pub after_branch : ChoiceKind → ℕ → ℕ → World → Result → (ℕ → World → Answer) → (Option ℕ → ℕ → World → Answer) → Answer
+abbrev pub after_branch : ChoiceKind → ℕ → ℕ → World → Result → (ℕ → World → Answer) → (Option ℕ → ℕ → World → Answer)
+    → Answer
 after_branch k t n w Failing next stopped = next n w
 after_branch k t n w (CutFail u) next stopped = answer n (leave k t w) (if eqb u t then Failing else CutFail u)
 after_branch k t n w (StopTo s c) next stopped = if catches k t s then stopped c n w else answer n (leave k t w) (StopTo s c)
@@ -90,8 +91,7 @@ begin s b n w = after_move s n (begins b w)
 -- The branches of the choice t behind its first.
 abbrev pub choose : Search → ChoiceKind → ℕ → List Branch → ℕ → World → Answer
 choose s k t [] n w = answer n (exhausted k w) Failing
-choose s k t (b ∷ bs) n w =
-    let a = begin s b n (retried k w) in after_branch k t a.left a.world a.result (choose s k t bs) (λ c. choose s k t bs)
+choose s k t (b ∷ bs) n w = let a = begin s b n (retried k w) in after_branch k t a.left a.world a.result (choose s k t bs) (λ c. choose s k t bs)
 
 -- A choice: its first branch, and then the others.
 abbrev pub choose_first : Search → ChoiceKind → ℕ → Branch → List Branch → ℕ → World → Answer

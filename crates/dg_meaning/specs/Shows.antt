@@ -31,8 +31,7 @@ abbrev pub IsLeft : Option (List ℕ) → List ℕ → Type 0
 IsLeft None typed = Unit {0}
 IsLeft (Some left) typed = left ≡ typed
 
--- The whole run whose budget is the step limit, closed with the line of its ending, that ending and the goals that it took; the input has left what that
--- run has left.
+-- The whole run under the step limit, closed with its ending's line, that ending and the goals it took; the input has left what the run leaves.
 pub record ShowsRunBy (form : Form) (g : Game) (typed : List ℕ) (limits : Limits) (bytes : List ℕ) (outcome : Outcome)
     (left : Option (List ℕ)) : Type 0 where
   pub begins : MayBegin g limits

@@ -70,8 +70,7 @@ abbrev pub spellings_behind : List ℕ → List ℕ → List (List ℕ)
 spellings_behind begun [] = if_spelled begun
 spellings_behind begun (c ∷ cs) =
     if eqb c 32 then if_spelled begun ++ spellings_behind [] cs
-    else if is_alone c then if_spelled begun ++ (c ∷ []) ∷ spellings_behind [] cs
-    else spellings_behind (begun ++ c ∷ []) cs
+    else if is_alone c then if_spelled begun ++ (c ∷ []) ∷ spellings_behind [] cs else spellings_behind (begun ++ c ∷ []) cs
 
 -- The spellings of letters.
 abbrev pub spellings_of : List ℕ → List (List ℕ)

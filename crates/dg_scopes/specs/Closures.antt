@@ -38,8 +38,7 @@ layout_by all there places = record {
 abbrev pub variables_in : Layout → List (List ℕ)
 variables_in l = l.captured ++ l.own
 
--- The layouts of the closures that stand here at every depth, of all the names in their item: one that begins first is first, and at
--- this place.
+-- The layouts of the closures that stand here at every depth, of all the names in their item: one that begins first is first, and at this place.
 abbrev pub layouts_from : List (List ℕ) → ℕ → Mentions → List Layout
 layouts_from all k nothing = []
 layouts_from all k (thing t ms) = layouts_from all k ms

@@ -76,8 +76,7 @@ with_option values option word =
     if bytes_eq option (codes "--steps") then option_map (λ w. record values { steps = w }) (once values.steps word)
     else if bytes_eq option (codes "--heap") then option_map (λ w. record values { heap = w }) (once values.heap word)
     else if bytes_eq option (codes "--trail") then option_map (λ w. record values { trail = w }) (once values.trail word)
-    else if bytes_eq option (codes "--dice") then option_map (λ w. record values { dice = w }) (once values.dice word)
-    else None
+    else if bytes_eq option (codes "--dice") then option_map (λ w. record values { dice = w }) (once values.dice word) else None
 
 -- these options, and those that these words are: in any order, each followed by its word
 abbrev pub values_behind : OptionWords → List (List ℕ) → Option OptionWords
@@ -165,21 +164,17 @@ abbrev pub with_options : List ℕ → List ℕ → List (List ℕ) → Option C
 with_options command name options =
     if bytes_eq command (codes "debug") then option_and_then (debug_with name) (options_of options)
     else if bytes_eq command (codes "play") then option_and_then (λ values. option_map play (story_task name values)) (options_of options)
-    else if bytes_eq command (codes "run") then option_and_then (λ values. option_map run (story_task name values)) (options_of options)
-    else None
+    else if bytes_eq command (codes "run") then option_and_then (λ values. option_map run (story_task name values)) (options_of options) else None
 
 -- the command of this word
 abbrev pub command_named : List ℕ → List ℕ → List (List ℕ) → Option Command
 command_named command name options =
     if bytes_eq command (codes "build") then build_with name options
     else if bytes_eq command (codes "singles") then singles_with name options
-    else if bytes_eq command (codes "make") then make_with name options
-    else with_options command name options
+    else if bytes_eq command (codes "make") then make_with name options else with_options command name options
 
 -- the command that these words are
 abbrev pub command_of : List (List ℕ) → Option Command
 command_of [] = None
 command_of (command ∷ []) = None
-command_of (command ∷ name ∷ options) =
-    if not (is_file_name name) then None
-    else command_named command name options
+command_of (command ∷ name ∷ options) = if not (is_file_name name) then None else command_named command name options

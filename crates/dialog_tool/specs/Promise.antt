@@ -102,8 +102,7 @@ EndsProgram g typed limits status text rest = (outcome : Outcome) × (status ≡
 
 -- A program is run on the typed bytes, with the dice and within the limits of a task.
 abbrev pub RunsProgram : Call → Outside → Task → Core → ℕ → Type 0
-RunsProgram c o t p result =
-    let g = game p (dice_for c t) in Runs c (run_of_game g o.typed) t.steps (EndsProgram g o.typed (limits_of t)) result
+RunsProgram c o t p result = let g = game p (dice_for c t) in Runs c (run_of_game g o.typed) t.steps (EndsProgram g o.typed (limits_of t)) result
 
 -- The predicates of a program are listed, at 0: out took the report, by which those of the set are single.
 pub record Lists (c : Call) (p : Core) (result : ℕ) : Type 0 where

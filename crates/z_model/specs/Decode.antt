@@ -197,5 +197,4 @@ module _ (rows : Rows) where
     first ← byte_at bytes at
     if nat_lt first 128 then long_at bytes at first
         else if first == 190 then extended_at bytes at
-        else if nat_lt first 192 then short_at bytes at first
-        else variable_at bytes at first
+        else if nat_lt first 192 then short_at bytes at first else variable_at bytes at first

@@ -71,12 +71,10 @@ local_of m v = or_fault BadLocal (slice_get m.here.locals (v - 1))
 unfoldable pub variable_of : Layout → Machine → ℕ → Result (ℕ × Machine) ZFault
 variable_of layout m v =
     if v == 0 then popped m
-    else if nat_lt v 16 then (local_of m v >>= λ x. Ok (x, m))
-    else Ok (global_of layout m v, m)
+    else if nat_lt v 16 then (local_of m v >>= λ x. Ok (x, m)) else Ok (global_of layout m v, m)
 
 abbrev pub global_set : Layout → Machine → ℕ → ℕ → Machine
-global_set layout m v x =
-    record m { memory = slice_set (slice_set m.memory (global_at layout v) (x / 256)) (global_at layout v + 1) (x % 256) }
+global_set layout m v x = record m { memory = slice_set (slice_set m.memory (global_at layout v) (x / 256)) (global_at layout v + 1) (x % 256) }
 
 -- gives a local a value
 unfoldable pub local_set : Machine → ℕ → ℕ → Result Machine ZFault
@@ -87,8 +85,7 @@ unfoldable pub stored : Layout → Machine → ℕ → ℕ → Result Machine ZF
 stored layout m v x =
     if v == 0 then pushed m x
     else if nat_lt v 16 then local_set m v x
-    else if nat_lt v 256 then Ok (global_set layout m v x)
-    else Err BadOpcode
+    else if nat_lt v 256 then Ok (global_set layout m v x) else Err BadOpcode
 
 -- the store of an instruction, where it has one
 unfoldable pub stored_if : Layout → Machine → Option ℕ → ℕ → Result Machine ZFault
@@ -101,8 +98,7 @@ unfoldable pub held_in : Layout → Machine → ℕ → Result ℕ ZFault
 held_in layout m v =
     if v == 0 then (popped m >>= λ p. Ok p.0)
     else if nat_lt v 16 then local_of m v
-    else if nat_lt v 256 then Ok (global_of layout m v)
-    else Err BadOpcode
+    else if nat_lt v 256 then Ok (global_of layout m v) else Err BadOpcode
 
 unfoldable pub placed : Layout → Machine → ℕ → ℕ → Result Machine ZFault
 placed layout m v x = if v == 0 then (popped m >>= λ p. pushed p.1 x) else stored layout m v x

@@ -37,8 +37,7 @@ log_shifted a n = if nat_lt n 32768 then left_by a n else right_by a (65536 - n)
 abbrev pub art_shifted : ℕ → ℕ → ℕ
 art_shifted a n =
     if nat_lt n 32768 then left_by a n
-    else if nat_lt a 32768 then right_by a (65536 - n)
-    else 65535 - right_by (65535 - a) (65536 - n)
+    else if nat_lt a 32768 then right_by a (65536 - n) else 65535 - right_by (65535 - a) (65536 - n)
 
 -- the first operand is one of the others
 abbrev pub equals_one : Args → Bool

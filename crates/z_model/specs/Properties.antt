@@ -109,5 +109,4 @@ with_property mem objects n number x = property_of mem objects n number >>= λ f
 -- the length of the property whose bytes begin at a place; that of place 0 is 0
 unfoldable pub length_before : Memory → ℕ → Result ℕ ZFault
 length_before mem at =
-    if at == 0 then Ok 0
-    else (byte_in mem ((at + 65535) % 65536) >>= λ byte. Ok (if nat_lt byte 128 then short_length byte else long_length byte))
+    if at == 0 then Ok 0 else (byte_in mem ((at + 65535) % 65536) >>= λ byte. Ok (if nat_lt byte 128 then short_length byte else long_length byte))

@@ -51,8 +51,7 @@ story_refusal file =
     else if nat_lt (length file) 64 then Some TooShort
     else if not (slice_index file 0 == 8) then Some BadVersion
     else if has_bad_length file then Some BadLength
-    else if has_bad_map file then Some BadMap
-    else None
+    else if has_bad_map file then Some BadMap else None
 
 -- what is printed of a refusal: hold it against the table of docs/REFUSALS.md
 abbrev pub text_of_story : StoryRefusal → List ℕ

@@ -60,5 +60,4 @@ table_size n = if nat_lt n 32768 then n else 65536 - n
 unfoldable pub table_copied : Memory → ℕ → ℕ → ℕ → Result Memory ZFault
 table_copied mem a b n =
     if b == 0 then cleared mem a (table_size n)
-    else if nat_lt n 32768 then copied_whole mem a b n
-    else copied_on mem a b (table_size n)
+    else if nat_lt n 32768 then copied_whole mem a b n else copied_on mem a b (table_size n)

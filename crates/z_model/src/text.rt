@@ -14,8 +14,7 @@ pub enum Alphabet {
     Low(u8),
 }
 
-/// What a Z-character is read as: a code, behind which the alphabet is A0; another alphabet for the
-/// next one; or an abbreviation.
+/// What a Z-character is read as: a code, behind which the alphabet is A0; another alphabet for the next one; or an abbreviation.
 #[derive(Clone, Copy, Debug, PartialEq, Eq)]
 pub enum Reading {
     Gives(u16),
