@@ -6,6 +6,7 @@ ghost use Rattle.dg_base.specs.TreeView.{value_view, part_view, stmt_view, arm_v
 ghost use Rattle.dg_plain.specs.Building.{built_view, front, behind, init, last_or, wrapped, asked, no_stmt, closing, unbuilt};
 ghost use Rattle.dg_plain.specs.State.{setting_view};
 
+use crate::release::let_go;
 use crate::setting::Setting;
 use crate::standing::standing_for;
 use crate::work::{Asking, Close, Wrap};
