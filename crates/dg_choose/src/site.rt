@@ -63,7 +63,7 @@ fn choose(mode: Mode, branches: u16, site: Site, dice: &mut Dice<'_>) -> u16
     ensures branch { (picks : Picks) → (words : List ℕ) → (n : ℕ) → HasPicked site mode branches picks → HasDrawn dice.old words n →
         result ≡ (choice_by mode branches picks (die words n)).branch }
     ensures drawn { (picks : Picks) → (words : List ℕ) → (n : ℕ) → HasPicked site mode branches picks → HasDrawn dice.old words n →
-        HasDrawn dice.new words (n + (choice mode branches picks (die words n)).drawn) }
+        HasDrawn dice.new words (n + (choice_by mode branches picks (die words n)).drawn) }
     ensures within { result < branches }
 {
     if branches == 1 {
