@@ -13,7 +13,7 @@ use Rattle.dg_base.specs.declared.mentions.Role.TheVariants as role
 use Rattle.dg_base.specs.declared.mentions.Form.TheVariants as form
 use Rattle.dg_plain.specs.Items.{free_number}
 use Rattle.dg_plain.proofs.KeptLemmas.{Hold, front, back, both, three, from_all, to_all, all_front, all_back}
-use Rattle.dg_access.specs.Put.{Access, Argument, Spot, Level, rule_for, parameter_of, with_argument, in_item, within, moved_from, in_closure, in_copy, own_or, own_name, is_own_parameter, argument_for, change_by, with_change, changes_in, list_queries, is_one, changes_behind, made, put_query, change_access, put_change, one_change, level, put_value, put_values, put_parts, given_by, put_stmt, put_stmts, put_body, put_arms, put_changes}
+use Rattle.dg_access.specs.Put.{Access, Argument, Spot, Level, rule_for, parameter_of, with_argument, in_item, in_rule, within, moved_from, in_closure, in_copy, own_or, own_name, is_own_parameter, argument_for, change_by, with_change, changes_in, list_queries, is_one, changes_behind, made, put_query, change_access, put_change, one_change, level, put_value, put_values, put_parts, given_by, put_stmt, put_stmts, put_body, put_arms, put_changes}
 use Rattle.dg_access.specs.Expanded.{access_in, access_rules, signed_rule, head_rules, put_rule, stay, put_said, on_line, put_item, put_items}
 use Rattle.dg_access.specs.Comes as comes
 use Rattle.dg_access.specs.Comes.{is_made, is_turned, PutFrom, MentionsArePut}
@@ -347,21 +347,22 @@ heads_done ts line (tree.change ps set heads) b h k =
     signed_done true rule = to_all (PutFrom ts) (of_rule role.Rule ps b) rule
     signed_done false rule = to_all (PutFrom ts) (of_rule role.Rule ps b) rule
 
-rule_done : (ts : List Thing) (rules : List Access) → RulesHold (Contains ts) rules → (line mark depth : ℕ) (set : Bool) (ps : Parts) (b : Body) → Hold (Contains ts) (of_rule role.Rule ps b) → All (PutFrom ts) (mentioned (on_line line (put_rule (level rules mark depth) set ps b)))
-rule_done ts rules good line mark depth set ps b h =
+rule_done : (ts : List Thing) (rules : List Access) → RulesHold (Contains ts) rules → (line mark depth : ℕ) (said : Said) (set : Bool) (ps : Parts) (b : Body) → Hold (Contains ts) (of_rule role.Rule ps b) → All (PutFrom ts) (mentioned (on_line line (put_rule (level rules mark depth) (in_rule said) set ps b)))
+rule_done ts rules good line mark depth said set ps b h =
     let P = Contains ts in
     let Q = PutFrom ts in
     let l = level rules mark depth in
     let g = level_held rules (Stands ts) P Q (carries_from ts) mark depth good in
-    let heads = put_changes l in_item 0 (one_change set ps) in
-    heads_done ts line heads.0 (put_body l in_item heads.1 b).0
-    (changes_put (Stands ts) P Q l g in_item tt false false 0 (one_change set ps) (record { by = role.Rule; parts = ps; turned = refl; named = refl; there = h.0 }, front P (of_parts false ps) (of_body false b) h.1, tt))
-    (comes.made (branches _) refl, body_put (Stands ts) P Q l g in_item tt false false heads.1 b (back P (of_parts false ps) (of_body false b) h.1).1)
+    let p = in_rule said in
+    let heads = put_changes l p 0 (one_change set ps) in
+    heads_done ts line heads.0 (put_body l p heads.1 b).0
+    (changes_put (Stands ts) P Q l g p tt false false 0 (one_change set ps) (record { by = role.Rule; parts = ps; turned = refl; named = refl; there = h.0 }, front P (of_parts false ps) (of_body false b) h.1, tt))
+    (comes.made (branches _) refl, body_put (Stands ts) P Q l g p tt false false heads.1 b (back P (of_parts false ps) (of_body false b) h.1).1)
 
 said_done : (ts : List Thing) (rules : List Access) → RulesHold (Contains ts) rules → (line : ℕ) (said : Said) → All (Contains ts) (things_in said) → All (PutFrom ts) (mentioned (on_line line (put_said rules said)))
 said_done ts rules good line (tree.topic n) h = All-append (PutFrom ts) (topic_line n ∷ []) [] (All-weaker (Contains ts) (PutFrom ts) comes.same (topic_line n ∷ []) h) (All-nil (PutFrom ts))
-said_done ts rules good line (tree.rule ps b) h = rule_done ts rules good line (free_number (tree.rule ps b)) (length rules) true ps b (from_all (Contains ts) (of_rule role.Rule ps b) h)
-said_done ts rules good line (tree.deny ps b) h = rule_done ts rules good line (free_number (tree.deny ps b)) (length rules) false ps b (from_all (Contains ts) (of_rule role.Rule ps b) h)
+said_done ts rules good line (tree.rule ps b) h = rule_done ts rules good line (free_number (tree.rule ps b)) (length rules) (tree.rule ps b) true ps b (from_all (Contains ts) (of_rule role.Rule ps b) h)
+said_done ts rules good line (tree.deny ps b) h = rule_done ts rules good line (free_number (tree.deny ps b)) (length rules) (tree.deny ps b) false ps b (from_all (Contains ts) (of_rule role.Rule ps b) h)
 said_done ts rules good line (tree.access ps b) h = All-nil (PutFrom ts)
 said_done ts rules good line (tree.global_variable ps) h =
     let P = Contains ts in

@@ -4,7 +4,8 @@ use Rattle.std.proofs.Common.{refl}
 use Rattle.dg_base.specs.Tree as tree
 use Rattle.dg_base.specs.Tree.{Part, Parts, Value, Stmt, Stmts, Body, Changes, parts_of, stmts_of, values_of}
 use Rattle.dg_base.specs.Heads.{name_of}
-use Rattle.dg_access.specs.Put.{Access, use_mark, copy_mark, in_item, level, put_stmt, put_changes, one_change}
+use Rattle.dg_access.specs.Expanded.{put_rule}
+use Rattle.dg_access.specs.Put.{Access, use_mark, copy_mark, in_item, in_rule, level, put_stmt, put_changes, one_change}
 
 abbrev body_of : List Stmt → Body
 body_of ss = tree.branch (stmts_of ss) tree.no_branches
@@ -77,6 +78,14 @@ asks_r n = tree.closure (body_of (tree.ask (ask (codes "r") (tree.variable n ∷
 copies_differ : put_stmt (level twice 0 1) in_item 0 (tree.ask_all (ask (codes "twice") (asks_r (codes "$0") ∷ [])))
     ≡ (tree.group (body_of (tree.ask (ask (codes "p") (asks_r (copy_mark 1 ++ codes "$0") ∷ asks_r (copy_mark 2 ++ codes "$0") ∷ [])) ∷ [])), 3)
 copies_differ = refl
+
+-- `(h (twice {(r $ $_)}))`: what stands in the head and before the body is no copy's own
+abbrev asks_twice : Body
+asks_twice = body_of (tree.ask_all (ask (codes "twice") (asks_r (codes "$0") ∷ [])) ∷ [])
+
+shared_stays : put_rule (level twice 0 1) (in_rule (tree.rule (ask (codes "h") (asks_r (codes "$0") ∷ [])) asks_twice)) true (ask (codes "h") (asks_r (codes "$0") ∷ [])) asks_twice
+    ≡ tree.rule (ask (codes "h") (asks_r (codes "$0") ∷ [])) (body_of (tree.group (body_of (tree.ask (ask (codes "p") (asks_r (codes "$0") ∷ asks_r (codes "$0") ∷ [])) ∷ [])) ∷ [])) ∷ []
+shared_stays = refl
 
 -- `@(a $X) (b [$X $X])`, `@(b $X) (c [$X $X])`, `@(c $X) (end)`: what vanishes is not looked at
 abbrev pair_of : Value → Value

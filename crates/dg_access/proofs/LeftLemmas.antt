@@ -19,7 +19,7 @@ use Rattle.dg_access.specs.Answer.{IsRewritten}
 use Rattle.dg_access.specs.Expanded.{access_in, access_rules, is_kept_builtin, is_closed, is_misplaced, count_values, signed_rule, head_rules, put_rule, put_said, on_line, put_item, put_items}
 use Rattle.dg_access.specs.Left.{is_left, NoneIsLeft, IsPutIn}
 use Rattle.dg_access.specs.Loops.{asks_for, mentions, reaches, loops, first_looping}
-use Rattle.dg_access.specs.Put.{Access, rule_for, in_item, list_queries, changes_in, one_change, level, put_body, put_changes}
+use Rattle.dg_access.specs.Put.{Access, rule_for, in_rule, list_queries, changes_in, one_change, level, put_body, put_changes}
 use Rattle.dg_access.specs.Comes.{is_made}
 use Rattle.dg_access.proofs.AnswerLemmas.{rewritten_open}
 use Rattle.dg_access.proofs.CarryLemmas.{is_kept, is_asked, Carries, ChangesHold, Level_carries, queries_turned, first_branch, body_put, changes_put, none_some}
@@ -356,21 +356,22 @@ heads_out rules line (tree.change ps set heads) b h k =
     signed_out true rule = to_all (Out rules) (of_rule role.Rule ps b) rule
     signed_out false rule = to_all (Out rules) (of_rule role.Rule ps b) rule
 
-rule_out : (rules : List Access) (none : NoneLoops rules rules) (line mark : ℕ) (set : Bool) (ps : Parts) (b : Body) → All (OutItem rules) (on_line line (put_rule (level rules mark (length rules)) set ps b))
-rule_out rules none line mark set ps b =
+rule_out : (rules : List Access) (none : NoneLoops rules rules) (line mark : ℕ) (said : Said) (set : Bool) (ps : Parts) (b : Body) → All (OutItem rules) (on_line line (put_rule (level rules mark (length rules)) (in_rule said) set ps b))
+rule_out rules none line mark said set ps b =
     let d = length rules in
     let l = level rules mark d in
     let g = level_low rules none mark d in
-    let heads = put_changes l in_item 0 (one_change set ps) in
+    let p = in_rule said in
+    let heads = put_changes l p 0 (one_change set ps) in
     let name : LowName rules d (name_of ps) = λ qs q e f. few_reached rules q none (rule_is rules qs q f).there in
-    heads_out rules line heads.0 (put_body l in_item heads.1 b).0
-    (changes_put (LowName rules d) (Low rules d) (Out rules) l g in_item tt false false 0 (one_change set ps) (name, all_low rules none (of_parts false ps), tt))
-    (tt, body_put (LowName rules d) (Low rules d) (Out rules) l g in_item tt false false heads.1 b (all_low rules none (of_branches false b)))
+    heads_out rules line heads.0 (put_body l p heads.1 b).0
+    (changes_put (LowName rules d) (Low rules d) (Out rules) l g p tt false false 0 (one_change set ps) (name, all_low rules none (of_parts false ps), tt))
+    (tt, body_put (LowName rules d) (Low rules d) (Out rules) l g p tt false false heads.1 b (all_low rules none (of_branches false b)))
 
 said_out : (rules : List Access) (none : NoneLoops rules rules) (line : ℕ) (said : Said) → All (OutItem rules) (on_line line (put_said rules said))
 said_out rules none line (tree.topic n) = All-cons (OutItem rules) _ [] (All-cons (Out rules) _ [] tt (All-nil (Out rules))) (All-nil (OutItem rules))
-said_out rules none line (tree.rule ps b) = rule_out rules none line (free_number (tree.rule ps b)) true ps b
-said_out rules none line (tree.deny ps b) = rule_out rules none line (free_number (tree.deny ps b)) false ps b
+said_out rules none line (tree.rule ps b) = rule_out rules none line (free_number (tree.rule ps b)) (tree.rule ps b) true ps b
+said_out rules none line (tree.deny ps b) = rule_out rules none line (free_number (tree.deny ps b)) (tree.deny ps b) false ps b
 said_out rules none line (tree.access ps b) = All-nil (OutItem rules)
 said_out rules none line (tree.global_variable ps) = All-cons (OutItem rules) _ [] tt (All-nil (OutItem rules))
 

@@ -1,5 +1,5 @@
 -- Arguments and what stands around a place.
-use Rattle.std.proofs.Common.{◌≡◌, ◌<◌, ℕ, zero, suc, get_or, List, [], ◌∷◌, Bool, true, false, Option, Some, None, map, drop, refl, sym, ◌∙◌, ap, length, ◌≤◌, arith}
+use Rattle.std.proofs.Common.{◌≡◌, ◌<◌, ℕ, zero, suc, get_or, List, [], ◌∷◌, Bool, true, false, Option, Some, None, map, drop, refl, sym, ◌∙◌, ap, length, nat_lt, ◌≤◌, arith}
 use Rattle.std.specs.Prelude.{if◌then◌else◌}
 use Rattle.std.specs.Borrow.{Bor}
 use Rattle.std.specs.Option.{option_map}
@@ -9,7 +9,8 @@ use Rattle.dg_base.specs.TreeView.{part_view}
 use Rattle.dg_base.specs.Tree as tree
 use Rattle.dg_base.specs.declared.tree.Part.{Part as CodePart}
 use Rattle.dg_base.specs.Tree.{Part, Value, parts_of}
-use Rattle.dg_access.specs.Put.{Access, Argument, Spot, Level, change_access, parameter_of, with_argument, argument_of, given_by, argument_for, put_value}
+use Rattle.dg_scopes.specs.Counts.{times, is_unnamed}
+use Rattle.dg_access.specs.Put.{Access, Argument, Spot, Level, copy_mark, marked, own_name, change_access, parameter_of, with_argument, argument_of, given_by, argument_for, put_value}
 use Rattle.dg_access.specs.inside.Putting.{Around, around_in, outer_view, outer_step, place_step, value_in, argument_or, argument_in}
 use Rattle.dg_access.specs.declared.place.Outer.{Outer, fold-roll-Outer}
 use Rattle.dg_access.specs.declared.place.Outer.TheOpen.{Outer-F}
@@ -28,6 +29,7 @@ outer_within rules' mark p =
       depth = p.now.depth;
       use_number = p.now.use_number;
       copy_number = p.now.copy_number;
+      names = p.now.names;
       moved = p.now.moved;
       closed = p.now.closed;
     }))
@@ -89,3 +91,8 @@ ended hs qs i name le =
 pub changing_some : (set : Bool) (m : Option Access) (r : Access) → change_access set m ≡ Some r → (x : Access) × (m ≡ Some x)
 changing_some set None r e = cc
 changing_some set (Some x) r e = (x, refl)
+
+-- ---- names
+
+pub unnamed_name : (mark : ℕ) (p : Spot) (w : List ℕ) → is_unnamed w ≡ true → own_name mark p w ≡ marked copy_mark (if nat_lt 1 (times w p.names) then p.use_number else p.copy_number) w
+unnamed_name mark p w e = rw e refl

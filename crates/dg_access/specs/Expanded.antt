@@ -11,7 +11,7 @@ use Rattle.dg_base.specs.declared.mentions.Role.TheVariants as role
 use Rattle.dg_base.specs.declared.names.Builtin.{Builtin}
 use Rattle.dg_base.specs.declared.names.Builtin.TheVariants as builtin
 use Rattle.dg_plain.specs.Items.{free_number}
-use Rattle.dg_access.specs.Put.{Access, Level, level, rule_for, in_item, one_change, put_parts, put_changes, put_body}
+use Rattle.dg_access.specs.Put.{Access, Spot, Level, level, rule_for, in_item, in_rule, one_change, put_parts, put_changes, put_body}
 
 -- ---- the rules of an item
 
@@ -38,8 +38,8 @@ head_rules tree.no_changes b = []
 head_rules (tree.change ps set heads) b = signed_rule set ps b ∷ head_rules heads b
 
 -- What becomes of a rule: its head is put in as a change is, of which each gives a rule.
-abbrev pub put_rule : Level → Bool → Parts → Body → List Said
-put_rule l set ps b = let heads = put_changes l in_item 0 (one_change set ps) in head_rules heads.0 (put_body l in_item heads.1 b).0
+abbrev pub put_rule : Level → Spot → Bool → Parts → Body → List Said
+put_rule l p set ps b = let heads = put_changes l p 0 (one_change set ps) in head_rules heads.0 (put_body l p heads.1 b).0
 
 -- A head into which nothing is put.
 abbrev pub stay : Parts → Parts
@@ -48,8 +48,8 @@ stay ps = (put_parts (level [] 0 0) in_item 0 ps).0
 -- What becomes of an item. An access rule is no rule, and a declaration stays.
 abbrev pub put_said : List Access → Said → List Said
 put_said rules (tree.topic n) = tree.topic n ∷ []
-put_said rules (tree.rule ps b) = put_rule (level rules (free_number (tree.rule ps b)) (length rules)) true ps b
-put_said rules (tree.deny ps b) = put_rule (level rules (free_number (tree.deny ps b)) (length rules)) false ps b
+put_said rules (tree.rule ps b) = put_rule (level rules (free_number (tree.rule ps b)) (length rules)) (in_rule (tree.rule ps b)) true ps b
+put_said rules (tree.deny ps b) = put_rule (level rules (free_number (tree.deny ps b)) (length rules)) (in_rule (tree.deny ps b)) false ps b
 put_said rules (tree.access ps b) = []
 put_said rules (tree.global_variable ps) = tree.global_variable (stay ps) ∷ []
 

@@ -1,11 +1,12 @@
 -- What comes of a tree when access rules are put in: hold it against docs/LANGUAGE.md, "Access rules", and the chapter of the Dialog manual on access
 -- predicates.
-use Rattle.std.specs.Prelude.{ℕ, zero, suc, ◌+◌, ◌&&◌, ◌||◌, List, [], ◌∷◌, ◌++◌, Bool, true, false, not, Option, Some, None, codes, decimal, if◌then◌else◌}
+use Rattle.std.specs.Prelude.{ℕ, zero, suc, ◌+◌, ◌&&◌, ◌||◌, List, [], ◌∷◌, ◌++◌, Bool, true, false, not, Option, Some, None, codes, decimal, nat_lt, if◌then◌else◌}
 use Rattle.std.specs.Str.{bytes_eq}
 use Rattle.dg_base.specs.Heads.{name_of}
 use Rattle.dg_base.specs.Tree as tree
-use Rattle.dg_base.specs.Tree.{Part, Parts, Value, Values, Stmt, Stmts, Body, Arms, Changes}
-use Rattle.dg_scopes.specs.Counts.{is_unnamed}
+use Rattle.dg_base.specs.Tree.{Part, Parts, Value, Values, Stmt, Stmts, Body, Arms, Changes, Said}
+use Rattle.dg_base.specs.Mentions.{things_in, names_in, variable_in}
+use Rattle.dg_scopes.specs.Counts.{times, is_unnamed}
 use Rattle.dg_plain.specs.Plain.{choice_mark}
 
 -- An access rule, by the name of its predicate.
@@ -23,23 +24,20 @@ rule_for (r ∷ rs) ps = if bytes_eq r.name (name_of ps) then Some r else rule_f
 abbrev pub Argument : Type 0
 Argument = ℕ → Value × ℕ
 
--- Where something stands: which arguments are put in for which parameters, the number of the access rule's use and of a copied
--- closure, where it stands in one, whether it is itself an argument, and whether a closure is around it.
+-- Where something stands: which arguments are put in for which parameters, the number of the access rule's use and of a copied closure, where it
+-- stands in one, the names that stand in its rule, whether it is itself an argument, and whether a closure is around it.
 pub record Spot : Type 0 where
   pub given : List (List ℕ × Argument)
   pub use_number : Option ℕ
   pub copy_number : Option ℕ
+  pub names : List (List ℕ)
   pub moved : Bool
   pub closed : Bool
 
 -- The name of a parameter in an access rule's head.
-abbrev pub name_in : Value → Option (List ℕ)
-name_in (tree.variable w) = Some w
-name_in v = None
-
 abbrev pub parameter_of : Part → Option (List ℕ)
-parameter_of (tree.part_word w) = None
-parameter_of (tree.part_value v) = name_in v
+parameter_of (tree.part_value (tree.variable w)) = Some w
+parameter_of h = None
 
 abbrev pub with_argument : Option (List ℕ) → Option Argument → List (List ℕ × Argument) → List (List ℕ × Argument)
 with_argument (Some w) (Some argument) given = (w, argument) ∷ given
@@ -48,11 +46,15 @@ with_argument None argument given = given
 
 -- In an item that isn't an access rule.
 abbrev pub in_item : Spot
-in_item = record { given = []; use_number = None; copy_number = None; moved = false; closed = false }
+in_item = record { given = []; use_number = None; copy_number = None; names = []; moved = false; closed = false }
+
+-- In a rule of either sign.
+abbrev pub in_rule : Said → Spot
+in_rule said = record in_item { names = names_in variable_in (things_in said) }
 
 -- In the body of an access rule that is put in.
 abbrev pub within : List (List ℕ × Argument) → ℕ → Spot
-within given n = record { given = given; use_number = Some n; copy_number = Some n; moved = false; closed = false }
+within given n = record { given = given; use_number = Some n; copy_number = Some n; names = []; moved = false; closed = false }
 
 -- An argument stands here, and is put in elsewhere.
 abbrev pub moved_from : Spot → Spot
@@ -62,7 +64,7 @@ moved_from p = record p { moved = true }
 abbrev pub in_closure : Spot → Spot
 in_closure p = record p { closed = true }
 
--- In a closure of an argument, where it is put in: each such copy has anonymous variables of its own.
+-- In a closure of an argument, where it is put in: its own anonymous variables are new in each such copy.
 abbrev pub in_copy : Spot → ℕ → Spot
 in_copy p n = record p { copy_number = Some n; moved = false; closed = true }
 
@@ -70,22 +72,19 @@ in_copy p n = record p { copy_number = Some n; moved = false; closed = true }
 abbrev pub use_mark : ℕ → ℕ → List ℕ
 use_mark mark n = choice_mark mark ++ (decimal n ++ codes "-")
 
--- The name of a variable of an access rule where the rule is put in.
-abbrev pub new_name : ℕ → Option ℕ → List ℕ → List ℕ
-new_name mark None w = w
-new_name mark (Some n) w = use_mark mark n ++ w
-
+-- What the names of anonymous variables begin with, of an access rule that is put in or of a copied closure: they stay anonymous.
 abbrev pub copy_mark : ℕ → List ℕ
 copy_mark n = codes "$" ++ decimal n
 
--- The name of an anonymous variable of an access rule or of a copied closure: it stays one.
-abbrev pub new_unnamed : Option ℕ → List ℕ → List ℕ
-new_unnamed None w = w
-new_unnamed (Some n) w = copy_mark n ++ w
+-- A name behind its mark, where it has a number.
+abbrev pub marked : (ℕ → List ℕ) → Option ℕ → List ℕ → List ℕ
+marked mark None w = w
+marked mark (Some n) w = mark n ++ w
 
--- The name of a variable that is no parameter.
+-- The name of a variable that is no parameter. An anonymous one that stands at several places is no closure's own, and isn't new in a copy.
 abbrev pub own_name : ℕ → Spot → List ℕ → List ℕ
-own_name mark p w = if is_unnamed w then new_unnamed p.copy_number w else new_name mark p.use_number w
+own_name mark p w =
+    if is_unnamed w then marked copy_mark (if nat_lt 1 (times w p.names) then p.use_number else p.copy_number) w else marked (use_mark mark) p.use_number w
 
 abbrev pub argument_for : List (List ℕ × Argument) → List ℕ → Option Argument
 argument_for [] w = None

@@ -1,9 +1,10 @@
 // The names of variables where access rules are put in.
-ghost use Rattle.std.specs.Prelude.{◌≡◌, ◌++◌, IfOk};
+ghost use Rattle.std.specs.Prelude.{◌≡◌, ℕ, ◌++◌, List, IfOk, nat_lt, if◌then◌else◌};
+ghost use Rattle.dg_scopes.specs.Counts.{times};
 ghost use Rattle.dg_access.specs.Put as spec;
-ghost use Rattle.dg_access.specs.inside.Putting.{around};
+ghost use Rattle.dg_access.specs.inside.Putting.{around, around_in};
 
-use crate::place::{Place, Uses};
+use crate::place::{Place, Uses, is_shared};
 use dg_base::{Items, Name};
 use dg_plain::copied;
 use std::alloc::{AllocError, Global};
@@ -37,7 +38,7 @@ fn new_name(
     number: Option<usize>,
     name: &[u8],
 ) -> Result<Name, AllocError>
-    ensures { IfOk result (λ new. new ≡ spec.new_name mark number name.now) }
+    ensures { IfOk result (λ new. new ≡ spec.marked (spec.use_mark mark) number name.now) }
 {
     match number {
         Some(number) => begun(use_mark(alloc, mark, number)?, name),
@@ -46,11 +47,23 @@ fn new_name(
 }
 
 fn new_unnamed(alloc: Global, number: Option<usize>, name: &[u8]) -> Result<Name, AllocError>
-    ensures { IfOk result (λ new. new ≡ spec.new_unnamed number name.now) }
+    ensures { IfOk result (λ new. new ≡ spec.marked spec.copy_mark number name.now) }
 {
     match number {
         Some(number) => begun(copy_mark(alloc, number)?, name),
         None => copied(alloc, name),
+    }
+}
+
+// The number with which an anonymous variable is new.
+fn unnamed_number(at: &Place<'_>, name: &[u8]) -> Option<usize>
+    ensures { (rules : List spec.Access) (mark : ℕ) → result
+        ≡ (if nat_lt 1 (times name.now (around_in rules mark at.now).place.names) then at.now.use_number else at.now.copy_number) }
+{
+    if is_shared(at, name) {
+        at.use_number
+    } else {
+        at.copy_number
     }
 }
 
@@ -64,7 +77,7 @@ pub fn own_name(
     ensures { IfOk result (λ new. new ≡ spec.own_name uses.entry.mark (around uses.entry at.now).place name.now) }
 {
     if name.starts_with(UNNAMED) {
-        new_unnamed(alloc, at.copy_number, name)
+        new_unnamed(alloc, unnamed_number(at, name), name)
     } else {
         new_name(alloc, uses.mark, at.use_number, name)
     }

@@ -1,10 +1,11 @@
 // Where a part of the tree stands that is read.
-ghost use Rattle.std.specs.Prelude.{◌≡◌, ℕ, List, None, map, IfOk};
+ghost use Rattle.std.specs.Prelude.{◌≡◌, ℕ, List, None, map, nat_lt, IfOk};
 ghost use Rattle.std.specs.Option.{option_map};
 ghost use Rattle.dg_base.specs.Tree.{parts_of, stmts_of};
 ghost use Rattle.dg_base.specs.TreeView.{part_view, value_view, stmt_view, body_view};
+ghost use Rattle.dg_scopes.specs.Counts.{times};
 ghost use Rattle.dg_access.specs.Put as spec;
-ghost use Rattle.dg_access.specs.inside.Putting.{access_view, around, around_in, closed_around, copied_around, within_around, argument_given, value_in, argument_or, argument_in};
+ghost use Rattle.dg_access.specs.inside.Putting.{access_view, around, around_in, names_seen, closed_around, copied_around, within_around, argument_given, value_in, argument_or, argument_in};
 
 use crate::access::Access;
 use crate::chains::Rules;
@@ -22,7 +23,7 @@ pub enum Outer<'a> {
 }
 
 /// Where something stands: the arguments that are put in for the parameters around it, with where they stand, how deep it is in
-/// access rules, and how its variables get their names.
+/// access rules, and how its variables get their names. In a rule all names that stand there are known.
 #[cycle(place)]
 #[derive(Clone, Copy)]
 pub struct Place<'a> {
@@ -32,6 +33,7 @@ pub struct Place<'a> {
     pub depth: usize,
     pub use_number: Option<usize>,
     pub copy_number: Option<usize>,
+    pub names: &'a [&'a [u8]],
     pub moved: bool,
     pub closed: bool,
 }
@@ -127,6 +129,26 @@ pub fn is_own_parameter(at: &Place<'_>, name: &[u8]) -> bool
     at.closed && name == PARAMETER
 }
 
+// How often a name stands among these.
+fn times(names: &[&[u8]], name: &[u8]) -> usize
+    ensures { result ≡ times name.now (names_seen names.now) }
+{
+    let mut count = 0;
+    for index in 0..names.len() {
+        if name == names[index] {
+            count += 1;
+        }
+    }
+    count
+}
+
+/// Whether a variable stands at several places of its rule.
+pub fn is_shared(at: &Place<'_>, name: &[u8]) -> bool
+    ensures { (rules : List spec.Access) (mark : ℕ) → result ≡ nat_lt 1 (times name.now (around_in rules mark at.now).place.names) }
+{
+    times(at.names, name) > 1
+}
+
 /// In a closure.
 pub fn in_closure<'a>(uses: Uses<'a>, at: &Place<'a>) -> Result<&'a Place<'a>, AllocError>
     ensures { IfOk result (λ new. around uses.entry new.now ≡ closed_around (around uses.entry at.now)) }
@@ -180,6 +202,7 @@ pub fn within<'a>(
             depth: at.depth.saturating_sub(1),
             use_number: Some(number),
             copy_number: Some(number),
+            names: &[],
             moved: false,
             closed: false,
         },

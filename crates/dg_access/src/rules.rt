@@ -1,13 +1,15 @@
 // Items with access rules put in.
-ghost use Rattle.std.specs.Prelude.{◌≡◌, ◌<◌, ◌*◌, ◌++◌, ◌∷◌, [], None, true, false, length, map, IfOk, IfSome, IfNone, OnOk};
+ghost use Rattle.std.specs.Prelude.{◌≡◌, ◌<◌, ◌*◌, ◌++◌, ◌∷◌, [], None, true, false, map, IfOk, IfSome, IfNone, OnOk};
 ghost use Rattle.std.specs.Option.{option_to_list};
 ghost use Rattle.dg_base.specs.Heads.{name_of};
+ghost use Rattle.dg_base.specs.Mentions.{names_in, variable_in};
+ghost use Rattle.dg_base.specs.Walk.{mention_view, seen, thing_at, things_at};
 ghost use Rattle.dg_base.specs.Tree as tree;
 ghost use Rattle.dg_base.specs.Tree.{changes_of};
 ghost use Rattle.dg_base.specs.TreeView.{body_view, head_view, change_view, said_view, item_view};
 ghost use Rattle.dg_access.specs.Expanded as spec;
-ghost use Rattle.dg_access.specs.Put.{level, in_item, put_body};
-ghost use Rattle.dg_access.specs.inside.Putting.{access_view, around, standing_in};
+ghost use Rattle.dg_access.specs.Put.{in_item, in_rule, put_body};
+ghost use Rattle.dg_access.specs.inside.Putting.{access_view, around, names_seen, standing_in};
 ghost use Rattle.dg_access.specs.inside.Weights.{body_load, IsOver};
 
 use crate::access::Access;
@@ -16,7 +18,7 @@ use crate::expanding::{BuiltBody, Heads, MOST, RULES, body_of, head_of, heads_of
 use crate::place::{Outer, Place, Uses, placed};
 use crate::release::{let_go_body, let_go_head, let_go_heads};
 use bumpalo::Bump;
-use dg_base::{Body, Head, Item, ItemBody, NowChange, name_of};
+use dg_base::{Body, Head, Item, ItemBody, Mention, NowChange, mentions_of, name_of, put};
 use dg_plain::{copied, free_number};
 use std::alloc::{AllocError, Global};
 
@@ -66,9 +68,13 @@ pub fn access_rules<'a>(
     Ok(rules)
 }
 
-// In an item, with so many access rules one in the other.
-fn standing_in<'a>(uses: Uses<'a>, depth: usize) -> Result<&'a Place<'a>, AllocError>
-    ensures { IfOk result (λ new. around uses.entry new.now ≡ standing_in uses.entry depth) }
+// Outside of access rules, with so many of them one in the other.
+fn standing_in<'a>(
+    uses: Uses<'a>,
+    depth: usize,
+    names: &'a [&'a [u8]],
+) -> Result<&'a Place<'a>, AllocError>
+    ensures { IfOk result (λ new. around uses.entry new.now ≡ standing_in uses.entry depth (record in_item { names = names_seen names.now })) }
 {
     placed(
         uses.bump,
@@ -79,9 +85,47 @@ fn standing_in<'a>(uses: Uses<'a>, depth: usize) -> Result<&'a Place<'a>, AllocE
             depth,
             use_number: None,
             copy_number: None,
+            names,
             moved: false,
             closed: false,
         },
+    )
+}
+
+fn add_name<'a>(names: &mut Vec<&'a [u8]>, mention: Mention<'a>) -> Result<(), AllocError>
+    ensures { OnOk result (names_seen names.new.items ≡ names_seen names.old.items ++ names_in variable_in (thing_at (mention_view mention.entry))) }
+{
+    if let Mention::Variable(name) = mention {
+        put(names, name)?;
+    }
+    Ok(())
+}
+
+fn add_names<'a>(names: &mut Vec<&'a [u8]>, mentions: &[Mention<'a>]) -> Result<(), AllocError>
+    ensures { OnOk result (names_seen names.new.items ≡ names_seen names.old.items ++ names_in variable_in (things_at (seen mentions.now))) }
+{
+    for mention in mentions {
+        add_name(names, *mention)?;
+    }
+    Ok(())
+}
+
+// In a rule, with so many access rules one in the other.
+fn in_rule<'a>(
+    alloc: Global,
+    uses: Uses<'a>,
+    depth: usize,
+    said: &'a ItemBody,
+) -> Result<&'a Place<'a>, AllocError>
+    ensures { IfOk result (λ new. around uses.entry new.now ≡ standing_in uses.entry depth (in_rule (said_view said.now))) }
+{
+    let mentions = mentions_of(alloc, said)?;
+    let mut names = Vec::new(alloc);
+    add_names(&mut names, mentions.as_slice())?;
+    standing_in(
+        uses,
+        depth,
+        uses.bump.try_alloc_slice_copy(names.as_slice())?,
     )
 }
 
@@ -176,6 +220,7 @@ fn add_rules<'a>(
 fn put_rule<'a>(
     alloc: Global,
     uses: Uses<'a>,
+    at: &'a Place<'a>,
     out: &mut Vec<Item>,
     line: u32,
     set: bool,
@@ -183,13 +228,10 @@ fn put_rule<'a>(
     body: &'a Body,
 ) -> Result<bool, AllocError>
     ensures added { IfOk result (λ done. done ≡ true → map item_view out.new.items ≡ map item_view out.old.items ++ spec.on_line line
-        (spec.put_rule (level (map access_view uses.entry.rules.all.now) uses.entry.mark (length uses.entry.rules.all.now)) set
-        (head_view head.now) (body_view body.now))) }
+        (spec.put_rule (around uses.entry at.now).at (around uses.entry at.now).place set (head_view head.now) (body_view body.now))) }
     ensures large { IfOk result (λ done. done ≡ false → IsOver (spec.on_line line
-        (spec.put_rule (level (map access_view uses.entry.rules.all.now) uses.entry.mark (length uses.entry.rules.all.now)) set
-        (head_view head.now) (body_view body.now)))) }
+        (spec.put_rule (around uses.entry at.now).at (around uses.entry at.now).place set (head_view head.now) (body_view body.now)))) }
 {
-    let at = standing_in(uses, uses.rules.all.len())?;
     match heads_of(alloc, uses, at, set, head)? {
         Some(heads) => add_rules(alloc, uses, at, out, line, heads, body),
         None => Ok(false),
@@ -209,7 +251,7 @@ fn put_declaration<'a>(
     ensures large { IfOk result (λ done. done ≡ false → IsOver (spec.on_line line (tree.global_variable (spec.stay (head_view head.now)) ∷ []))) }
 {
     let unmarked = Uses { mark: 0, ..uses };
-    let at = standing_in(unmarked, 0)?;
+    let at = standing_in(unmarked, 0, &[])?;
     match head_of(alloc, unmarked, at, head)? {
         Some(head) => {
             out.push(Item {
@@ -247,10 +289,11 @@ pub fn put_item<'a>(
 {
     let mark = free_number(alloc, &item.body)?;
     let uses = Uses { bump, rules, mark };
+    let at = in_rule(alloc, uses, rules.all.len(), &item.body)?;
     match &item.body {
         ItemBody::Topic(name) => put_topic(alloc, out, item.line, name.as_slice()),
-        ItemBody::Rule(head, body) => put_rule(alloc, uses, out, item.line, true, head, body),
-        ItemBody::Deny(head, body) => put_rule(alloc, uses, out, item.line, false, head, body),
+        ItemBody::Rule(head, body) => put_rule(alloc, uses, at, out, item.line, true, head, body),
+        ItemBody::Deny(head, body) => put_rule(alloc, uses, at, out, item.line, false, head, body),
         ItemBody::Access(_, _) => Ok(true),
         ItemBody::Variable(head) => put_declaration(alloc, uses, out, item.line, head),
     }

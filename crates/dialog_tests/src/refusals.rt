@@ -50,6 +50,14 @@ p.dg:3: cannot be changed here
 === 1
 p.dg:2: cannot be changed here
 >>> debug p.dg
+%% 35 anonymous variables that stand in the head and in the body, and 30 of an access rule.
+@(q $C) (r $C)
+@(more) (y $A $B $C $D $E $F $G $H $I $J $K $L) (y $M $N $O $P $Q $R $S $T $U $V $W $X) (z $AA $BB $CC $DD $EE $FF)
+(p (q {(x $ $ $ $ $ $ $ $ $ $ $ $) (x $ $ $ $ $ $ $ $ $ $ $ $) (u $ $ $ $ $ $ $ $ $ $ $)})) (more)
+(program entry point) x
+=== 1
+p.dg:4: too many
+>>> debug p.dg
 
 === 1
 p.dg:1: no rule for (program entry point)

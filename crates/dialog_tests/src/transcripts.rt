@@ -77,6 +77,54 @@ n
 1 1 2
 done
 >>> debug p.dg
+%% An anonymous variable of a nested query's first place stands in the head and in the body: no copy of a closure has one of its own.
+@(q $C) (r $C)
+(r $C) (query $C)
+(x $V) (if) (bound $V) (then) old (else) ($V = 1) new (endif)
+(p (q {(x $)}))
+(program entry point) (p $C) (query $C)
+=== 0
+new old
+>>> debug p.dg
+@(q $C) (r $C)
+@(h $C) (k $C)
+(r $C) (query $C)
+(x $V) (if) (bound $V) (then) old (else) ($V = 1) new (endif)
+(h (q {(x $)}))
+(program entry point) (h $C) (query $C)
+=== 0
+new old
+>>> debug p.dg
+@(q $C) (r $C) (r $C)
+@(y $V) (x $V)
+(r $C) (query $C)
+(x $V) (if) (bound $V) (then) old (else) ($V = 1) new (endif)
+(p (q {(y $)}))
+(program entry point) (p $C) (query $C)
+=== 0
+new old old
+>>> debug p.dg
+%% An own one of an argument's closure is new where the argument is put in, also of a closure within and beside an access query.
+@(q $C) (r $C) (r $C)
+@(y $V) (x $V)
+(r $C) (query $C)
+(x $V) (if) (bound $V) (then) old (else) ($V = 1) new (endif)
+(program entry point) (q {(x $)}) (line) (q {(r {(y $)})}) (line) (q {(q {(x $)})}) (line) (p $C) (query $C)
+(p {(y $)}) (q {(y $)})
+=== 0
+new new
+new new
+new new new new
+new new new
+>>> debug p.dg
+%% 64 variables in a rule: 34 anonymous ones that stand in the head and in the body, and 30 of an access rule.
+@(q $C) (r $C)
+@(more) (y $A $B $C $D $E $F $G $H $I $J $K $L) (y $M $N $O $P $Q $R $S $T $U $V $W $X) (z $AA $BB $CC $DD $EE $FF)
+(p (q {(x $ $ $ $ $ $ $ $ $ $ $ $) (x $ $ $ $ $ $ $ $ $ $ $ $) (u $ $ $ $ $ $ $ $ $ $)})) (more)
+(program entry point) x
+=== 0
+x
+>>> debug p.dg
 %% The cut leaves the inner gathering half full.
 (p 1)
 (a) (collect $X) *(p $X) (just) (fail) (into $)

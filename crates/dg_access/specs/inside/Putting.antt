@@ -15,7 +15,7 @@ use Rattle.dg_plain.specs.declared.work.Close.TheVariants as close
 use Rattle.dg_plain.specs.declared.work.Wrap.{Wrap}
 use Rattle.dg_plain.specs.declared.work.Wrap.TheVariants as wrap
 use Rattle.dg_plain.specs.declared.built.Built.{Built as CodeBuilt}
-use Rattle.dg_access.specs.Put.{Access, Spot, Level, level, given_by, moved_from, in_item, within, in_closure, in_copy, parameter_of, one_change, put_value, put_values, put_parts, put_stmt, put_stmts, put_body, put_arms, put_changes, changes_in}
+use Rattle.dg_access.specs.Put.{Access, Spot, Level, level, given_by, moved_from, within, in_closure, in_copy, parameter_of, one_change, put_value, put_values, put_parts, put_stmt, put_stmts, put_body, put_arms, put_changes, changes_in}
 use Rattle.dg_access.specs.declared.access.Access.{Access as CodeAccess}
 use Rattle.dg_access.specs.declared.place.Outer.{Outer, fold-Outer}
 use Rattle.dg_access.specs.declared.place.Outer.TheOpen.{Outer-F, Place-F}
@@ -39,6 +39,10 @@ abbrev pub given_from : Option Around → List CodePart → List CodePart → Li
 given_from None params args = []
 given_from (Some o) params args = given_by o.at o.place (parts_of (map part_view params)) (parts_of (map part_view args))
 
+-- Names, as plain data.
+abbrev pub names_seen : List (Bor (List ℕ)) → List (List ℕ)
+names_seen names = map (λ (w : Bor (List ℕ)). w.now) names
+
 -- A place, with what is outside of it being plain data already.
 abbrev pub place_step : List Access → ℕ → Place-F (Option Around) Around → Around
 place_step rules mark p = record {
@@ -47,6 +51,7 @@ place_step rules mark p = record {
     given = given_from p.outer p.params.now p.args.now;
     use_number = p.use_number;
     copy_number = p.copy_number;
+    names = names_seen p.names.now;
     moved = p.moved;
     closed = p.closed;
   };
@@ -68,6 +73,7 @@ around_in rules mark p = place_step rules mark (record {
   depth = p.depth;
   use_number = p.use_number;
   copy_number = p.copy_number;
+  names = p.names;
   moved = p.moved;
   closed = p.closed;
 })
@@ -76,9 +82,9 @@ around_in rules mark p = place_step rules mark (record {
 abbrev pub around : Uses → CodePlace → Around
 around u p = around_in (map access_view u.rules.all.now) u.mark p
 
--- In an item, with so many access rules one in the other.
-abbrev pub standing_in : Uses → ℕ → Around
-standing_in u depth = record { at = level (map access_view u.rules.all.now) u.mark depth; place = in_item }
+-- At a place outside of access rules, with so many of them one in the other.
+abbrev pub standing_in : Uses → ℕ → Spot → Around
+standing_in u depth p = record { at = level (map access_view u.rules.all.now) u.mark depth; place = p }
 
 abbrev pub closed_around : Around → Around
 closed_around a = record a { place = in_closure a.place }
