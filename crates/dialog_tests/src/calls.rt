@@ -48,7 +48,7 @@ pub fn gives(
     let mut input = SureSource::new(typed.to_vec(alloc)?);
     let mut shelf = SureShelf::new(alloc);
     shelf.add(name, file)?;
-    answers(rt, alloc, line, &mut shelf, &mut input, 200, wanted)
+    answers(rt, alloc, line, &mut shelf, &mut input, 4000, wanted)
 }
 
 // The story that is built of a source.

@@ -1,5 +1,7 @@
-// Runs of millions of goals, in the memory that was taken for them before the first.
-use crate::calls::play_all;
+// Long runs and long values: millions of goals in the memory that was taken for them before the first, and what meets a limit.
+use crate::calls::{gives, play_all};
+use std::alloc::Global;
+use std::process::Abort;
 use std::test::Fail;
 
 // One fails and begins anew, one ends with a call of itself, with a choice behind it, and one counts down by last calls, fails at
@@ -25,4 +27,73 @@ const RUNS: &str = "
 #[test]
 fn long_runs_stay_in_their_memory(rt: HostRuntime) -> Result<(), Fail> {
     play_all(&rt, rt.alloc(), RUNS)
+}
+
+// Words that run a source, the source, and with how many x its run meets the heap's limit, with what status. A query takes six
+// cells, and a rule with another first argument none. A story has 10,000 cells.
+const FULL: &[(&str, &str, usize, u8)] = &[
+    (
+        "debug p.dg --heap 1000 --steps 100000",
+        "(d @a) x (d @a)\n(d @b)\n(program entry point) (d @a)",
+        165,
+        3,
+    ),
+    (
+        "debug p.dg --heap 10000",
+        "(p) x (p)\n(program entry point) (p)",
+        1665,
+        3,
+    ),
+    (
+        "run p.dg --steps 200000000",
+        "(p) x (p)\n(program entry point) (p)",
+        1665,
+        0,
+    ),
+];
+
+fn is_full(rt: &impl Abort, alloc: Global, row: &(&str, &str, usize, u8)) -> Result<(), Fail> {
+    let (line, source, count, status) = row;
+    let printed = "x ".repeat(alloc, *count)?;
+    let text = format!(in alloc; "{}\n[Heap limit]\n", printed.trim_end())?;
+    gives(
+        rt,
+        alloc,
+        line,
+        "p.dg",
+        source.as_bytes(),
+        b"",
+        (*status, text.as_str()),
+    )
+}
+
+#[test]
+fn a_heap_holds_so_many_queries(rt: HostRuntime) -> Result<(), Fail> {
+    for row in FULL {
+        is_full(&rt, rt.alloc(), row)?;
+    }
+    Ok(())
+}
+
+// How many words a list has that is kept from the start, and the only line of its run. A pair and a word are two cells more.
+const KEPT: &[(usize, (u8, &str))] = &[(10, (0, "x\n")), (5000, (3, "[Keep limit]\n"))];
+
+#[test]
+fn what_starts_set_is_kept_or_ends_the_run(rt: HostRuntime) -> Result<(), Fail> {
+    for (count, wanted) in KEPT {
+        let list = "a ".repeat(rt.alloc(), *count)?;
+        let source = format!(in rt.alloc();
+            "(global variable (l [{list}]))\n(program entry point) x"
+        )?;
+        gives(
+            &rt,
+            rt.alloc(),
+            "debug p.dg",
+            "p.dg",
+            source.as_bytes(),
+            b"",
+            *wanted,
+        )?;
+    }
+    Ok(())
 }

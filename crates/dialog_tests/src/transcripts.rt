@@ -361,6 +361,52 @@ no
 (program entry point) (none)
 === 0
 [Failed]
+>>> debug p.dg
+(program entry point) Well , (no space) done . (par) Next (line) (line) end
+=== 0
+Well,done.
+
+Next
+end
+>>> debug p.dg
+(program entry point) (if) (16383 plus 1 into $) (then) yes (else) no (endif)
+=== 0
+no
+>>> debug p.dg
+(program entry point) (stoppable) { one (stop) two } three
+=== 0
+one three
+>>> debug p.dg
+(program entry point) one (stop)
+=== 0
+one
+[Stopped]
+>>> debug p.dg
+(program entry point) (fail)
+=== 0
+[Failed]
+>>> debug p.dg
+(p 1)
+(p 2)
+(program entry point) (collect $X) *(p $X) (into $L) $L
+=== 0
+[1 2]
+>>> debug p.dg --trail 2
+(program entry point) { ($X = 1) x ($Y = 2) y ($Z = 3) z (or) none } done
+=== 3
+x y
+[Trail limit]
+>>> debug p.dg --trail 3
+(program entry point) { ($X = 1) x ($Y = 2) y ($Z = 3) z (or) none } done
+=== 0
+x y z done
+>>> make 400
+
+=== 0
+source 807 lines 15106 bytes
+output 4991 bytes
+goals 4007
+ending Done
 >>> singles p.dg
 (p) *(q $X) (just) $X (fail)
 (p) second

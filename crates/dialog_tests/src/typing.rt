@@ -70,6 +70,100 @@ a12 n
 [Failed]
 "#;
 
+// A game, in which the world changes and its rules are asked for what was typed.
+const GAME: &str = r##"
+>>> debug p.dg
+(global variable (here #hall))
+(global variable (turns 0))
+@($X is held)
+  ($X has parent #you)
+
+#hall
+(name *) the hall
+(* leads @north to #cellar)
+
+#cellar
+(name *) the cellar
+(* leads @south to #hall)
+
+#lamp
+(name *) a brass lamp
+(* has parent #hall)
+(noun @lamp is *)
+
+(look)
+  (here $R) (uppercase) (name $R) . (line)
+  (exhaust) {
+    *($T has parent $R)
+    There is (name $T) here. (line)
+  }
+
+(perform [look/l]) (look)
+(perform [take/get $W])
+  (noun $W is $T)
+  (if) ($T is held) (then) You have it.
+  (elseif) (here $R) ($T has parent $R) (then)
+    (now) ($T is held) Taken.
+  (else) It is not here. (endif)
+(perform [drop $W])
+  (noun $W is $T) ($T is held) (here $R)
+  (now) ($T has parent $R) Dropped.
+(perform [go $D])
+  (here $R)
+  (if) ($R leads $D to $N) (then) (now) (here $N) (look)
+  (else) You cannot go that way. (endif)
+(perform [inventory/i])
+  You carry
+  (if) ($T is held) (then) (name $T) (else) nothing (endif) .
+(perform [quit]) Goodbye. (quit)
+
+(program entry point)
+  (look)
+  *(repeat forever)
+  (par) > (get input $Words)
+  (turns $N) ($N plus 1 into $M) (now) (turns $M)
+  (if) (perform $Words) (then) (else) What? (endif)
+  (fail)
+<<<
+look
+take lamp
+inventory
+go north
+drop lamp
+look
+dance
+quit
+=== 0
+The hall.
+There is a brass lamp here.
+
+>
+The hall.
+There is a brass lamp here.
+
+>
+Taken.
+
+>
+You carry a brass lamp.
+
+>
+The cellar.
+
+>
+Dropped.
+
+>
+The cellar.
+There is a brass lamp here.
+
+>
+What?
+
+>
+Goodbye.
+"##;
+
 const ECHO: &[u8] = b"(program entry point) (get input $W) $W";
 
 // Bytes that no text can show: what is typed, and what is written.
@@ -80,7 +174,8 @@ const BYTES: &[(&[u8], &str)] = &[
 
 #[test]
 fn typed_lines_are_read(rt: HostRuntime) -> Result<(), Fail> {
-    play_all(&rt, rt.alloc(), TYPED)
+    play_all(&rt, rt.alloc(), TYPED)?;
+    play_all(&rt, rt.alloc(), GAME)
 }
 
 #[test]
