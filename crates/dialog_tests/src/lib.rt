@@ -26,6 +26,8 @@ mod prompts;
 #[cfg(test)]
 mod refusals;
 #[cfg(test)]
+mod routines;
+#[cfg(test)]
 mod spacing;
 #[cfg(test)]
 mod stories;
