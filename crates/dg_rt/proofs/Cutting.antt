@@ -18,7 +18,7 @@ use Rattle.dg_rt.proofs.Standing.{cut_at}
 use Rattle.dg_rt.proofs.Locals.{older, not_older}
 
 -- choices stay where the heap does
-chain_same : (cells cells' : ℕ → ℕ) (word : ℕ) (ks : List ℕ) → ((k : ℕ) → cells' (heap_at + k) ≡ cells (heap_at + k)) → Chain cells word ks → Chain cells' word ks
+pub chain_same : (cells cells' : ℕ → ℕ) (word : ℕ) (ks : List ℕ) → ((k : ℕ) → cells' (heap_at + k) ≡ cells (heap_at + k)) → Chain cells word ks → Chain cells' word ks
 chain_same cells cells' word [] same h = h
 chain_same cells cells' word (k ∷ ks) same h = (h.0, h.1, subst (λ (x : ℕ). Chain cells' x ks) (sym (same k)) (chain_same cells cells' (cells (heap_at + k)) ks same h.2))
 

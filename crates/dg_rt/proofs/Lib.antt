@@ -41,4 +41,5 @@ pub mod Puts
 pub mod Keying
 pub mod Finding
 pub mod Matching
+pub mod Leaving
 pub mod Fitting

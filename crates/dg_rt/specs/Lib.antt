@@ -14,5 +14,6 @@ pub mod Charges
 pub mod Frames
 pub mod Choices
 pub mod Rules
+pub mod Queries
 pub mod Fits
 pub mod inside

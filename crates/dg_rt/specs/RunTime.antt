@@ -11,6 +11,7 @@ use Rattle.dg_rt.specs.declared.heap.TheConstants.{CHARGE_ACTS}
 use Rattle.dg_rt.specs.declared.frames.TheConstants.{VAR_ACTS, CAPTURE_ACTS, ENTER_ACTS}
 use Rattle.dg_rt.specs.declared.choices.TheConstants.{CUT_ACTS, OPEN_ACTS, FAIL_ACTS, COMMIT_ACTS}
 use Rattle.dg_rt.specs.declared.rules.TheConstants.{KEY_OF_ACTS, FOUND_ACTS, NONE_ACTS, MATCH_ACTS, MATCHED_ACTS}
+use Rattle.dg_rt.specs.declared.queries.TheConstants.{LEAVE_ACTS}
 use Rattle.dg_rt.specs.Areas.{IsMapped}
 
 -- A routine of so many locals.
@@ -41,9 +42,13 @@ rule_routines =
     routine_of 1 COMMIT_ACTS ∷ routine_of 4 KEY_OF_ACTS ∷ routine_of 4 FOUND_ACTS ∷ routine_of 0 NONE_ACTS ∷ routine_of 4 MATCH_ACTS
     ∷ routine_of 1 MATCHED_ACTS ∷ []
 
+-- Those of queries and their answers.
+abbrev pub query_routines : List Routine
+query_routines = routine_of 4 LEAVE_ACTS ∷ []
+
 -- All of them. The first has number 1, since a story begins with routine 0.
 abbrev pub runtime : List Routine
-runtime = value_routines ++ (closing_routines ++ (frame_routines ++ rule_routines))
+runtime = value_routines ++ (closing_routines ++ (frame_routines ++ (rule_routines ++ query_routines)))
 
 -- The run-time stands in a program: its areas may be written, and each routine has its number.
 pub record HasRunTime (p : Program) : Type 0 where

@@ -6,6 +6,7 @@ ghost use Rattle.dg_rt.specs.CopiesIn.{CopyInWorks};
 ghost use Rattle.dg_rt.specs.Choices.{CommitWorks, CutWorks, FailWorks, OpenWorks};
 ghost use Rattle.dg_rt.specs.Frames.{CaptureWorks, EnterWorks, VarWorks};
 ghost use Rattle.dg_rt.specs.Fits.{RuntimeFits};
+ghost use Rattle.dg_rt.specs.Queries.{LeaveWorks};
 ghost use Rattle.dg_rt.specs.Rules.{FoundWorks, KeyWorks, MatchWorks, MatchedWorks, NoneWorks};
 ghost use Rattle.dg_rt.specs.Undoes.{UndoGivesBack, UndoUnwinds};
 ghost use Rattle.dg_rt.specs.Unifies.{UnifyWorks};
@@ -103,6 +104,11 @@ pub fn match_works()
 /// The routine behind the last argument answers what comes next.
 pub fn matched_works()
     ensures { MatchedWorks }
+{}
+
+/// The routine that answers a rule does so.
+pub fn leave_works()
+    ensures { LeaveWorks }
 {}
 
 /// The routines can be assembled.

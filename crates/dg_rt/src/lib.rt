@@ -9,6 +9,7 @@ mod frames;
 mod heap;
 mod laws;
 mod numbers;
+mod queries;
 mod registers;
 mod routines;
 mod rules;
@@ -25,14 +26,15 @@ pub use frames::{CAPTURE_ACTS, ENTER_ACTS, VAR_ACTS};
 pub use heap::CHARGE_ACTS;
 pub use laws::{
     capture_works, charge_works, closings_work, commit_works, copy_in_works, copy_works, cut_works,
-    enter_works, fail_works, found_works, key_works, match_works, matched_works, none_works,
-    open_works, runtime_fits, undo_gives_back, undo_unwinds, unify_works, var_works,
+    enter_works, fail_works, found_works, key_works, leave_works, match_works, matched_works,
+    none_works, open_works, runtime_fits, undo_gives_back, undo_unwinds, unify_works, var_works,
 };
 pub use numbers::{
     AUX_LIMIT, BIND, CAPTURE, CHARGE, COMMIT, COPY_IN, COPY_OUT, CUT, DONE, ENTER, FAIL, FAILED,
-    FOUND, HEAP_LIMIT, KEEP_LIMIT, KEY_OF, MATCH, MATCHED, NEWLINE, NONE, OCCURS, OPEN, STOPPED,
-    TRAIL_LIMIT, UNDO, UNIFY, VAR, WALK,
+    FOUND, HEAP_LIMIT, KEEP_LIMIT, KEY_OF, LEAVE, MATCH, MATCHED, NEWLINE, NONE, OCCURS, OPEN,
+    STOPPED, TRAIL_LIMIT, UNDO, UNIFY, VAR, WALK,
 };
+pub use queries::LEAVE_ACTS;
 pub use registers::{
     ARGS, BACK, BEGIN, CHOICE, CLASH, CUT_TO, FILL, FRAME, FROM, HEAP, INNER, KEY, LAST, MANY,
     MARK, PARAMETERS, STOP, TERM, TRAIL, WORD,

@@ -83,3 +83,6 @@ pub const MATCH: u16 = 27;
 
 /// Behind the last argument.
 pub const MATCHED: u16 = 28;
+
+/// Answers a rule.
+pub const LEAVE: u16 = 29;

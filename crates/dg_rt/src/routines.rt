@@ -10,6 +10,7 @@ use crate::closings::{
 use crate::copies::{COPY_IN_ACTS, COPY_OUT_ACTS};
 use crate::frames::{CAPTURE_ACTS, ENTER_ACTS, VAR_ACTS};
 use crate::heap::CHARGE_ACTS;
+use crate::queries::LEAVE_ACTS;
 use crate::rules::{FOUND_ACTS, KEY_OF_ACTS, MATCH_ACTS, MATCHED_ACTS, NONE_ACTS};
 use crate::unify::{BIND_ACTS, OCCURS_ACTS, UNDO_ACTS, UNIFY_ACTS, WALK_ACTS};
 use sqlite_items::Items;
@@ -87,6 +88,14 @@ impl Writer {
         self.put(1, &MATCHED_ACTS)?;
         Ok(())
     }
+
+    // Those of queries and their answers.
+    fn put_queries(&mut self) -> Result<(), AllocError>
+        ensures { OnOk result (self.new.all ≡ self.old.all ++ spec.query_routines) }
+    {
+        self.put(4, &LEAVE_ACTS)?;
+        Ok(())
+    }
 }
 
 /// All of them, in the order of their numbers, the first of which is 1: a story begins with routine 0.
@@ -101,5 +110,6 @@ pub fn runtime(alloc: Global) -> Result<Items<Routine>, AllocError>
     writer.put_closings()?;
     writer.put_frames()?;
     writer.put_rules()?;
+    writer.put_queries()?;
     Ok(writer.all)
 }
