@@ -42,4 +42,5 @@ pub mod Keying
 pub mod Finding
 pub mod Matching
 pub mod Leaving
+pub mod Asking
 pub mod Fitting

@@ -1,11 +1,12 @@
 -- Where the routines of the run-time stand.
 use Rattle.std.proofs.Common.{◌≡◌, Some, refl}
 use Rattle.z_lang.specs.State.{Program}
-use Rattle.dg_rt.specs.declared.numbers.TheConstants.{WALK, BIND, OCCURS, UNIFY, UNDO, COPY_OUT, COPY_IN, NEWLINE, HEAP_LIMIT, TRAIL_LIMIT, CUT}
+use Rattle.dg_rt.specs.declared.numbers.TheConstants.{WALK, BIND, OCCURS, UNIFY, UNDO, COPY_OUT, COPY_IN, NEWLINE, HEAP_LIMIT, TRAIL_LIMIT, CUT, KEY_OF}
 use Rattle.dg_rt.specs.declared.unify.TheConstants.{WALK_ACTS, BIND_ACTS, OCCURS_ACTS, UNIFY_ACTS, UNDO_ACTS}
 use Rattle.dg_rt.specs.declared.copies.TheConstants.{COPY_OUT_ACTS, COPY_IN_ACTS}
 use Rattle.dg_rt.specs.declared.closings.TheConstants.{NEWLINE_ACTS, HEAP_LIMIT_ACTS, TRAIL_LIMIT_ACTS}
 use Rattle.dg_rt.specs.declared.choices.TheConstants.{CUT_ACTS}
+use Rattle.dg_rt.specs.declared.rules.TheConstants.{KEY_OF_ACTS}
 use Rattle.dg_rt.specs.RunTime.{routine_of, HasRunTime}
 
 module _ (p : Program) (has : HasRunTime p) where
@@ -41,3 +42,6 @@ module _ (p : Program) (has : HasRunTime p) where
 
   pub cut_at : p.routine_at (p.names.routine CUT) ≡ Some (routine_of 1 CUT_ACTS)
   cut_at = has.each 18 (routine_of 1 CUT_ACTS) refl
+
+  pub key_of_at : p.routine_at (p.names.routine KEY_OF) ≡ Some (routine_of 4 KEY_OF_ACTS)
+  key_of_at = has.each 23 (routine_of 4 KEY_OF_ACTS) refl

@@ -1,15 +1,19 @@
 -- What the routines do that are called around the rules of a query. Hold it against dg_mid/specs/Step.antt, where it says what a query goes on with and
 -- what comes behind the answer of a rule.
 use Rattle.std.specs.Prelude.{◌≡◌, ◌≢◌, ℕ, ◌+◌, ◌*◌, ◌<◌, ◌≤◌, List, [], ◌∷◌, Bool, true, false}
+use Rattle.dg_meaning.specs.Values.{Value}
+use Rattle.dg_meaning.specs.Substitutions.{Substitution, walk, links}
 use Rattle.z_lang.specs.State.{Program}
 use Rattle.z_lang.specs.Runs.{ActsRun as Runs, Returns}
 use Rattle.dg_rt.specs.declared.numbers.TheConstants.{FAIL}
-use Rattle.dg_rt.specs.declared.queries.TheConstants.{LEAVE_ACTS}
+use Rattle.dg_rt.specs.declared.queries.TheConstants.{LEAVE_ACTS, ASK_ACTS}
 use Rattle.dg_rt.specs.Cells.{Holds, bit}
-use Rattle.dg_rt.specs.Areas.{heap_at, frame_reg, choice_reg, inner_reg, IsMapped, state}
+use Rattle.dg_rt.specs.Areas.{heap_at, heap_reg, frame_reg, choice_reg, inner_reg, back_reg, cut_reg, many_reg, key_reg, begin_reg, args_reg, IsMapped, state}
+use Rattle.dg_rt.specs.Shapes.{Shape, IsShape, Shows, Stands}
 use Rattle.dg_rt.specs.Back.{at_place}
 use Rattle.dg_rt.specs.RunTime.{HasRunTime}
 use Rattle.dg_rt.specs.Choices.{Chain, left_of, dropped_of}
+use Rattle.dg_rt.specs.Rules.{KeyIs}
 
 -- ## Answers
 
@@ -49,3 +53,33 @@ pub record LeaveWorks : Type 0 where
       Holds p.world.layout memory cells → cells frame_reg ≡ 0 →
       Runs p f w LEAVE_ACTS LEAVE_ACTS (state memory (0 ∷ 0 ∷ 0 ∷ 0 ∷ []) typed drawn output) (Returns (p.names.routine FAIL))
       (state memory (0 ∷ 0 ∷ 0 ∷ 0 ∷ []) typed drawn output) 2
+
+-- ## Asking
+
+-- A predicate was asked: what comes behind an answer, whether all are wanted, and a place to cut to, the top of the heap, are in the registers, with the
+-- key of the first argument, and no rule is found yet.
+pub record Asks (p : Program) (f w : ℕ) (memory typed output : List ℕ) (drawn routine many first top : ℕ) (cells : ℕ → ℕ) (IsKey : ℕ → Type 0)
+    (most : ℕ) : Type 0 where
+  pub memory' : List ℕ
+  pub cells' : ℕ → ℕ
+  pub holds : Holds p.world.layout memory' cells'
+  pub back : cells' back_reg ≡ routine
+  pub wanted : cells' many_reg ≡ many
+  pub cut : cells' cut_reg ≡ at_place top
+  pub begin : cells' begin_reg ≡ 0
+  pub key : IsKey (cells' key_reg)
+  pub others : (k : ℕ) → k ≢ back_reg → k ≢ many_reg → k ≢ cut_reg → k ≢ begin_reg → k ≢ key_reg → cells' k ≡ cells k
+  pub count : ℕ
+  pub few : count ≤ most
+  pub runs : Runs p f w ASK_ACTS ASK_ACTS (state memory (routine ∷ many ∷ first ∷ 0 ∷ []) typed drawn output) (Returns 0)
+      (state memory' (routine ∷ many ∷ first ∷ 0 ∷ []) typed drawn output) count
+
+-- So it is with any first argument, in 5 instructions a link of it and 20, and without one in 7; a key of 32,768 excludes no rule.
+pub record AskWorks : Type 0 where
+  pub asks : (p : Program) → HasRunTime p → (f w : ℕ) → 2 ≤ f → 8 ≤ w → (memory typed output : List ℕ) (drawn routine many top : ℕ) (sh : Shape) →
+      IsShape sh → (cells : ℕ → ℕ) → Holds p.world.layout memory cells → (S : Substitution) → Stands sh cells S → (v : Value) →
+      Shows sh (cells args_reg) v → cells heap_reg ≡ top → top ≤ 10000 → routine < 65536 → many < 65536 →
+      Asks p f w memory typed output drawn routine many 1 top cells (KeyIs (walk S v)) (5 * links S v + 20)
+  pub has_none : (p : Program) → HasRunTime p → (f w : ℕ) (memory typed output : List ℕ) (drawn routine many top : ℕ) (cells : ℕ → ℕ) →
+      Holds p.world.layout memory cells → cells heap_reg ≡ top → top ≤ 10000 → routine < 65536 → many < 65536 →
+      Asks p f w memory typed output drawn routine many 0 top cells (λ key. key ≡ 32768) 7

@@ -6,7 +6,7 @@ ghost use Rattle.dg_rt.specs.CopiesIn.{CopyInWorks};
 ghost use Rattle.dg_rt.specs.Choices.{CommitWorks, CutWorks, FailWorks, OpenWorks};
 ghost use Rattle.dg_rt.specs.Frames.{CaptureWorks, EnterWorks, VarWorks};
 ghost use Rattle.dg_rt.specs.Fits.{RuntimeFits};
-ghost use Rattle.dg_rt.specs.Queries.{LeaveWorks};
+ghost use Rattle.dg_rt.specs.Queries.{AskWorks, LeaveWorks};
 ghost use Rattle.dg_rt.specs.Rules.{FoundWorks, KeyWorks, MatchWorks, MatchedWorks, NoneWorks};
 ghost use Rattle.dg_rt.specs.Undoes.{UndoGivesBack, UndoUnwinds};
 ghost use Rattle.dg_rt.specs.Unifies.{UnifyWorks};
@@ -109,6 +109,11 @@ pub fn matched_works()
 /// The routine that answers a rule does so.
 pub fn leave_works()
     ensures { LeaveWorks }
+{}
+
+/// The routine that asks a predicate does so.
+pub fn ask_works()
+    ensures { AskWorks }
 {}
 
 /// The routines can be assembled.

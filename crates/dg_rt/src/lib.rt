@@ -8,9 +8,9 @@ mod copies;
 mod frames;
 mod heap;
 mod laws;
-mod numbers;
+pub mod numbers;
 mod queries;
-mod registers;
+pub mod registers;
 mod routines;
 mod rules;
 mod unify;
@@ -25,20 +25,12 @@ pub use copies::{COPY_IN_ACTS, COPY_OUT_ACTS};
 pub use frames::{CAPTURE_ACTS, ENTER_ACTS, VAR_ACTS};
 pub use heap::CHARGE_ACTS;
 pub use laws::{
-    capture_works, charge_works, closings_work, commit_works, copy_in_works, copy_works, cut_works,
-    enter_works, fail_works, found_works, key_works, leave_works, match_works, matched_works,
-    none_works, open_works, runtime_fits, undo_gives_back, undo_unwinds, unify_works, var_works,
+    ask_works, capture_works, charge_works, closings_work, commit_works, copy_in_works, copy_works,
+    cut_works, enter_works, fail_works, found_works, key_works, leave_works, match_works,
+    matched_works, none_works, open_works, runtime_fits, undo_gives_back, undo_unwinds,
+    unify_works, var_works,
 };
-pub use numbers::{
-    AUX_LIMIT, BIND, CAPTURE, CHARGE, COMMIT, COPY_IN, COPY_OUT, CUT, DONE, ENTER, FAIL, FAILED,
-    FOUND, HEAP_LIMIT, KEEP_LIMIT, KEY_OF, LEAVE, MATCH, MATCHED, NEWLINE, NONE, OCCURS, OPEN,
-    STOPPED, TRAIL_LIMIT, UNDO, UNIFY, VAR, WALK,
-};
-pub use queries::LEAVE_ACTS;
-pub use registers::{
-    ARGS, BACK, BEGIN, CHOICE, CLASH, CUT_TO, FILL, FRAME, FROM, HEAP, INNER, KEY, LAST, MANY,
-    MARK, PARAMETERS, STOP, TERM, TRAIL, WORD,
-};
+pub use queries::{ASK_ACTS, LEAVE_ACTS};
 pub use routines::runtime;
 pub use rules::{FOUND_ACTS, KEY_OF_ACTS, MATCH_ACTS, MATCHED_ACTS, NONE_ACTS};
 pub use unify::{BIND_ACTS, OCCURS_ACTS, UNDO_ACTS, UNIFY_ACTS, WALK_ACTS};

@@ -86,3 +86,6 @@ pub const MATCHED: u16 = 28;
 
 /// Answers a rule.
 pub const LEAVE: u16 = 29;
+
+/// Asks a predicate.
+pub const ASK: u16 = 30;

@@ -1,8 +1,8 @@
-// Queries and their answers.
-use crate::acts::{read, when};
-use crate::numbers::{CUT, FAIL};
-use crate::registers::{FRAME, INNER};
-use crate::words::{FRAME_BACK, FRAME_BEHIND, FRAME_CUT, FRAME_INNER, FRAME_SIZE};
+// Queries and their answers: what is asked, and what comes behind an answer.
+use crate::acts::{add, call, read, when};
+use crate::numbers::{CUT, FAIL, KEY_OF};
+use crate::registers::{ARGS, BACK, BEGIN, CUT_TO, FRAME, HEAP, INNER, KEY, MANY};
+use crate::words::{FIRST_PLACE, FRAME_BACK, FRAME_BEHIND, FRAME_CUT, FRAME_INNER, FRAME_SIZE};
 use z_lang::{Act, Args, Atom, Comparison, Function, Test};
 
 /// A rule is answered: its frame is left, and the routine behind it is answered. Where one answer is wanted, the choices that aren't older than the place
@@ -21,4 +21,18 @@ pub const LEAVE_ACTS: [Act; 13] = [
     Act::Return(Atom::Var(3)),
     Act::Label(0),
     Act::Return(Atom::Routine(FAIL)),
+];
+
+/// A predicate is asked, whose arguments are in registers: local 1 is the routine behind an answer, local 2 is 1 where all answers are wanted, and local 3
+/// is 0 where there are no arguments. Its rules cut to the top of the heap, and no rule is found yet.
+pub const ASK_ACTS: [Act; 9] = [
+    Act::Copy(BACK, Atom::Var(1)),
+    Act::Copy(MANY, Atom::Var(2)),
+    add!(CUT_TO, HEAP, Atom::Num(FIRST_PLACE)),
+    Act::Copy(BEGIN, Atom::Num(0)),
+    Act::Copy(KEY, Atom::Num(FIRST_PLACE)),
+    when!(3, Equal, Atom::Num(0), true, 0),
+    call!(KEY, KEY_OF, ARGS),
+    Act::Label(0),
+    Act::Return(Atom::Num(0)),
 ];
