@@ -1,6 +1,5 @@
 -- The routine that asks a predicate does so.
 use Rattle.std.proofs.Common.{◌≡◌, ◌≢◌, ℕ, suc, ◌+◌, ◌*◌, ◌<◌, ◌≤◌, true, false, List, [], ◌∷◌, drop, refl, sym, ap, ◌∙◌, subst, arith}
-use Rattle.std.proofs.lemmas.Bool.{eq-eqb, ne_eqb}
 use Rattle.dg_meaning.specs.Values.{Value}
 use Rattle.dg_meaning.specs.Substitutions.{Substitution, walk, links}
 use Rattle.z_lang.specs.declared.act.Atom.TheVariants as atoms

@@ -44,3 +44,4 @@ pub mod Matching
 pub mod Leaving
 pub mod Asking
 pub mod Fitting
+pub mod TailCalling

@@ -6,7 +6,7 @@ use Rattle.dg_meaning.specs.Substitutions.{Substitution, walk, links}
 use Rattle.z_lang.specs.State.{Program}
 use Rattle.z_lang.specs.Runs.{ActsRun as Runs, Returns}
 use Rattle.dg_rt.specs.declared.numbers.TheConstants.{FAIL}
-use Rattle.dg_rt.specs.declared.queries.TheConstants.{LEAVE_ACTS, ASK_ACTS}
+use Rattle.dg_rt.specs.declared.queries.TheConstants.{LEAVE_ACTS, ASK_ACTS, TAIL_CALL_ACTS}
 use Rattle.dg_rt.specs.Cells.{Holds, bit}
 use Rattle.dg_rt.specs.Areas.{heap_at, heap_reg, frame_reg, choice_reg, inner_reg, back_reg, cut_reg, many_reg, key_reg, begin_reg, args_reg, IsMapped, state}
 use Rattle.dg_rt.specs.Shapes.{Shape, IsShape, Shows, Stands}
@@ -83,3 +83,42 @@ pub record AskWorks : Type 0 where
   pub has_none : (p : Program) → HasRunTime p → (f w : ℕ) (memory typed output : List ℕ) (drawn routine many top : ℕ) (cells : ℕ → ℕ) →
       Holds p.world.layout memory cells → cells heap_reg ≡ top → top ≤ 10000 → routine < 65536 → many < 65536 →
       Asks p f w memory typed output drawn routine many 0 top cells (λ key. key ≡ 32768) 7
+
+-- ## The last query of a rule
+
+-- Where all answers of the rule are wanted, its frame was left, in 8 instructions, with the inner constructs there, and the routine is answered that its
+-- frame keeps.
+pub record LeavesFirst (p : Program) (f w : ℕ) (memory typed output : List ℕ) (drawn at x : ℕ) (cells : ℕ → ℕ) : Type 0 where
+  pub memory' : List ℕ
+  pub cells' : ℕ → ℕ
+  pub locals' : List ℕ
+  pub holds : Holds p.world.layout memory' cells'
+  pub frame : cells' frame_reg ≡ cells (heap_at + (at + 0))
+  pub inner : cells' inner_reg ≡ cells (heap_at + (at + 3))
+  pub others : (k : ℕ) → k ≢ frame_reg → k ≢ inner_reg → cells' k ≡ cells k
+  pub runs : Runs p f w TAIL_CALL_ACTS TAIL_CALL_ACTS (state memory (x ∷ 0 ∷ []) typed drawn output) (Returns (cells (heap_at + (at + 1))))
+      (state memory' locals' typed drawn output) 8
+
+-- Else the frame stays, with no inner construct, and the routine is answered that answers a rule.
+pub record Stays (p : Program) (f w : ℕ) (memory typed output : List ℕ) (drawn x : ℕ) (cells : ℕ → ℕ) (most : ℕ) : Type 0 where
+  pub memory' : List ℕ
+  pub cells' : ℕ → ℕ
+  pub locals' : List ℕ
+  pub holds : Holds p.world.layout memory' cells'
+  pub inner : cells' inner_reg ≡ 0
+  pub others : (k : ℕ) → k ≢ inner_reg → cells' k ≡ cells k
+  pub count : ℕ
+  pub few : count ≤ most
+  pub runs : Runs p f w TAIL_CALL_ACTS TAIL_CALL_ACTS (state memory (x ∷ 0 ∷ []) typed drawn output) (Returns x)
+      (state memory' locals' typed drawn output) count
+
+-- So it is by what the frame keeps; without a frame it is as where one answer is wanted.
+pub record TailCallWorks : Type 0 where
+  pub leaves : (p : Program) → HasRunTime p → (f w : ℕ) (memory typed output : List ℕ) (drawn at n x : ℕ) (cells : ℕ → ℕ) →
+      Holds p.world.layout memory cells → cells frame_reg ≡ at_place at → at + 6 ≤ 10000 → cells (heap_at + (at + 4)) ≡ 2 * n + 1 → n ≤ 10000 →
+      LeavesFirst p f w memory typed output drawn at x cells
+  pub stays : (p : Program) → HasRunTime p → (f w : ℕ) (memory typed output : List ℕ) (drawn at n x : ℕ) (cells : ℕ → ℕ) →
+      Holds p.world.layout memory cells → cells frame_reg ≡ at_place at → at + 6 ≤ 10000 → cells (heap_at + (at + 4)) ≡ 2 * n → n ≤ 10000 →
+      Stays p f w memory typed output drawn x cells 6
+  pub has_none : (p : Program) → HasRunTime p → (f w : ℕ) (memory typed output : List ℕ) (drawn x : ℕ) (cells : ℕ → ℕ) →
+      Holds p.world.layout memory cells → cells frame_reg ≡ 0 → Stays p f w memory typed output drawn x cells 3

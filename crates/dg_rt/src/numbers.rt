@@ -89,3 +89,6 @@ pub const LEAVE: u16 = 29;
 
 /// Asks a predicate.
 pub const ASK: u16 = 30;
+
+/// What comes behind the last query of a rule.
+pub const TAIL_CALL: u16 = 31;

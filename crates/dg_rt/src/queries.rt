@@ -1,4 +1,4 @@
-// Queries and their answers: what is asked, and what comes behind an answer.
+// Queries and their answers: what is asked, the last query of a rule, and what comes behind an answer.
 use crate::acts::{add, call, read, when};
 use crate::numbers::{CUT, FAIL, KEY_OF};
 use crate::registers::{ARGS, BACK, BEGIN, CUT_TO, FRAME, HEAP, INNER, KEY, MANY};
@@ -35,4 +35,20 @@ pub const ASK_ACTS: [Act; 9] = [
     call!(KEY, KEY_OF, ARGS),
     Act::Label(0),
     Act::Return(Atom::Num(0)),
+];
+
+/// The routine behind the last query of a rule is answered. Where all answers of the rule are wanted, it is the one behind the rule, and the rule's frame
+/// is left. Else, and without a frame, it is that of local 1, and there is no inner construct.
+pub const TAIL_CALL_ACTS: [Act; 11] = [
+    when!(FRAME, Equal, Atom::Num(0), true, 0),
+    read!(2, FRAME_SIZE, FRAME),
+    Act::Compute(2, Function::Mod, Atom::Var(2), Atom::Num(2)),
+    when!(2, Equal, Atom::Num(0), true, 0),
+    read!(1, FRAME_BACK, FRAME),
+    read!(INNER, FRAME_INNER, FRAME),
+    read!(FRAME, FRAME_BEHIND, FRAME),
+    Act::Return(Atom::Var(1)),
+    Act::Label(0),
+    Act::Copy(INNER, Atom::Num(0)),
+    Act::Return(Atom::Var(1)),
 ];

@@ -1,5 +1,5 @@
 use Rattle.std.proofs.Common.{[], ◌∷◌}
-use Rattle.dg_rt.specs.declared.queries.TheConstants.{LEAVE_ACTS, ASK_ACTS}
+use Rattle.dg_rt.specs.declared.queries.TheConstants.{LEAVE_ACTS, ASK_ACTS, TAIL_CALL_ACTS}
 use Rattle.dg_rt.specs.RunTime.{routine_of}
 use Rattle.dg_rt.proofs.Puts.{one_more}
 use Rattle.dg_rt.proofs.routines.Writer.put_queries.Goals as goal
@@ -9,5 +9,7 @@ returns c =
     let old = c.args.self.now.all in
     let r0 = routine_of 4 LEAVE_ACTS in
     let r1 = routine_of 4 ASK_ACTS in
+    let r2 = routine_of 2 TAIL_CALL_ACTS in
     let e0 = c.in_ok-put.ensures in
-    one_more old (r0 ∷ []) c.put.new.self.all c.put-2.new.self.all r1 e0 c.in_ok-put-2.ensures
+    let e1 = one_more old (r0 ∷ []) c.put.new.self.all c.put-2.new.self.all r1 e0 c.in_ok-put-2.ensures in
+    one_more old (r0 ∷ r1 ∷ []) c.put-2.new.self.all c.put-3.new.self.all r2 e1 c.in_ok-put-3.ensures
