@@ -1,94 +1,30 @@
 -- A rule is entered: its frame is made, with its variables.
-use Rattle.std.proofs.Common.{◌≡◌, ◌≢◌, ℕ, zero, suc, ◌+◌, ◌-◌, ◌*◌, ◌%◌, ◌<◌, ◌≤◌, true, false, List, [], ◌∷◌, drop, refl, sym, ap, ◌∙◌, subst, arith}
-use Rattle.std.proofs.lemmas.Bool.{eq-eqb, ne_eqb}
+use Rattle.std.proofs.Common.{◌≡◌, ◌≢◌, ℕ, suc, ◌+◌, ◌-◌, ◌<◌, ◌≤◌, true, false, List, [], ◌∷◌, drop, refl, ap, ◌∙◌, subst, arith}
 use Rattle.z_lang.specs.declared.act.Act.TheVariants as acts
 use Rattle.z_lang.specs.declared.act.Atom.TheVariants as atoms
 use Rattle.z_lang.specs.declared.act.Function.TheVariants as functions
 use Rattle.z_lang.specs.declared.act.Comparison.TheVariants as comparisons
-use Rattle.z_lang.specs.declared.act.Width.TheVariants as widths
 use Rattle.z_lang.specs.State.{State, Program, value}
-use Rattle.z_lang.specs.Runs.{ActsRun as Runs, Returns, at_label, goes, taken, passed, done, returns, behind_label}
+use Rattle.z_lang.specs.Runs.{ActsRun as Runs, Returns, at_label, taken, passed, done, behind_label}
 use Rattle.dg_rt.specs.declared.frames.TheConstants.{ENTER_ACTS}
-use Rattle.dg_rt.specs.Cells.{at_cell, with_cell, replaced, Holds}
+use Rattle.dg_rt.specs.Cells.{with_cell, replaced, Holds}
 use Rattle.dg_rt.specs.Areas.{heap_at, trail_at, last_reg, state}
 use Rattle.dg_rt.specs.Back.{at_place}
 use Rattle.dg_rt.specs.RunTime.{HasRunTime}
 use Rattle.dg_rt.specs.Charges.{MeetsLimit}
 use Rattle.dg_rt.specs.Frames.{Enters, EnterWorks}
 use Rattle.dg_rt.specs.inside.Walks.{steps}
-use Rattle.dg_rt.proofs.Cells.{holds_with, writes_cell, other_cell, same_cell}
-use Rattle.dg_rt.proofs.Following.{word as word_is, tested, computes, copies, writes, register, puts}
+use Rattle.dg_rt.proofs.Cells.{other_cell, same_cell}
+use Rattle.dg_rt.proofs.Following.{word as word_is, tested, computes, copies, register, puts}
 use Rattle.dg_rt.proofs.Locals.{get_1, get_2, get_3, set_1, set_2, set_3, adds, more_by, not_more_by}
 use Rattle.dg_rt.proofs.Charging.{quits_full}
 use Rattle.dg_rt.proofs.Rows.{put_row}
-
--- ## Variables
-
--- Cells in a row hold their own places.
-pub record Fills (p : Program) (f w : ℕ) (memory typed output : List ℕ) (drawn q j left : ℕ) (c : ℕ → ℕ) : Type 0 where
-  pub memory' : List ℕ
-  pub cells' : ℕ → ℕ
-  pub locals' : List ℕ
-  pub holds : Holds p.world.layout memory' cells'
-  pub are : (i : ℕ) → i < left → cells' (heap_at + (j + i)) ≡ at_place (j + i)
-  pub others : (k : ℕ) → (heap_at + j ≤ k → heap_at + (j + left) ≤ k) → cells' k ≡ c k
-  pub count : ℕ
-  pub few : count ≤ 4 * left + 2
-  pub runs : Runs p f w ENTER_ACTS (drop 20 ENTER_ACTS) (state memory (q ∷ at_place j ∷ at_place (j + left) ∷ 0 ∷ []) typed drawn output) (Returns 0) (state memory' locals' typed drawn output) count
-
-pub fills : (p : Program) → HasRunTime p → (f w : ℕ) (typed output : List ℕ) (drawn q : ℕ) (left j : ℕ) (memory : List ℕ) (c : ℕ → ℕ) → Holds p.world.layout memory c → j + left ≤ 10000 → Fills p f w memory typed output drawn q j left c
-unfolding behind_label
-fills p has f w typed output drawn q zero j memory c h le =
-    let room = has.mapped.room in
-    let e = at_place (j + 0) in
-    let s0 = state memory (q ∷ at_place j ∷ e ∷ 0 ∷ []) typed drawn output in
-    record {
-      memory' = memory;
-      cells' = c;
-      locals' = q ∷ at_place j ∷ e ∷ 0 ∷ [];
-      holds = h;
-      are = λ i lt. absurd (omega arith);
-      others = λ k far. refl;
-      count = 2;
-      few = omega arith;
-      runs = taken (tested p s0 comparisons.Equal (atoms.Var 2) (atoms.Var 3) true (at_place j) e true (get_2 p memory q (at_place j) e 0 typed drawn output) (get_3 p memory q (at_place j) e 0 typed drawn output) (eq-eqb (at_place j) e (omega arith))) refl (returns refl);
-    }
-fills p has f w typed output drawn q (suc left) j memory c h le =
-    let room = has.mapped.room in
-    let e = at_place (j + suc left) in
-    let k0 = heap_at + j in
-    let s0 = state memory (q ∷ at_place j ∷ e ∷ 0 ∷ []) typed drawn output in
-    let m1 = with_cell memory k0 (at_place j) in
-    let c1 = replaced c k0 (at_place j) in
-    let s1 = state m1 (q ∷ at_place j ∷ e ∷ 0 ∷ []) typed drawn output in
-    let s2 = state m1 (q ∷ at_place (suc j) ∷ e ∷ 0 ∷ []) typed drawn output in
-    let h1 = holds_with p.world.layout memory c k0 (at_place j) h (omega arith) (omega arith) in
-    let r = fills p has f w typed output drawn q left (suc j) m1 c1 h1 (omega arith) in
-    let few = r.few in
-    let same : at_place (suc j + left) ≡ e = omega arith in
-    let there : (670 + 2 * at_place j) % 65536 ≡ at_cell k0 = omega arith in
-    record {
-      memory' = r.memory';
-      cells' = r.cells';
-      locals' = r.locals';
-      holds = r.holds;
-      are = λ i lt. at_index i lt r;
-      others = λ k far. r.others k (λ low. (let z : heap_at + (j + suc left) ≤ k = far (omega arith) in omega arith)) ∙ other_cell c k0 (at_place j) k (λ (x : k ≡ k0). (let z : heap_at + (j + suc left) ≤ k = far (omega arith) in omega arith));
-      count = suc (suc (suc (suc r.count)));
-      few = omega arith;
-      runs = passed (tested p s0 comparisons.Equal (atoms.Var 2) (atoms.Var 3) true (at_place j) e false (get_2 p memory q (at_place j) e 0 typed drawn output) (get_3 p memory q (at_place j) e 0 typed drawn output) (ne_eqb (at_place j) e (λ (x : at_place j ≡ e). (omega arith))))
-          (done (writes p s0 widths.Word (atoms.Num 670) (atoms.Var 2) (atoms.Var 2) 670 (at_place j) (at_place j) m1 refl (get_2 p memory q (at_place j) e 0 typed drawn output) (get_2 p memory q (at_place j) e 0 typed drawn output) (writes_cell p.world.layout memory c 670 (at_place j) (at_place j) k0 h there (omega arith)))
-          (done (computes p s1 s2 2 functions.Add (atoms.Var 2) (atoms.Num 1) (at_place j) 1 (at_place (suc j)) (get_2 p m1 q (at_place j) e 0 typed drawn output) refl (adds p m1 (at_place j) 1 (at_place (suc j)) (omega arith) (omega arith)) (set_2 p m1 q (at_place j) e 0 (at_place (suc j)) typed drawn output))
-          (goes refl (subst (λ (y : ℕ). Runs p f w ENTER_ACTS (drop 20 ENTER_ACTS) (state m1 (q ∷ at_place (suc j) ∷ y ∷ 0 ∷ []) typed drawn output) (Returns 0) (state r.memory' r.locals' typed drawn output) r.count) same r.runs))));
-    }
-  where
-    at_index : (i : ℕ) → i < suc left → (r : Fills p f w (with_cell memory (heap_at + j) (at_place j)) typed output drawn q (suc j) left (replaced c (heap_at + j) (at_place j))) → r.cells' (heap_at + (j + i)) ≡ at_place (j + i)
-    at_index zero lt r = let z : j + 0 ≡ j = omega arith in subst (λ (x : ℕ). r.cells' (heap_at + x) ≡ at_place x) (sym z) (r.others (heap_at + j) (λ low. (omega arith)) ∙ same_cell c (heap_at + j) (at_place j))
-    at_index (suc i) lt r = let z : suc j + i ≡ j + suc i = omega arith in subst (λ (x : ℕ). r.cells' (heap_at + x) ≡ at_place x) z (r.are i (omega arith))
+use Rattle.dg_rt.proofs.Filling.{fills}
 
 -- ## The routine
 
 pub frames : (p : Program) → HasRunTime p → (f w : ℕ) (memory typed output : List ℕ) (drawn n more : ℕ) (c : ℕ → ℕ) (top : ℕ) → Holds p.world.layout memory c → c 3 ≡ top → top + (6 + n + more) ≤ 10000 → c 10 ≤ 1 → Enters p f w memory typed output drawn n more c top
+unfolding behind_label
 frames p has f w memory typed output drawn n more c top h at few bit =
     let room = has.mapped.room in
     let st : List ℕ → ℕ → ℕ → ℕ → State = λ m a b d. state m (a ∷ b ∷ d ∷ 0 ∷ []) typed drawn output in
@@ -138,7 +74,7 @@ frames p has f w memory typed output drawn n more c top h at few bit =
     let c5 = replaced c4 13 0 in
     let first = at_place (top + 6) in
     let end = at_place (top + 6 + n) in
-    let v = fills p has f w typed output drawn q n (top + 6) m5 c5 p5.holds (omega arith) in
+    let v = fills p has.mapped f w ENTER_ACTS (drop 24 ENTER_ACTS) (drop 26 ENTER_ACTS) refl refl typed output drawn q 0 n (top + 6) m5 c5 p5.holds (omega arith) in
     let few' = v.few in
     let late : (k : ℕ) → k ≢ 3 → k ≢ 4 → k ≢ 6 → k ≢ 13 → c5 k ≡ c1 k = λ k n3 n4 n6 n13. other_cell c4 13 0 k n13 ∙ other_cell c3 6 0 k n6 ∙ other_cell c2 4 w0 k n4 ∙ other_cell c1 3 e k n3 in
     let reg5 : (k : ℕ) → k < 303 → v.cells' k ≡ c5 k = λ k lt. v.others k (λ q'. (omega arith)) in

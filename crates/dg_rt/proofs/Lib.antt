@@ -45,3 +45,5 @@ pub mod Leaving
 pub mod Asking
 pub mod Fitting
 pub mod TailCalling
+pub mod Filling
+pub mod Bodies

@@ -6,12 +6,14 @@ use Rattle.dg_meaning.specs.Substitutions.{Substitution, walk, links}
 use Rattle.z_lang.specs.State.{Program}
 use Rattle.z_lang.specs.Runs.{ActsRun as Runs, Returns}
 use Rattle.dg_rt.specs.declared.numbers.TheConstants.{FAIL}
-use Rattle.dg_rt.specs.declared.queries.TheConstants.{LEAVE_ACTS, ASK_ACTS, TAIL_CALL_ACTS}
+use Rattle.dg_rt.specs.declared.queries.TheConstants.{LEAVE_ACTS, ASK_ACTS, TAIL_CALL_ACTS, BODY_ACTS}
 use Rattle.dg_rt.specs.Cells.{Holds, bit}
 use Rattle.dg_rt.specs.Areas.{heap_at, heap_reg, frame_reg, choice_reg, inner_reg, back_reg, cut_reg, many_reg, key_reg, begin_reg, args_reg, IsMapped, state}
 use Rattle.dg_rt.specs.Shapes.{Shape, IsShape, Shows, Stands}
 use Rattle.dg_rt.specs.Back.{at_place}
 use Rattle.dg_rt.specs.RunTime.{HasRunTime}
+use Rattle.dg_rt.specs.Charges.{MeetsLimit}
+use Rattle.dg_rt.specs.Frames.{RowIs}
 use Rattle.dg_rt.specs.Choices.{Chain, left_of, dropped_of}
 use Rattle.dg_rt.specs.Rules.{KeyIs}
 
@@ -122,3 +124,33 @@ pub record TailCallWorks : Type 0 where
       Stays p f w memory typed output drawn x cells 6
   pub has_none : (p : Program) → HasRunTime p → (f w : ℕ) (memory typed output : List ℕ) (drawn x : ℕ) (cells : ℕ → ℕ) →
       Holds p.world.layout memory cells → cells frame_reg ≡ 0 → Stays p f w memory typed output drawn x cells 3
+
+-- ## Bodies of closures
+
+-- A frame was made on top of the heap for the body of a closure, in 4 instructions a variable and 20: its six cells have what the registers say of the
+-- query, its own place to cut to, and the closure's box; each of its own variables has its own place, and it is the newest, with no inner construct.
+pub record EntersBody (p : Program) (f w : ℕ) (memory typed output : List ℕ) (drawn n box : ℕ) (cells : ℕ → ℕ) (top : ℕ) : Type 0 where
+  pub memory' : List ℕ
+  pub cells' : ℕ → ℕ
+  pub locals' : List ℕ
+  pub holds : Holds p.world.layout memory' cells'
+  pub heap : cells' heap_reg ≡ top + 6 + n
+  pub frame : cells' frame_reg ≡ at_place top
+  pub inner : cells' inner_reg ≡ 0
+  pub row : RowIs cells' (top + 0)
+      (cells frame_reg ∷ cells back_reg ∷ at_place top ∷ cells inner_reg ∷ (n + n + cells many_reg) ∷ box ∷ [])
+  pub vars : (i : ℕ) → i < n → cells' (heap_at + (top + 6 + i)) ≡ at_place (top + 6 + i)
+  pub others : (k : ℕ) → k ≢ heap_reg → k ≢ frame_reg → k ≢ inner_reg → (heap_at + top ≤ k → heap_at + (top + 6 + n) ≤ k) → cells' k ≡ cells k
+  pub count : ℕ
+  pub few : count ≤ 4 * n + 20
+  pub runs : Runs p f w BODY_ACTS BODY_ACTS (state memory (n ∷ box ∷ 0 ∷ 0 ∷ []) typed drawn output) (Returns 0)
+      (state memory' locals' typed drawn output) count
+
+-- So it is where there is room for it; else the heap's limit is met.
+pub record BodyWorks : Type 0 where
+  pub enters : (p : Program) → HasRunTime p → (f w : ℕ) (memory typed output : List ℕ) (drawn n box : ℕ) (cells : ℕ → ℕ) (top : ℕ) →
+      Holds p.world.layout memory cells → cells heap_reg ≡ top → top + (6 + n) ≤ 10000 → cells many_reg ≤ 1 → box < 65536 →
+      EntersBody p f w memory typed output drawn n box cells top
+  pub meets : (p : Program) → HasRunTime p → (f w : ℕ) → 2 ≤ f → (memory typed output : List ℕ) (drawn n box : ℕ) (cells : ℕ → ℕ) (top : ℕ) →
+      Holds p.world.layout memory cells → cells heap_reg ≡ top → top ≤ 10000 → n ≤ 10001 → 10000 < top + (6 + n) →
+      MeetsLimit p f w BODY_ACTS memory (n ∷ box ∷ 0 ∷ 0 ∷ []) typed output drawn cells 4

@@ -11,7 +11,7 @@ use Rattle.dg_rt.specs.declared.heap.TheConstants.{CHARGE_ACTS}
 use Rattle.dg_rt.specs.declared.frames.TheConstants.{VAR_ACTS, CAPTURE_ACTS, ENTER_ACTS}
 use Rattle.dg_rt.specs.declared.choices.TheConstants.{CUT_ACTS, OPEN_ACTS, FAIL_ACTS, COMMIT_ACTS}
 use Rattle.dg_rt.specs.declared.rules.TheConstants.{KEY_OF_ACTS, FOUND_ACTS, NONE_ACTS, MATCH_ACTS, MATCHED_ACTS}
-use Rattle.dg_rt.specs.declared.queries.TheConstants.{LEAVE_ACTS, ASK_ACTS, TAIL_CALL_ACTS}
+use Rattle.dg_rt.specs.declared.queries.TheConstants.{LEAVE_ACTS, ASK_ACTS, TAIL_CALL_ACTS, BODY_ACTS}
 use Rattle.dg_rt.specs.Areas.{IsMapped}
 
 -- A routine of so many locals.
@@ -44,7 +44,7 @@ rule_routines =
 
 -- Those of queries and their answers.
 abbrev pub query_routines : List Routine
-query_routines = routine_of 4 LEAVE_ACTS ∷ routine_of 4 ASK_ACTS ∷ routine_of 2 TAIL_CALL_ACTS ∷ []
+query_routines = routine_of 4 LEAVE_ACTS ∷ routine_of 4 ASK_ACTS ∷ routine_of 2 TAIL_CALL_ACTS ∷ routine_of 4 BODY_ACTS ∷ []
 
 -- All of them. The first has number 1, since a story begins with routine 0.
 abbrev pub runtime : List Routine

@@ -6,7 +6,7 @@ ghost use Rattle.dg_rt.specs.CopiesIn.{CopyInWorks};
 ghost use Rattle.dg_rt.specs.Choices.{CommitWorks, CutWorks, FailWorks, OpenWorks};
 ghost use Rattle.dg_rt.specs.Frames.{CaptureWorks, EnterWorks, VarWorks};
 ghost use Rattle.dg_rt.specs.Fits.{RuntimeFits};
-ghost use Rattle.dg_rt.specs.Queries.{AskWorks, LeaveWorks, TailCallWorks};
+ghost use Rattle.dg_rt.specs.Queries.{AskWorks, BodyWorks, LeaveWorks, TailCallWorks};
 ghost use Rattle.dg_rt.specs.Rules.{FoundWorks, KeyWorks, MatchWorks, MatchedWorks, NoneWorks};
 ghost use Rattle.dg_rt.specs.Undoes.{UndoGivesBack, UndoUnwinds};
 ghost use Rattle.dg_rt.specs.Unifies.{UnifyWorks};
@@ -119,6 +119,11 @@ pub fn ask_works()
 /// The routine of the last query of a rule does so.
 pub fn tail_call_works()
     ensures { TailCallWorks }
+{}
+
+/// The routine that enters the body of a closure makes its frame, or meets the heap's limit.
+pub fn body_works()
+    ensures { BodyWorks }
 {}
 
 /// The routines can be assembled.

@@ -25,12 +25,12 @@ pub use copies::{COPY_IN_ACTS, COPY_OUT_ACTS};
 pub use frames::{CAPTURE_ACTS, ENTER_ACTS, VAR_ACTS};
 pub use heap::CHARGE_ACTS;
 pub use laws::{
-    ask_works, capture_works, charge_works, closings_work, commit_works, copy_in_works, copy_works,
-    cut_works, enter_works, fail_works, found_works, key_works, leave_works, match_works,
-    matched_works, none_works, open_works, runtime_fits, tail_call_works, undo_gives_back,
-    undo_unwinds, unify_works, var_works,
+    ask_works, body_works, capture_works, charge_works, closings_work, commit_works, copy_in_works,
+    copy_works, cut_works, enter_works, fail_works, found_works, key_works, leave_works,
+    match_works, matched_works, none_works, open_works, runtime_fits, tail_call_works,
+    undo_gives_back, undo_unwinds, unify_works, var_works,
 };
-pub use queries::{ASK_ACTS, LEAVE_ACTS, TAIL_CALL_ACTS};
+pub use queries::{ASK_ACTS, BODY_ACTS, LEAVE_ACTS, TAIL_CALL_ACTS};
 pub use routines::runtime;
 pub use rules::{FOUND_ACTS, KEY_OF_ACTS, MATCH_ACTS, MATCHED_ACTS, NONE_ACTS};
 pub use unify::{BIND_ACTS, OCCURS_ACTS, UNDO_ACTS, UNIFY_ACTS, WALK_ACTS};

@@ -92,3 +92,6 @@ pub const ASK: u16 = 30;
 
 /// What comes behind the last query of a rule.
 pub const TAIL_CALL: u16 = 31;
+
+/// Enters the body of a closure.
+pub const BODY: u16 = 32;

@@ -1,9 +1,12 @@
-// Queries and their answers: what is asked, the last query of a rule, and what comes behind an answer.
-use crate::acts::{add, call, read, when};
-use crate::numbers::{CUT, FAIL, KEY_OF};
+// Queries and their answers: what is asked, the last query of a rule, the body of a closure, and what comes behind an answer.
+use crate::acts::{add, call, put, read, when};
+use crate::numbers::{CUT, FAIL, HEAP_LIMIT, KEY_OF};
 use crate::registers::{ARGS, BACK, BEGIN, CUT_TO, FRAME, HEAP, INNER, KEY, MANY};
-use crate::words::{FIRST_PLACE, FRAME_BACK, FRAME_BEHIND, FRAME_CUT, FRAME_INNER, FRAME_SIZE};
-use z_lang::{Act, Args, Atom, Comparison, Function, Test};
+use crate::words::{
+    CELL, FIRST_PLACE, FRAME_BACK, FRAME_BEHIND, FRAME_CLOSURE, FRAME_CUT, FRAME_INNER, FRAME_SIZE,
+    HEAP_CELLS,
+};
+use z_lang::{Act, Args, Atom, Comparison, Function, Test, Width};
 
 /// A rule is answered: its frame is left, and the routine behind it is answered. Where one answer is wanted, the choices that aren't older than the place
 /// to which the rule cuts are dropped. Without a frame the routine that fails is answered.
@@ -51,4 +54,38 @@ pub const TAIL_CALL_ACTS: [Act; 11] = [
     Act::Label(0),
     Act::Copy(INNER, Atom::Num(0)),
     Act::Return(Atom::Var(1)),
+];
+
+/// Enters the body of the closure whose box is local 2, with so many variables of its own as local 1 says: a frame of six cells and one a variable is
+/// taken, which cuts to its own place. Where it would pass the heap's end, the run ends.
+pub const BODY_ACTS: [Act; 28] = [
+    add!(3, HEAP, Atom::Var(1)),
+    add!(3, 3, Atom::Num(6)),
+    when!(3, Greater, Atom::Num(HEAP_CELLS), true, 1),
+    Act::Copy(4, Atom::Var(2)),
+    add!(2, HEAP, Atom::Num(FIRST_PLACE)),
+    add!(1, 1, Atom::Var(1)),
+    add!(1, 1, Atom::Var(MANY)),
+    put!(FRAME_BEHIND, 2, Atom::Var(FRAME)),
+    put!(FRAME_BACK, 2, Atom::Var(BACK)),
+    put!(FRAME_CUT, 2, Atom::Var(2)),
+    put!(FRAME_INNER, 2, Atom::Var(INNER)),
+    put!(FRAME_SIZE, 2, Atom::Var(1)),
+    put!(FRAME_CLOSURE, 2, Atom::Var(4)),
+    Act::Copy(HEAP, Atom::Var(3)),
+    Act::Copy(FRAME, Atom::Var(2)),
+    Act::Copy(INNER, Atom::Num(0)),
+    add!(2, 2, Atom::Num(6)),
+    add!(3, 3, Atom::Num(FIRST_PLACE)),
+    // its variables: each holds its own place
+    Act::Label(0),
+    when!(2, Equal, Atom::Var(3), true, 2),
+    put!(CELL, 2, Atom::Var(2)),
+    add!(2, 2, Atom::Num(1)),
+    Act::Goto(0),
+    Act::Label(2),
+    Act::Return(Atom::Num(0)),
+    Act::Label(1),
+    call!(HEAP_LIMIT),
+    Act::Quit,
 ];

@@ -10,7 +10,7 @@ use crate::closings::{
 use crate::copies::{COPY_IN_ACTS, COPY_OUT_ACTS};
 use crate::frames::{CAPTURE_ACTS, ENTER_ACTS, VAR_ACTS};
 use crate::heap::CHARGE_ACTS;
-use crate::queries::{ASK_ACTS, LEAVE_ACTS, TAIL_CALL_ACTS};
+use crate::queries::{ASK_ACTS, BODY_ACTS, LEAVE_ACTS, TAIL_CALL_ACTS};
 use crate::rules::{FOUND_ACTS, KEY_OF_ACTS, MATCH_ACTS, MATCHED_ACTS, NONE_ACTS};
 use crate::unify::{BIND_ACTS, OCCURS_ACTS, UNDO_ACTS, UNIFY_ACTS, WALK_ACTS};
 use sqlite_items::Items;
@@ -96,6 +96,7 @@ impl Writer {
         self.put(4, &LEAVE_ACTS)?;
         self.put(4, &ASK_ACTS)?;
         self.put(2, &TAIL_CALL_ACTS)?;
+        self.put(4, &BODY_ACTS)?;
         Ok(())
     }
 }
