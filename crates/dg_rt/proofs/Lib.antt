@@ -47,3 +47,4 @@ pub mod Fitting
 pub mod TailCalling
 pub mod Filling
 pub mod Bodies
+pub mod InnerOpening

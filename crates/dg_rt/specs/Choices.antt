@@ -4,7 +4,7 @@ use Rattle.std.specs.Prelude.{◌≡◌, ◌≢◌, ℕ, ◌+◌, ◌*◌, ◌<�
 use Rattle.z_lang.specs.State.{Program}
 use Rattle.z_lang.specs.Runs.{ActsRun as Runs, Returns}
 use Rattle.dg_rt.specs.declared.numbers.TheConstants.{FAILED}
-use Rattle.dg_rt.specs.declared.choices.TheConstants.{CUT_ACTS, OPEN_ACTS, FAIL_ACTS, COMMIT_ACTS}
+use Rattle.dg_rt.specs.declared.choices.TheConstants.{CUT_ACTS, OPEN_ACTS, FAIL_ACTS, COMMIT_ACTS, OPEN_INNER_ACTS}
 use Rattle.dg_rt.specs.Cells.{Holds}
 use Rattle.dg_rt.specs.Areas.{heap_at, trail_at, trail_reg, mark_reg, heap_reg, frame_reg, choice_reg, inner_reg, stop_reg, back_reg, cut_reg, many_reg, key_reg, begin_reg, args_reg, IsMapped, state}
 use Rattle.dg_rt.specs.Back.{at_place, undone, OnTrail}
@@ -41,6 +41,30 @@ pub record OpenWorks : Type 0 where
       (memory typed output : List ℕ) (drawn routine eighth ninth : ℕ) (cells : ℕ → ℕ)
       (top : ℕ) → Holds p.world.layout memory cells → cells heap_reg ≡ top → top ≤ 10000 → 10000 < top + 10 →
       MeetsLimit p f w OPEN_ACTS memory (routine ∷ eighth ∷ ninth ∷ 0 ∷ 0 ∷ []) typed output drawn cells 4
+
+-- An inner construct was opened on top of the heap, in 9 instructions: of its ten cells three have the inner construct and the stoppable part around, and
+-- that nothing is gathered; it is the newest. No choice opens, and there is no mark behind it.
+pub record OpensInner (p : Program) (f w : ℕ) (memory typed output : List ℕ) (drawn : ℕ) (cells : ℕ → ℕ) (top : ℕ) : Type 0 where
+  pub memory' : List ℕ
+  pub cells' : ℕ → ℕ
+  pub locals' : List ℕ
+  pub holds : Holds p.world.layout memory' cells'
+  pub heap : cells' heap_reg ≡ top + 10
+  pub inner : cells' inner_reg ≡ at_place top
+  pub around : cells' (heap_at + (top + 3)) ≡ cells inner_reg
+  pub stop : cells' (heap_at + (top + 4)) ≡ cells stop_reg
+  pub gathers : cells' (heap_at + (top + 8)) ≡ 65535
+  pub others : (k : ℕ) → k ≢ heap_reg → k ≢ inner_reg → (heap_at + top ≤ k → heap_at + (top + 10) ≤ k) → cells' k ≡ cells k
+  pub runs : Runs p f w OPEN_INNER_ACTS OPEN_INNER_ACTS (state memory (0 ∷ 0 ∷ []) typed drawn output) (Returns 0)
+      (state memory' locals' typed drawn output) 9
+
+-- So it is where there is room for it; else the heap's limit is met.
+pub record OpenInnerWorks : Type 0 where
+  pub opens : (p : Program) → HasRunTime p → (f w : ℕ) (memory typed output : List ℕ) (drawn : ℕ) (cells : ℕ → ℕ) (top : ℕ) →
+      Holds p.world.layout memory cells → cells heap_reg ≡ top → top + 10 ≤ 10000 → OpensInner p f w memory typed output drawn cells top
+  pub meets : (p : Program) → HasRunTime p → (f w : ℕ) → 2 ≤ f → (memory typed output : List ℕ) (drawn : ℕ) (cells : ℕ → ℕ) (top : ℕ) →
+      Holds p.world.layout memory cells → cells heap_reg ≡ top → top ≤ 10000 → 10000 < top + 10 →
+      MeetsLimit p f w OPEN_INNER_ACTS memory (0 ∷ 0 ∷ []) typed output drawn cells 3
 
 -- ## Dropping
 

@@ -6,7 +6,7 @@ use crate::registers::{
 };
 use crate::words::{
     CHOICE_ARGS, CHOICE_BACK, CHOICE_BEHIND, CHOICE_FRAME, CHOICE_GATHER, CHOICE_INNER, CHOICE_KEY,
-    CHOICE_MANY, CHOICE_ROUTINE, CHOICE_STOP, CHOICE_TRAIL, FIRST_PLACE, HEAP_CELLS,
+    CHOICE_MANY, CHOICE_ROUTINE, CHOICE_STOP, CHOICE_TRAIL, FIRST_PLACE, HEAP_CELLS, NO_VALUE,
 };
 use z_lang::{Act, Args, Atom, Comparison, Function, Test, Width};
 
@@ -42,6 +42,23 @@ pub const OPEN_ACTS: [Act; 21] = [
     Act::Copy(MARK, Atom::Var(2)),
     Act::Copy(HEAP, Atom::Var(5)),
     Act::Return(Atom::Var(2)),
+    Act::Label(0),
+    call!(HEAP_LIMIT),
+    Act::Quit,
+];
+
+/// Opens an inner construct on top of the heap, without a choice: of its ten cells those are written that say what is around it, and that nothing is
+/// gathered. Where they would pass the heap's end, the run ends.
+pub const OPEN_INNER_ACTS: [Act; 12] = [
+    add!(1, HEAP, Atom::Num(10)),
+    when!(1, Greater, Atom::Num(HEAP_CELLS), true, 0),
+    add!(2, HEAP, Atom::Num(FIRST_PLACE)),
+    put!(CHOICE_INNER, 2, Atom::Var(INNER)),
+    put!(CHOICE_STOP, 2, Atom::Var(STOP)),
+    put!(CHOICE_MANY, 2, Atom::Num(NO_VALUE)),
+    Act::Copy(INNER, Atom::Var(2)),
+    Act::Copy(HEAP, Atom::Var(1)),
+    Act::Return(Atom::Num(0)),
     Act::Label(0),
     call!(HEAP_LIMIT),
     Act::Quit,

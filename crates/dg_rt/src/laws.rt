@@ -3,7 +3,7 @@ ghost use Rattle.dg_rt.specs.Charges.{ChargeWorks};
 ghost use Rattle.dg_rt.specs.Closings.{ClosingsWork};
 ghost use Rattle.dg_rt.specs.Copies.{CopyWorks};
 ghost use Rattle.dg_rt.specs.CopiesIn.{CopyInWorks};
-ghost use Rattle.dg_rt.specs.Choices.{CommitWorks, CutWorks, FailWorks, OpenWorks};
+ghost use Rattle.dg_rt.specs.Choices.{CommitWorks, CutWorks, FailWorks, OpenInnerWorks, OpenWorks};
 ghost use Rattle.dg_rt.specs.Frames.{CaptureWorks, EnterWorks, VarWorks};
 ghost use Rattle.dg_rt.specs.Fits.{RuntimeFits};
 ghost use Rattle.dg_rt.specs.Queries.{AskWorks, BodyWorks, LeaveWorks, TailCallWorks};
@@ -124,6 +124,11 @@ pub fn tail_call_works()
 /// The routine that enters the body of a closure makes its frame, or meets the heap's limit.
 pub fn body_works()
     ensures { BodyWorks }
+{}
+
+/// The routine that opens an inner construct does so, or meets the heap's limit.
+pub fn open_inner_works()
+    ensures { OpenInnerWorks }
 {}
 
 /// The routines can be assembled.

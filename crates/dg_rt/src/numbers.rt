@@ -95,3 +95,6 @@ pub const TAIL_CALL: u16 = 31;
 
 /// Enters the body of a closure.
 pub const BODY: u16 = 32;
+
+/// Opens an inner construct.
+pub const OPEN_INNER: u16 = 33;

@@ -34,6 +34,9 @@ pub const HEAP_CELLS: u16 = 10_000;
 /// The empty list.
 pub const NIL: u16 = 28_672;
 
+/// No value: what an inner construct keeps that gathers nothing.
+pub const NO_VALUE: u16 = 65_535;
+
 /// What a pair is at its top.
 pub const PAIR_KEY: u16 = 28_673;
 
