@@ -23,7 +23,7 @@ use Rattle.dg_rt.proofs.Standing.{undo_at}
 use Rattle.dg_rt.proofs.Unwinding.{undo_works}
 use Rattle.dg_rt.proofs.Loading.{Ascend, AreLoaded, loaded_same, loads}
 
-in_heap : (cells : ℕ → ℕ) (xs ys : List ℕ) → OnTrail cells (xs ++ ys) → InHeap xs
+pub in_heap : (cells : ℕ → ℕ) (xs ys : List ℕ) → OnTrail cells (xs ++ ys) → InHeap xs
 in_heap cells [] ys h = tt
 in_heap cells (x ∷ xs) ys h = (h.0.1, in_heap cells xs ys h.1)
 

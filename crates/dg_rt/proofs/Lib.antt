@@ -48,3 +48,4 @@ pub mod TailCalling
 pub mod Filling
 pub mod Bodies
 pub mod InnerOpening
+pub mod Stopping

@@ -1,5 +1,5 @@
 -- Fields of a block are put into registers.
-use Rattle.std.proofs.Common.{◌≡◌, ℕ, suc, ◌+◌, ◌-◌, ◌*◌, ◌%◌, ◌<◌, ◌≤◌, List, [], ◌∷◌, ◌++◌, length, refl, ◌∙◌, arith}
+use Rattle.std.proofs.Common.{◌≡◌, ◌≢◌, ℕ, suc, ◌+◌, ◌-◌, ◌*◌, ◌%◌, ◌<◌, ◌≤◌, List, [], ◌∷◌, ◌++◌, length, refl, ◌∙◌, arith}
 use Rattle.z_lang.specs.declared.act.Act.{Act}
 use Rattle.z_lang.specs.declared.act.Act.TheVariants as acts
 use Rattle.z_lang.specs.declared.act.Atom.TheVariants as atoms
@@ -22,6 +22,11 @@ load_acts (x ∷ xs) = acts.Compute x.0 functions.Word (atoms.Num (670 + 2 * x.1
 abbrev pub Ascend : ℕ → List (ℕ × ℕ) → Type 0
 Ascend v [] = Unit {0}
 Ascend v (x ∷ xs) = (v ≤ x.0) × (x.0 < 240) × (x.1 ≤ 21) × Ascend (suc x.0) xs
+
+-- A word is none of the registers.
+abbrev pub Avoids : ℕ → List (ℕ × ℕ) → Type 0
+Avoids k [] = Unit {0}
+Avoids k (x ∷ xs) = (k ≢ x.0 - 16) × Avoids k xs
 
 -- The registers have the fields' words.
 abbrev pub AreLoaded : (ℕ → ℕ) → (ℕ → ℕ) → ℕ → List (ℕ × ℕ) → Type 0
@@ -46,10 +51,11 @@ module _ (p : Program) (map : IsMapped p) (f w : ℕ) (locals typed output : Lis
     pub holds : Holds p.world.layout memory' cells'
     pub are : AreLoaded c cells' at xs
     pub others : (k : ℕ) → (v ≤ k + 16 → 302 < k) → cells' k ≡ c k
+    pub kept : (k : ℕ) → Avoids k xs → cells' k ≡ c k
     pub runs : (o : ActsOutcome) (s' : State) (n : ℕ) → ActsRun p f w body rest (now memory') o s' n → ActsRun p f w body (load_acts xs ++ rest) (now memory) o s' (steps (length xs) n)
 
   pub loads : (body rest : List Act) (v : ℕ) (xs : List (ℕ × ℕ)) (memory : List ℕ) (c start : ℕ → ℕ) → Holds p.world.layout memory c → 16 ≤ v → Ascend v xs → ((k : ℕ) → 302 < k → c k ≡ start k) → Loads body rest v xs memory c
-  loads body rest v [] memory c start h le up same = record { memory' = memory; cells' = c; holds = h; are = tt; others = λ k far. refl; runs = λ o s' n r. r }
+  loads body rest v [] memory c start h le up same = record { memory' = memory; cells' = c; holds = h; are = tt; others = λ k far. refl; kept = λ k av. refl; runs = λ o s' n r. r }
   loads body rest v (x ∷ xs) memory c start h le up same =
       let high = map.room in
       let a = up.0 in
@@ -68,5 +74,6 @@ module _ (p : Program) (map : IsMapped p) (f w : ℕ) (locals typed output : Lis
         holds = r.holds;
         are = (r.others j (λ q. (omega arith)) ∙ same_cell c j y, loaded_same at xs new c r.cells' (λ k far. apart k far) r.are);
         others = λ k far. r.others k (λ q. far (omega arith)) ∙ other_cell c j y k (λ (e : k ≡ j). (let q : 302 < k = far (omega arith) in omega arith));
+        kept = λ k av. r.kept k av.1 ∙ other_cell c j y k av.0;
         runs = λ o s' n r'. done (computes p (now memory) (now (with_cell memory j y)) x.0 functions.Word (atoms.Num (670 + 2 * x.1)) (atoms.Var 1) (670 + 2 * x.1) (at_place at) y refl (local_1 memory) (reads_cell p.world.layout memory c (670 + 2 * x.1) (at_place at) (heap_at + (at + x.1)) h there (omega arith)) put.put_is) (r.runs o s' n r');
       }

@@ -73,6 +73,10 @@ args_reg = 16
 abbrev pub last_reg : ℕ
 last_reg = 28
 
+-- The newest gathering that is open, or 0.
+abbrev pub gather_reg : ℕ
+gather_reg = 29
+
 -- The word of the box that is being filled.
 abbrev pub word_reg : ℕ
 word_reg = 36

@@ -3,10 +3,10 @@
 use Rattle.std.specs.Prelude.{◌≡◌, ◌≢◌, ℕ, ◌+◌, ◌*◌, ◌<◌, ◌≤◌, nat_lt, List, [], ◌∷◌, ◌++◌, length, if◌then◌else◌}
 use Rattle.z_lang.specs.State.{Program}
 use Rattle.z_lang.specs.Runs.{ActsRun as Runs, Returns}
-use Rattle.dg_rt.specs.declared.numbers.TheConstants.{FAILED}
-use Rattle.dg_rt.specs.declared.choices.TheConstants.{CUT_ACTS, OPEN_ACTS, FAIL_ACTS, COMMIT_ACTS, OPEN_INNER_ACTS}
+use Rattle.dg_rt.specs.declared.numbers.TheConstants.{FAILED, STOPPED}
+use Rattle.dg_rt.specs.declared.choices.TheConstants.{CUT_ACTS, OPEN_ACTS, FAIL_ACTS, COMMIT_ACTS, OPEN_INNER_ACTS, UNSTOP_ACTS}
 use Rattle.dg_rt.specs.Cells.{Holds}
-use Rattle.dg_rt.specs.Areas.{heap_at, trail_at, trail_reg, mark_reg, heap_reg, frame_reg, choice_reg, inner_reg, stop_reg, back_reg, cut_reg, many_reg, key_reg, begin_reg, args_reg, IsMapped, state}
+use Rattle.dg_rt.specs.Areas.{heap_at, trail_at, trail_reg, mark_reg, heap_reg, frame_reg, choice_reg, inner_reg, stop_reg, back_reg, cut_reg, many_reg, key_reg, begin_reg, args_reg, gather_reg, IsMapped, state}
 use Rattle.dg_rt.specs.Back.{at_place, undone, OnTrail}
 use Rattle.dg_rt.specs.RunTime.{HasRunTime}
 use Rattle.dg_rt.specs.Charges.{MeetsLimit}
@@ -161,4 +161,42 @@ pub record FailWorks : Type 0 where
       Holds p.world.layout memory cells →
       cells choice_reg ≡ 0 →
       Runs p f w FAIL_ACTS FAIL_ACTS (state memory (0 ∷ 0 ∷ 0 ∷ 0 ∷ []) typed drawn output) (Returns (p.names.routine FAILED))
+      (state memory (0 ∷ 0 ∷ 0 ∷ 0 ∷ []) typed drawn output) 2
+
+-- ## Stopping
+
+-- A stoppable part was left by a stop, in 4 instructions for each choice that is dropped, 6 for each binding that is undone, and 18: the choices that
+-- aren't older than its place are dropped, what its block keeps is in the registers, and the variables at these places, the newest on the trail, are
+-- unbound.
+pub record Unstops (p : Program) (f w : ℕ) (memory typed output : List ℕ) (drawn at : ℕ) (cells : ℕ → ℕ) (ks old newer : List ℕ) : Type 0 where
+  pub memory' : List ℕ
+  pub cells' : ℕ → ℕ
+  pub locals' : List ℕ
+  pub holds : Holds p.world.layout memory' cells'
+  pub trail : cells' trail_reg ≡ length old
+  pub mark : cells' mark_reg ≡ at_place at
+  pub heap : cells' heap_reg ≡ at
+  pub frame : cells' frame_reg ≡ cells (heap_at + (at + 2))
+  pub chain : Chain cells (cells' choice_reg) (left_of at ks)
+  pub inner : cells' inner_reg ≡ cells (heap_at + (at + 3))
+  pub stop : cells' stop_reg ≡ cells (heap_at + (at + 4))
+  pub gather : cells' gather_reg ≡ cells (heap_at + (at + 6))
+  pub words : (k : ℕ) → k < 10000 → cells' (heap_at + k) ≡ undone newer cells (heap_at + k)
+  pub others : (k : ℕ) → k ≢ trail_reg → k ≢ mark_reg → k ≢ heap_reg → k ≢ frame_reg → k ≢ choice_reg → k ≢ inner_reg → k ≢ stop_reg →
+      k ≢ gather_reg → (heap_at ≤ k → trail_at ≤ k) → cells' k ≡ cells k
+  pub count : ℕ
+  pub few : count ≤ 4 * dropped_of at ks + 6 * length newer + 18
+  pub runs : Runs p f w UNSTOP_ACTS UNSTOP_ACTS (state memory (0 ∷ 0 ∷ 0 ∷ 0 ∷ []) typed drawn output) (Returns (cells (heap_at + (at + 1))))
+      (state memory' locals' typed drawn output) count
+
+-- So it is where there is a stoppable part, whose trail is the one at hand without its newest places; without one the routine of a run that was stopped
+-- is answered.
+pub record UnstopWorks : Type 0 where
+  pub goes : (p : Program) → HasRunTime p → (f w : ℕ) → 0 < f → 2 ≤ w → (memory typed output : List ℕ) (drawn at : ℕ) (cells : ℕ → ℕ)
+      (ks old newer : List ℕ) → Holds p.world.layout memory cells → cells stop_reg ≡ at_place at → at + 10 ≤ 10000 →
+      Chain cells (cells choice_reg) ks → cells (heap_at + (at + 5)) ≡ length old → cells trail_reg ≡ length (newer ++ old) →
+      length (newer ++ old) ≤ 2000 → OnTrail cells (newer ++ old) → Unstops p f w memory typed output drawn at cells ks old newer
+  pub has_none : (p : Program) → IsMapped p → (f w : ℕ) (memory typed output : List ℕ) (drawn : ℕ) (cells : ℕ → ℕ) →
+      Holds p.world.layout memory cells → cells stop_reg ≡ 0 →
+      Runs p f w UNSTOP_ACTS UNSTOP_ACTS (state memory (0 ∷ 0 ∷ 0 ∷ 0 ∷ []) typed drawn output) (Returns (p.names.routine STOPPED))
       (state memory (0 ∷ 0 ∷ 0 ∷ 0 ∷ []) typed drawn output) 2

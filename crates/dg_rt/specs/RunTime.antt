@@ -9,7 +9,7 @@ use Rattle.dg_rt.specs.declared.copies.TheConstants.{COPY_OUT_ACTS, COPY_IN_ACTS
 use Rattle.dg_rt.specs.declared.closings.TheConstants.{NEWLINE_ACTS, DONE_ACTS, FAILED_ACTS, STOPPED_ACTS, HEAP_LIMIT_ACTS, TRAIL_LIMIT_ACTS, AUX_LIMIT_ACTS, KEEP_LIMIT_ACTS}
 use Rattle.dg_rt.specs.declared.heap.TheConstants.{CHARGE_ACTS}
 use Rattle.dg_rt.specs.declared.frames.TheConstants.{VAR_ACTS, CAPTURE_ACTS, ENTER_ACTS}
-use Rattle.dg_rt.specs.declared.choices.TheConstants.{CUT_ACTS, OPEN_ACTS, FAIL_ACTS, COMMIT_ACTS, OPEN_INNER_ACTS}
+use Rattle.dg_rt.specs.declared.choices.TheConstants.{CUT_ACTS, OPEN_ACTS, FAIL_ACTS, COMMIT_ACTS, OPEN_INNER_ACTS, UNSTOP_ACTS}
 use Rattle.dg_rt.specs.declared.rules.TheConstants.{KEY_OF_ACTS, FOUND_ACTS, NONE_ACTS, MATCH_ACTS, MATCHED_ACTS}
 use Rattle.dg_rt.specs.declared.queries.TheConstants.{LEAVE_ACTS, ASK_ACTS, TAIL_CALL_ACTS, BODY_ACTS}
 use Rattle.dg_rt.specs.Areas.{IsMapped}
@@ -42,11 +42,11 @@ rule_routines =
     routine_of 1 COMMIT_ACTS ∷ routine_of 4 KEY_OF_ACTS ∷ routine_of 4 FOUND_ACTS ∷ routine_of 0 NONE_ACTS ∷ routine_of 4 MATCH_ACTS
     ∷ routine_of 1 MATCHED_ACTS ∷ []
 
--- Those of queries and their answers, and of inner constructs.
+-- Those of queries and their answers, of inner constructs and stoppable parts.
 abbrev pub query_routines : List Routine
 query_routines =
     routine_of 4 LEAVE_ACTS ∷ routine_of 4 ASK_ACTS ∷ routine_of 2 TAIL_CALL_ACTS
-    ∷ routine_of 4 BODY_ACTS ∷ routine_of 2 OPEN_INNER_ACTS ∷ []
+    ∷ routine_of 4 BODY_ACTS ∷ routine_of 2 OPEN_INNER_ACTS ∷ routine_of 4 UNSTOP_ACTS ∷ []
 
 -- All of them. The first has number 1, since a story begins with routine 0.
 abbrev pub runtime : List Routine

@@ -1,8 +1,8 @@
 // Choices: opening and dropping them, going back, and inner constructs.
 use crate::acts::{add, call, put, read, sub, when};
-use crate::numbers::{CUT, FAILED, HEAP_LIMIT, UNDO};
+use crate::numbers::{CUT, FAILED, HEAP_LIMIT, STOPPED, UNDO};
 use crate::registers::{
-    ARGS, BACK, BEGIN, CHOICE, CUT_TO, FRAME, HEAP, INNER, KEY, MANY, MARK, STOP, TRAIL,
+    ARGS, BACK, BEGIN, CHOICE, CUT_TO, FRAME, GATHER, HEAP, INNER, KEY, MANY, MARK, STOP, TRAIL,
 };
 use crate::words::{
     CHOICE_ARGS, CHOICE_BACK, CHOICE_BEHIND, CHOICE_FRAME, CHOICE_GATHER, CHOICE_INNER, CHOICE_KEY,
@@ -107,4 +107,24 @@ pub const COMMIT_ACTS: [Act; 4] = [
     read!(INNER, CHOICE_INNER, 1),
     Act::Call(None, Atom::Routine(CUT), Args::One(Atom::Var(1))),
     Act::Return(Atom::Num(0)),
+];
+
+/// Stops: the choices inside the stoppable part around are dropped, what its block keeps is put into the registers, bindings are undone, and the routine
+/// that it goes on with is answered. Without a stoppable part the run is stopped.
+pub const UNSTOP_ACTS: [Act; 15] = [
+    when!(STOP, Equal, Atom::Num(0), true, 0),
+    Act::Copy(1, Atom::Var(STOP)),
+    Act::Call(None, Atom::Routine(CUT), Args::One(Atom::Var(1))),
+    read!(2, CHOICE_TRAIL, 1),
+    read!(3, CHOICE_ROUTINE, 1),
+    Act::Copy(MARK, Atom::Var(1)),
+    sub!(HEAP, 1, Atom::Num(FIRST_PLACE)),
+    read!(FRAME, CHOICE_FRAME, 1),
+    read!(INNER, CHOICE_INNER, 1),
+    read!(STOP, CHOICE_STOP, 1),
+    read!(GATHER, CHOICE_GATHER, 1),
+    Act::Call(None, Atom::Routine(UNDO), Args::One(Atom::Var(2))),
+    Act::Return(Atom::Var(3)),
+    Act::Label(0),
+    Act::Return(Atom::Routine(STOPPED)),
 ];

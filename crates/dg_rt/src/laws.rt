@@ -3,7 +3,7 @@ ghost use Rattle.dg_rt.specs.Charges.{ChargeWorks};
 ghost use Rattle.dg_rt.specs.Closings.{ClosingsWork};
 ghost use Rattle.dg_rt.specs.Copies.{CopyWorks};
 ghost use Rattle.dg_rt.specs.CopiesIn.{CopyInWorks};
-ghost use Rattle.dg_rt.specs.Choices.{CommitWorks, CutWorks, FailWorks, OpenInnerWorks, OpenWorks};
+ghost use Rattle.dg_rt.specs.Choices.{CommitWorks, CutWorks, FailWorks, OpenInnerWorks, OpenWorks, UnstopWorks};
 ghost use Rattle.dg_rt.specs.Frames.{CaptureWorks, EnterWorks, VarWorks};
 ghost use Rattle.dg_rt.specs.Fits.{RuntimeFits};
 ghost use Rattle.dg_rt.specs.Queries.{AskWorks, BodyWorks, LeaveWorks, TailCallWorks};
@@ -129,6 +129,11 @@ pub fn body_works()
 /// The routine that opens an inner construct does so, or meets the heap's limit.
 pub fn open_inner_works()
     ensures { OpenInnerWorks }
+{}
+
+/// The routine that stops goes on behind the stoppable part.
+pub fn unstop_works()
+    ensures { UnstopWorks }
 {}
 
 /// The routines can be assembled.

@@ -16,7 +16,7 @@ mod rules;
 mod unify;
 mod words;
 
-pub use choices::{COMMIT_ACTS, CUT_ACTS, FAIL_ACTS, OPEN_ACTS, OPEN_INNER_ACTS};
+pub use choices::{COMMIT_ACTS, CUT_ACTS, FAIL_ACTS, OPEN_ACTS, OPEN_INNER_ACTS, UNSTOP_ACTS};
 pub use closings::{
     AUX_LIMIT_ACTS, DONE_ACTS, FAILED_ACTS, HEAP_LIMIT_ACTS, KEEP_LIMIT_ACTS, NEWLINE_ACTS,
     STOPPED_ACTS, TRAIL_LIMIT_ACTS,
@@ -28,7 +28,7 @@ pub use laws::{
     ask_works, body_works, capture_works, charge_works, closings_work, commit_works, copy_in_works,
     copy_works, cut_works, enter_works, fail_works, found_works, key_works, leave_works,
     match_works, matched_works, none_works, open_inner_works, open_works, runtime_fits,
-    tail_call_works, undo_gives_back, undo_unwinds, unify_works, var_works,
+    tail_call_works, undo_gives_back, undo_unwinds, unify_works, unstop_works, var_works,
 };
 pub use queries::{ASK_ACTS, BODY_ACTS, LEAVE_ACTS, TAIL_CALL_ACTS};
 pub use routines::runtime;

@@ -98,3 +98,6 @@ pub const BODY: u16 = 32;
 
 /// Opens an inner construct.
 pub const OPEN_INNER: u16 = 33;
+
+/// Goes on behind a stoppable part.
+pub const UNSTOP: u16 = 34;

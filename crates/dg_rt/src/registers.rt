@@ -48,6 +48,9 @@ pub const ARGS: u8 = 32;
 /// How the text ends: 0 where nothing was printed.
 pub const LAST: u8 = 44;
 
+/// The newest gathering that is open, or 0.
+pub const GATHER: u8 = 45;
+
 /// The word of the box that is being filled.
 pub const WORD: u8 = 52;
 

@@ -2,7 +2,7 @@
 ghost use Rattle.std.specs.Prelude.{◌≡◌, ◌∷◌, ◌++◌, [], IfOk, OnOk};
 ghost use Rattle.dg_rt.specs.RunTime as spec;
 
-use crate::choices::{COMMIT_ACTS, CUT_ACTS, FAIL_ACTS, OPEN_ACTS, OPEN_INNER_ACTS};
+use crate::choices::{COMMIT_ACTS, CUT_ACTS, FAIL_ACTS, OPEN_ACTS, OPEN_INNER_ACTS, UNSTOP_ACTS};
 use crate::closings::{
     AUX_LIMIT_ACTS, DONE_ACTS, FAILED_ACTS, HEAP_LIMIT_ACTS, KEEP_LIMIT_ACTS, NEWLINE_ACTS,
     STOPPED_ACTS, TRAIL_LIMIT_ACTS,
@@ -89,7 +89,7 @@ impl Writer {
         Ok(())
     }
 
-    // Those of queries and their answers, and of inner constructs.
+    // Those of queries and their answers, of inner constructs and stoppable parts.
     fn put_queries(&mut self) -> Result<(), AllocError>
         ensures { OnOk result (self.new.all ≡ self.old.all ++ spec.query_routines) }
     {
@@ -98,6 +98,7 @@ impl Writer {
         self.put(2, &TAIL_CALL_ACTS)?;
         self.put(4, &BODY_ACTS)?;
         self.put(2, &OPEN_INNER_ACTS)?;
+        self.put(4, &UNSTOP_ACTS)?;
         Ok(())
     }
 }
