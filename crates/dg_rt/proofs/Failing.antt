@@ -42,6 +42,9 @@ put_two = (26, 8) ∷ (27, 9) ∷ []
 abbrev put_args : List (ℕ × ℕ)
 put_args = in_a_row 32 10 12
 
+abbrev put_last : List (ℕ × ℕ)
+put_last = (45, 6) ∷ []
+
 ascends_first : Ascend 20 put_first
 ascends_first = (omega arith, omega arith, omega arith, (omega arith, omega arith, omega arith, (omega arith, omega arith, omega arith, (omega arith, omega arith, omega arith, (omega arith, omega arith, omega arith, tt)))))
 
@@ -58,6 +61,23 @@ higher v w (x ∷ xs) le up = (let a = up.0 in omega arith, up.1, up.2, up.3)
 
 ascends_args : Ascend 29 put_args
 ascends_args = higher 29 32 put_args (omega arith) (ascends_row 32 10 12 (omega arith) (omega arith))
+
+ascends_last : Ascend 44 put_last
+ascends_last = (omega arith, omega arith, omega arith, tt)
+
+-- Registers in front of one.
+abbrev Below : ℕ → List (ℕ × ℕ) → Type 0
+Below v [] = Unit {0}
+Below v (x ∷ xs) = (x.0 < v) × Below v xs
+
+below_row : (v i n : ℕ) → v + n ≤ 44 → Below 44 (in_a_row v i n)
+below_row v i zero le = tt
+below_row v i (suc n) le = (omega arith, below_row (suc v) (suc i) n (omega arith))
+
+-- what is loaded stays where later registers are put
+loaded_before : (at : ℕ) (xs : List (ℕ × ℕ)) (c c' c2 : ℕ → ℕ) (v : ℕ) → 16 < v → ((k : ℕ) → k + 16 < v → c2 k ≡ c' k) → Below v xs → AreLoaded c c' at xs → AreLoaded c c2 at xs
+loaded_before at [] c c' c2 v some same low h = tt
+loaded_before at (x ∷ xs) c c' c2 v some same low h = (let a = low.0 in same (x.0 - 16) (omega arith) ∙ h.0, loaded_before at xs c c' c2 v some same low.1 h.1)
 
 -- what is loaded in a row, by its number
 row_at : (c c' : ℕ → ℕ) (at v i n : ℕ) → 16 ≤ v → AreLoaded c c' at (in_a_row v i n) → (j : ℕ) → j < n → c' (v - 16 + j) ≡ c (heap_at + (at + (i + j)))
@@ -156,9 +176,49 @@ module _ (p : Program) (has : HasRunTime p) (f w : ℕ) (some : 0 < f) (enough :
             (r3.runs (Returns routine) s' n r'))))))))));
       }
 
+  -- The gathering is in its register too.
+  record Complete : Type 0 where
+    memory' : List ℕ
+    cells' : ℕ → ℕ
+    holds' : Holds p.world.layout memory' cells'
+    two : cells' 2 ≡ at_place at
+    three : cells' 3 ≡ at
+    nine : cells' 9 ≡ at_place at
+    first : AreLoaded c cells' at put_first
+    pair : AreLoaded c cells' at put_two
+    args : AreLoaded c cells' at put_args
+    twelve : cells' 12 ≡ 0
+    gather : cells' 29 ≡ c (heap_at + (at + 6))
+    one : cells' 1 ≡ c 1
+    far : (k : ℕ) → 302 < k → cells' k ≡ c k
+    runs : (s' : State) (n : ℕ) → Runs p f w FAIL_ACTS (drop 28 FAIL_ACTS) (st memory' (at_place at) left routine) (Returns routine) s' n → Runs p f w FAIL_ACTS FAIL_ACTS (st memory 0 0 0) (Returns routine) s' (steps 27 (suc n))
+
+  completes : (a : Restored) → Complete
+  completes a =
+      let v = at_place at in
+      let r = loads p has.mapped f w (v ∷ left ∷ routine ∷ 0 ∷ []) typed output drawn at (omega arith) (λ mem. get_1 p mem v left routine 0 typed drawn output) FAIL_ACTS (drop 28 FAIL_ACTS) 44 put_last a.memory' a.cells' c a.holds' (omega arith) ascends_last a.far in
+      let same : (k : ℕ) → k + 16 < 44 → r.cells' k ≡ a.cells' k = λ k lt. r.others k (λ q. (omega arith)) in
+      let are = r.are in
+      record {
+        memory' = r.memory';
+        cells' = r.cells';
+        holds' = r.holds;
+        two = same 2 (omega arith) ∙ a.two;
+        three = same 3 (omega arith) ∙ a.three;
+        nine = same 9 (omega arith) ∙ a.nine;
+        first = loaded_before at put_first c a.cells' r.cells' 44 (omega arith) same (omega arith, (omega arith, (omega arith, (omega arith, (omega arith, tt))))) a.first;
+        pair = loaded_before at put_two c a.cells' r.cells' 44 (omega arith) same (omega arith, (omega arith, tt)) a.pair;
+        args = loaded_before at put_args c a.cells' r.cells' 44 (omega arith) same (below_row 32 10 12 (omega arith)) a.args;
+        twelve = same 12 (omega arith) ∙ a.twelve;
+        gather = are.0 ∙ a.far (heap_at + (at + 6)) (omega arith);
+        one = same 1 (omega arith) ∙ a.one;
+        far = λ k q. r.others k (λ q'. q) ∙ a.far k q;
+        runs = λ s' n r'. a.runs s' (suc n) (r.runs (Returns routine) s' n r');
+      }
+
   goes_back : GoesBack p f w memory typed output drawn at c old newer
   goes_back =
-      let a = restored in
+      let a = completes restored in
       let long = length-append newer old in
       let on' = trail_stays c a.cells' (newer ++ old) (λ i low. a.far (trail_at + i) (omega arith)) on in
       let one = a.one in
@@ -185,12 +245,13 @@ module _ (p : Program) (has : HasRunTime p) (f w : ℕ) (some : 0 < f) (enough :
         many = low 10 (λ e. (omega arith)) (omega arith) ∙ f2.0;
         key = low 11 (λ e. (omega arith)) (omega arith) ∙ f2.1.0;
         begin = low 12 (λ e. (omega arith)) (omega arith) ∙ a.twelve;
+        gather = low 29 (λ e. (omega arith)) (omega arith) ∙ a.gather;
         args = λ i lt. low (args_reg + i) (λ e. (omega arith)) (omega arith) ∙ row_at c a.cells' at 32 10 12 (omega arith) a.args i lt;
         words = λ k lt. u.words k lt ∙ undone_same newer c a.cells' (heap_at + k) (a.far (heap_at + k) (omega arith));
         others = λ k far. u.others k (λ e. (omega arith)) (λ le. far) ∙ a.far k (omega arith);
-        count = 28 + (u.count + 1);
+        count = 29 + (u.count + 1);
         few = omega arith;
-        runs = subst (Runs p f w FAIL_ACTS FAIL_ACTS (st memory 0 0 0) (Returns routine) s') (let z : steps 27 (suc u.count + 1) ≡ 28 + (u.count + 1) = omega arith in z)
+        runs = subst (Runs p f w FAIL_ACTS FAIL_ACTS (st memory 0 0 0) (Returns routine) s') (let z : steps 27 (suc (suc u.count + 1)) ≡ 29 + (u.count + 1) = omega arith in z)
             (a.runs s' (suc u.count + 1)
             (calls {f' = 0} {w' = 0} {n = u.count} {n' = 1} {xs = (left, 0, 0)} refl (rw (get_2 p a.memory' (at_place at) left routine 0 typed drawn output) refl) (undo_at p has) some (omega arith) u.runs refl
             (returns (get_3 p u.memory' (at_place at) left routine 0 typed drawn output))));

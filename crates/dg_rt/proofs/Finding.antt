@@ -67,9 +67,9 @@ module _ (p : Program) (has : HasRunTime p) (f w : ℕ) (memory typed output : L
         let room = has.mapped.room in
         let w0 = at_place top in
         let locals = end ∷ w0 ∷ self ∷ 0 ∷ [] in
-        let words = c 5 ∷ self ∷ c 4 ∷ c 6 ∷ c 7 ∷ c 1 ∷ 0 ∷ c 8 ∷ c 10 ∷ c 11 ∷ c 16 ∷ c 17 ∷ c 18 ∷ c 19 ∷ c 20 ∷ c 21 ∷ c 22 ∷ c 23 ∷ c 24 ∷ c 25 ∷ c 26 ∷ c 27 ∷ [] in
-        let them = atoms.Var 21 ∷ atoms.Var 3 ∷ atoms.Var 20 ∷ atoms.Var 22 ∷ atoms.Var 23 ∷ atoms.Var 17 ∷ atoms.Num 0 ∷ atoms.Var 24 ∷ atoms.Var 26 ∷ atoms.Var 27 ∷ atoms.Var 32 ∷ atoms.Var 33 ∷ atoms.Var 34 ∷ atoms.Var 35 ∷ atoms.Var 36 ∷ atoms.Var 37 ∷ atoms.Var 38 ∷ atoms.Var 39 ∷ atoms.Var 40 ∷ atoms.Var 41 ∷ atoms.Var 42 ∷ atoms.Var 43 ∷ [] in
-        let r = put_row p has.mapped f w locals typed output drawn top (λ m. get_2 p m end w0 self 0 typed drawn output) FOUND_ACTS (drop 31 FOUND_ACTS) 0 them words memory c c h (omega arith) (λ k lt. refl) ((λ m c' hh same. reg m end w0 self c' 21 hh (omega arith) (omega arith) ∙ ap word (same 5 (omega arith))), h.words 5, ((λ m c' hh same. get_3 p m end w0 self 0 typed drawn output), few_s, ((λ m c' hh same. reg m end w0 self c' 20 hh (omega arith) (omega arith) ∙ ap word (same 4 (omega arith))), h.words 4, ((λ m c' hh same. reg m end w0 self c' 22 hh (omega arith) (omega arith) ∙ ap word (same 6 (omega arith))), h.words 6, ((λ m c' hh same. reg m end w0 self c' 23 hh (omega arith) (omega arith) ∙ ap word (same 7 (omega arith))), h.words 7, ((λ m c' hh same. reg m end w0 self c' 17 hh (omega arith) (omega arith) ∙ ap word (same 1 (omega arith))), h.words 1, ((λ m c' hh same. refl), omega arith, ((λ m c' hh same. reg m end w0 self c' 24 hh (omega arith) (omega arith) ∙ ap word (same 8 (omega arith))), h.words 8, ((λ m c' hh same. reg m end w0 self c' 26 hh (omega arith) (omega arith) ∙ ap word (same 10 (omega arith))), h.words 10, ((λ m c' hh same. reg m end w0 self c' 27 hh (omega arith) (omega arith) ∙ ap word (same 11 (omega arith))), h.words 11, ((λ m c' hh same. reg m end w0 self c' 32 hh (omega arith) (omega arith) ∙ ap word (same 16 (omega arith))), h.words 16, ((λ m c' hh same. reg m end w0 self c' 33 hh (omega arith) (omega arith) ∙ ap word (same 17 (omega arith))), h.words 17, ((λ m c' hh same. reg m end w0 self c' 34 hh (omega arith) (omega arith) ∙ ap word (same 18 (omega arith))), h.words 18, ((λ m c' hh same. reg m end w0 self c' 35 hh (omega arith) (omega arith) ∙ ap word (same 19 (omega arith))), h.words 19, ((λ m c' hh same. reg m end w0 self c' 36 hh (omega arith) (omega arith) ∙ ap word (same 20 (omega arith))), h.words 20, ((λ m c' hh same. reg m end w0 self c' 37 hh (omega arith) (omega arith) ∙ ap word (same 21 (omega arith))), h.words 21, ((λ m c' hh same. reg m end w0 self c' 38 hh (omega arith) (omega arith) ∙ ap word (same 22 (omega arith))), h.words 22, ((λ m c' hh same. reg m end w0 self c' 39 hh (omega arith) (omega arith) ∙ ap word (same 23 (omega arith))), h.words 23, ((λ m c' hh same. reg m end w0 self c' 40 hh (omega arith) (omega arith) ∙ ap word (same 24 (omega arith))), h.words 24, ((λ m c' hh same. reg m end w0 self c' 41 hh (omega arith) (omega arith) ∙ ap word (same 25 (omega arith))), h.words 25, ((λ m c' hh same. reg m end w0 self c' 42 hh (omega arith) (omega arith) ∙ ap word (same 26 (omega arith))), h.words 26, ((λ m c' hh same. reg m end w0 self c' 43 hh (omega arith) (omega arith) ∙ ap word (same 27 (omega arith))), h.words 27, tt)))))))))))))))))))))) in
+        let words = c 5 ∷ self ∷ c 4 ∷ c 6 ∷ c 7 ∷ c 1 ∷ c 29 ∷ c 8 ∷ c 10 ∷ c 11 ∷ c 16 ∷ c 17 ∷ c 18 ∷ c 19 ∷ c 20 ∷ c 21 ∷ c 22 ∷ c 23 ∷ c 24 ∷ c 25 ∷ c 26 ∷ c 27 ∷ [] in
+        let them = atoms.Var 21 ∷ atoms.Var 3 ∷ atoms.Var 20 ∷ atoms.Var 22 ∷ atoms.Var 23 ∷ atoms.Var 17 ∷ atoms.Var 45 ∷ atoms.Var 24 ∷ atoms.Var 26 ∷ atoms.Var 27 ∷ atoms.Var 32 ∷ atoms.Var 33 ∷ atoms.Var 34 ∷ atoms.Var 35 ∷ atoms.Var 36 ∷ atoms.Var 37 ∷ atoms.Var 38 ∷ atoms.Var 39 ∷ atoms.Var 40 ∷ atoms.Var 41 ∷ atoms.Var 42 ∷ atoms.Var 43 ∷ [] in
+        let r = put_row p has.mapped f w locals typed output drawn top (λ m. get_2 p m end w0 self 0 typed drawn output) FOUND_ACTS (drop 31 FOUND_ACTS) 0 them words memory c c h (omega arith) (λ k lt. refl) ((λ m c' hh same. reg m end w0 self c' 21 hh (omega arith) (omega arith) ∙ ap word (same 5 (omega arith))), h.words 5, ((λ m c' hh same. get_3 p m end w0 self 0 typed drawn output), few_s, ((λ m c' hh same. reg m end w0 self c' 20 hh (omega arith) (omega arith) ∙ ap word (same 4 (omega arith))), h.words 4, ((λ m c' hh same. reg m end w0 self c' 22 hh (omega arith) (omega arith) ∙ ap word (same 6 (omega arith))), h.words 6, ((λ m c' hh same. reg m end w0 self c' 23 hh (omega arith) (omega arith) ∙ ap word (same 7 (omega arith))), h.words 7, ((λ m c' hh same. reg m end w0 self c' 17 hh (omega arith) (omega arith) ∙ ap word (same 1 (omega arith))), h.words 1, ((λ m c' hh same. reg m end w0 self c' 45 hh (omega arith) (omega arith) ∙ ap word (same 29 (omega arith))), h.words 29, ((λ m c' hh same. reg m end w0 self c' 24 hh (omega arith) (omega arith) ∙ ap word (same 8 (omega arith))), h.words 8, ((λ m c' hh same. reg m end w0 self c' 26 hh (omega arith) (omega arith) ∙ ap word (same 10 (omega arith))), h.words 10, ((λ m c' hh same. reg m end w0 self c' 27 hh (omega arith) (omega arith) ∙ ap word (same 11 (omega arith))), h.words 11, ((λ m c' hh same. reg m end w0 self c' 32 hh (omega arith) (omega arith) ∙ ap word (same 16 (omega arith))), h.words 16, ((λ m c' hh same. reg m end w0 self c' 33 hh (omega arith) (omega arith) ∙ ap word (same 17 (omega arith))), h.words 17, ((λ m c' hh same. reg m end w0 self c' 34 hh (omega arith) (omega arith) ∙ ap word (same 18 (omega arith))), h.words 18, ((λ m c' hh same. reg m end w0 self c' 35 hh (omega arith) (omega arith) ∙ ap word (same 19 (omega arith))), h.words 19, ((λ m c' hh same. reg m end w0 self c' 36 hh (omega arith) (omega arith) ∙ ap word (same 20 (omega arith))), h.words 20, ((λ m c' hh same. reg m end w0 self c' 37 hh (omega arith) (omega arith) ∙ ap word (same 21 (omega arith))), h.words 21, ((λ m c' hh same. reg m end w0 self c' 38 hh (omega arith) (omega arith) ∙ ap word (same 22 (omega arith))), h.words 22, ((λ m c' hh same. reg m end w0 self c' 39 hh (omega arith) (omega arith) ∙ ap word (same 23 (omega arith))), h.words 23, ((λ m c' hh same. reg m end w0 self c' 40 hh (omega arith) (omega arith) ∙ ap word (same 24 (omega arith))), h.words 24, ((λ m c' hh same. reg m end w0 self c' 41 hh (omega arith) (omega arith) ∙ ap word (same 25 (omega arith))), h.words 25, ((λ m c' hh same. reg m end w0 self c' 42 hh (omega arith) (omega arith) ∙ ap word (same 26 (omega arith))), h.words 26, ((λ m c' hh same. reg m end w0 self c' 43 hh (omega arith) (omega arith) ∙ ap word (same 27 (omega arith))), h.words 27, tt)))))))))))))))))))))) in
         let m1 = r.memory' in
         let c1 = r.cells' in
         let p2 = puts p (st m1 end w0 self) c1 21 w0 r.holds (omega arith) (omega arith) (omega arith) (omega arith) in

@@ -44,8 +44,8 @@ module _ (p : Program) (has : HasRunTime p) (f w : ℕ) (memory typed output : L
       let room = has.mapped.room in
       let w0 = at_place top in
       let locals = routine ∷ w0 ∷ ninth ∷ eighth ∷ end ∷ [] in
-      let words = c 5 ∷ routine ∷ c 4 ∷ c 6 ∷ c 7 ∷ c 1 ∷ 0 ∷ eighth ∷ ninth ∷ 0 ∷ [] in
-      let them = atoms.Var 21 ∷ atoms.Var 1 ∷ atoms.Var 20 ∷ atoms.Var 22 ∷ atoms.Var 23 ∷ atoms.Var 17 ∷ atoms.Num 0 ∷ atoms.Var 4 ∷ atoms.Var 3 ∷ atoms.Num 0 ∷ [] in
+      let words = c 5 ∷ routine ∷ c 4 ∷ c 6 ∷ c 7 ∷ c 1 ∷ c 29 ∷ eighth ∷ ninth ∷ 0 ∷ [] in
+      let them = atoms.Var 21 ∷ atoms.Var 1 ∷ atoms.Var 20 ∷ atoms.Var 22 ∷ atoms.Var 23 ∷ atoms.Var 17 ∷ atoms.Var 45 ∷ atoms.Var 4 ∷ atoms.Var 3 ∷ atoms.Num 0 ∷ [] in
       let r = put_row p has.mapped f w locals typed output drawn top (λ m. second p m routine w0 ninth eighth end typed drawn output) OPEN_ACTS (drop 14 OPEN_ACTS) 0 them words memory c c h (omega arith) (λ k lt. refl) (
         (λ m c' hh same. reg m w0 eighth end c' 21 hh (omega arith) (omega arith) ∙ ap word (same 5 (omega arith))),
         h.words 5,
@@ -65,8 +65,8 @@ module _ (p : Program) (has : HasRunTime p) (f w : ℕ) (memory typed output : L
                   (λ m c' hh same. reg m w0 eighth end c' 17 hh (omega arith) (omega arith) ∙ ap word (same 1 (omega arith))),
                   h.words 1,
                   (
-                    (λ m c' hh same. refl),
-                    omega arith,
+                    (λ m c' hh same. reg m w0 eighth end c' 45 hh (omega arith) (omega arith) ∙ ap word (same 29 (omega arith))),
+                    h.words 29,
                     (
                       (λ m c' hh same. fourth p m routine w0 ninth eighth end typed drawn output),
                       few_e,

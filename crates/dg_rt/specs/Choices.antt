@@ -23,9 +23,8 @@ pub record Opens (p : Program) (f w : ℕ) (memory typed output : List ℕ) (dra
   pub heap : cells' heap_reg ≡ top + 10
   pub choice : cells' choice_reg ≡ at_place top
   pub mark : cells' mark_reg ≡ at_place top
-  pub row : RowIs cells' (top + 0) (cells choice_reg ∷ routine ∷ cells frame_reg ∷ cells inner_reg ∷ cells stop_reg ∷ cells trail_reg ∷ 0
-      ∷ eighth ∷ ninth
-      ∷ 0 ∷ [])
+  pub row : RowIs cells' (top + 0) (cells choice_reg ∷ routine ∷ cells frame_reg ∷ cells inner_reg ∷ cells stop_reg ∷ cells trail_reg
+      ∷ cells gather_reg ∷ eighth ∷ ninth ∷ 0 ∷ [])
   pub others : (k : ℕ) → k ≢ heap_reg → k ≢ choice_reg → k ≢ mark_reg → (heap_at + top ≤ k → heap_at + (top + 10) ≤ k) →
       cells' k ≡ cells k
   pub runs : Runs p f w OPEN_ACTS OPEN_ACTS (state memory (routine ∷ eighth ∷ ninth ∷ 0 ∷ 0 ∷ []) typed drawn output) (Returns (at_place top))
@@ -141,6 +140,7 @@ pub record GoesBack (p : Program) (f w : ℕ) (memory typed output : List ℕ) (
   pub many : cells' many_reg ≡ cells (heap_at + (at + 8))
   pub key : cells' key_reg ≡ cells (heap_at + (at + 9))
   pub begin : cells' begin_reg ≡ 0
+  pub gather : cells' gather_reg ≡ cells (heap_at + (at + 6))
   pub args : (i : ℕ) → i < 12 → cells' (args_reg + i) ≡ cells (heap_at + (at + (10 + i)))
   pub words : (k : ℕ) → k < 10000 → cells' (heap_at + k) ≡ undone newer cells (heap_at + k)
   pub others : (k : ℕ) → trail_at ≤ k → cells' k ≡ cells k

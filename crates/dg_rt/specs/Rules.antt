@@ -11,7 +11,7 @@ use Rattle.z_lang.specs.Runs.{ActsRun as Runs, Returns, Stops}
 use Rattle.dg_rt.specs.declared.numbers.TheConstants.{FAIL}
 use Rattle.dg_rt.specs.declared.rules.TheConstants.{KEY_OF_ACTS, FOUND_ACTS, NONE_ACTS, MATCH_ACTS, MATCHED_ACTS}
 use Rattle.dg_rt.specs.Cells.{Holds, bit}
-use Rattle.dg_rt.specs.Areas.{heap_at, trail_reg, mark_reg, heap_reg, frame_reg, choice_reg, inner_reg, stop_reg, back_reg, many_reg, key_reg, begin_reg, clash_reg, parameters_reg, IsMapped, state}
+use Rattle.dg_rt.specs.Areas.{heap_at, trail_reg, mark_reg, heap_reg, frame_reg, choice_reg, inner_reg, stop_reg, back_reg, many_reg, key_reg, begin_reg, clash_reg, gather_reg, parameters_reg, IsMapped, state}
 use Rattle.dg_rt.specs.Shapes.{Shape, IsShape, Shows, Stands}
 use Rattle.dg_rt.specs.Back.{at_place}
 use Rattle.dg_rt.specs.RunTime.{HasRunTime}
@@ -87,9 +87,8 @@ pub record OpensFurther (p : Program) (f w : ℕ) (memory typed output : List �
   pub heap : cells' heap_reg ≡ top + 10 + cells parameters_reg
   pub choice : cells' choice_reg ≡ at_place top
   pub mark : cells' mark_reg ≡ at_place top
-  pub row : RowIs cells' (top + 0) (cells choice_reg ∷ self ∷ cells frame_reg ∷ cells inner_reg ∷ cells stop_reg ∷ cells trail_reg ∷ 0
-      ∷ cells back_reg
-      ∷ cells many_reg ∷ cells key_reg ∷ cells 16 ∷ cells 17 ∷ cells 18 ∷ cells 19 ∷ cells 20 ∷ cells 21 ∷ cells 22 ∷ cells 23
+  pub row : RowIs cells' (top + 0) (cells choice_reg ∷ self ∷ cells frame_reg ∷ cells inner_reg ∷ cells stop_reg ∷ cells trail_reg
+      ∷ cells gather_reg ∷ cells back_reg ∷ cells many_reg ∷ cells key_reg ∷ cells 16 ∷ cells 17 ∷ cells 18 ∷ cells 19 ∷ cells 20 ∷ cells 21 ∷ cells 22 ∷ cells 23
       ∷ cells 24 ∷ cells 25
       ∷ cells 26 ∷ cells 27 ∷ [])
   pub others : (k : ℕ) → k ≢ heap_reg → k ≢ choice_reg → k ≢ mark_reg → (heap_at + top ≤ k → heap_at + (top + 22) ≤ k) →

@@ -34,7 +34,7 @@ pub const OPEN_ACTS: [Act; 21] = [
     put!(CHOICE_INNER, 2, Atom::Var(INNER)),
     put!(CHOICE_STOP, 2, Atom::Var(STOP)),
     put!(CHOICE_TRAIL, 2, Atom::Var(TRAIL)),
-    put!(CHOICE_GATHER, 2, Atom::Num(0)),
+    put!(CHOICE_GATHER, 2, Atom::Var(GATHER)),
     put!(CHOICE_BACK, 2, Atom::Var(4)),
     put!(CHOICE_MANY, 2, Atom::Var(3)),
     put!(CHOICE_KEY, 2, Atom::Num(0)),
@@ -66,7 +66,7 @@ pub const OPEN_INNER_ACTS: [Act; 12] = [
 
 /// Goes back to the newest choice: what it keeps is put into the registers, with the twelve cells behind it as arguments, bindings are undone, and the
 /// routine that it goes on with is answered. Without a choice the run has failed.
-pub const FAIL_ACTS: [Act; 31] = [
+pub const FAIL_ACTS: [Act; 32] = [
     when!(CHOICE, Equal, Atom::Num(0), true, 0),
     Act::Copy(1, Atom::Var(CHOICE)),
     read!(2, CHOICE_TRAIL, 1),
@@ -95,6 +95,7 @@ pub const FAIL_ACTS: [Act; 31] = [
     read!(ARGS + 9, CHOICE_ARGS + 18, 1),
     read!(ARGS + 10, CHOICE_ARGS + 20, 1),
     read!(ARGS + 11, CHOICE_ARGS + 22, 1),
+    read!(GATHER, CHOICE_GATHER, 1),
     Act::Call(None, Atom::Routine(UNDO), Args::One(Atom::Var(2))),
     Act::Return(Atom::Var(3)),
     Act::Label(0),

@@ -2,7 +2,8 @@
 use crate::acts::{add, call, put, read, when};
 use crate::numbers::{FAIL, HEAP_LIMIT, UNIFY, WALK};
 use crate::registers::{
-    ARGS, BACK, BEGIN, CHOICE, CLASH, FRAME, HEAP, INNER, KEY, MANY, MARK, PARAMETERS, STOP, TRAIL,
+    ARGS, BACK, BEGIN, CHOICE, CLASH, FRAME, GATHER, HEAP, INNER, KEY, MANY, MARK, PARAMETERS,
+    STOP, TRAIL,
 };
 use crate::words::{
     CHOICE_ARGS, CHOICE_BACK, CHOICE_BEHIND, CHOICE_FRAME, CHOICE_GATHER, CHOICE_INNER, CHOICE_KEY,
@@ -51,7 +52,7 @@ pub const FOUND_ACTS: [Act; 38] = [
     put!(CHOICE_INNER, 2, Atom::Var(INNER)),
     put!(CHOICE_STOP, 2, Atom::Var(STOP)),
     put!(CHOICE_TRAIL, 2, Atom::Var(TRAIL)),
-    put!(CHOICE_GATHER, 2, Atom::Num(0)),
+    put!(CHOICE_GATHER, 2, Atom::Var(GATHER)),
     put!(CHOICE_BACK, 2, Atom::Var(BACK)),
     put!(CHOICE_MANY, 2, Atom::Var(MANY)),
     put!(CHOICE_KEY, 2, Atom::Var(KEY)),
