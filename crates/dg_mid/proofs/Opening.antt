@@ -18,12 +18,13 @@ use Rattle.dg_mid.specs.declared.writing.Level.TheVariants as level
 use Rattle.dg_mid.specs.declared.writing.Work.{Work}
 use Rattle.dg_mid.specs.Code.{block_at}
 use Rattle.dg_mid.specs.Codes.{End, Refuses, Backs, Commits, Leaves, Keeps, Stands, found_goals, found_end, jumps, commits, refuses, backs, leaves, keeps, collects, accumulates, once, negates, branch, exhausts, shields, forever, only, either, Others, last_list, more_lists}
-use Rattle.dg_mid.specs.Tidying.{BlocksTidy, DoesMore, Neat, IsPlain, TailTidy, LevelTidy, LevelsTidy, WorkTidy, LandsTidy}
+use Rattle.dg_mid.specs.Tidying.{OpsNeat, BlocksTidy, DoesMore, Neat, IsPlain, TailTidy, LevelTidy, LevelsTidy, WorkTidy, LandsTidy}
 use Rattle.dg_mid.specs.Writing.{StandsFor, BlockFor, FoundAt, PutsFirst, Lands, Wraps, Leads, ComesTo, Moves, TailFor, Shares, OthersFor, ListLands, after_list, tail_ops, with_goal, with_level, gathers}
 use Rattle.dg_mid.specs.Weights.{op_weight, ops_weight, blocks_weight, body_weight, lists_weight, whole_weight, level_weight, levels_weight, work_weight}
 use Rattle.dg_mid.proofs.Weights.{ops_reverse, block_added, op_added, op_alone, body_one, goal_added, lists_append, level_added, weight_if, weight_either, weight_select, action_light}
-use Rattle.dg_mid.specs.Potential.{begins_return, begins_goto, OpsTidy}
-use Rattle.dg_mid.proofs.WritingLemmas.{reverse_put, block_made, made_begins, tail_neat_later, levels_later, neat_put, neat_tail, plain_first, plain_query, plain_return, no_answer_back, blocks_put, there_put, more_put, lands_neat, jump_neat, block_neat}
+use Rattle.dg_mid.specs.Potential.{begins_return, begins_goto}
+use Rattle.dg_mid.specs.Seeking.{begins_commit}
+use Rattle.dg_mid.proofs.WritingLemmas.{reverse_put, block_made, made_begins, tail_neat_later, levels_later, neat_put, neat_tail, plain_return, no_answer_back, blocks_put, there_put, more_put, lands_neat, jump_neat, block_neat}
 
 -- ## Blocks
 
@@ -260,7 +261,7 @@ no_retry_here : (ops : List Op) (alt : ℕ) (rest : List Op) → op.Commit ∷ o
 no_retry_here ops alt rest e = cc
 
 pub found_here : (blocks : List Block) (b : ℕ) → FoundAt blocks blocks true b b
-found_here blocks b = record { blocks = begins_here blocks; stands = λ rest end h. h; neat = λ h. h; light = omega arith }
+found_here blocks b = record { blocks = begins_here blocks; stands = λ rest end h. h; leaves = λ code begins. tt; neat = λ h. h; light = omega arith }
 
 pub found_once : (old new : List Block) (jump put : List Op) (behind b : ℕ) → jump ≡ op.Goto behind ∷ [] → put ≡ jump ++ op.Commit ∷ [] → new ≡ old ++ record { ops = reverse put } ∷ [] → b ≡ length old → FoundAt old new false behind b
 found_once old new jump put behind b e e' made is =
@@ -269,15 +270,18 @@ found_once old new jump put behind b e e' made is =
       blocks = made_begins old new _ made;
       stands = λ rest end h code begins. subst (λ l. Stands code l [] (Commits rest end)) (sym (block_made old new (reverse put) b code made is begins ∙ front))
           (commits (op.Goto behind ∷ []) rest end (jumps behind [] rest end (h code (begins_on old new code.blocks (made_begins old new _ made) begins))));
-      neat = λ h. blocks_put old new (reverse put) made (ap begins_goto front) (λ code begins. subst (OpsTidy code) (sym front) (tt, (tt, tt)))
+      leaves = λ code begins. ap begins_commit (block_made old new (reverse put) b code made is begins ∙ front);
+      neat = λ h. blocks_put old new (reverse put) made (ap begins_goto front) (λ code begins. subst (OpsNeat code) (sym front) (tt, (tt, tt)))
           (λ alt rest e''. absurd (no_retry_here (op.Goto behind ∷ []) alt rest (sym front ∙ e''))) h;
       light = omega (arith, block_added old new put made, op_added jump put op.Commit e', op_alone jump (op.Goto behind) e);
     }
 
-pub puts_find : (old mid new : List Block) (ops jump put : List Op) (x : Op) (g : Goal) (behind b : ℕ) (many : Bool) → IsPlain x → op_weight x ≡ 16 →
-    ((code : Code) (xs : List Op) (goals : List Goal) (end : End) → Stands code xs goals end → Stands code (block_at code b) (found_goals many goals) (found_end many goals end) → Stands code (x ∷ xs) (g ∷ goals) end) →
-    Lands old mid (reverse ops) behind → FoundAt mid new many behind b → jump ≡ op.Goto behind ∷ [] → put ≡ jump ++ x ∷ [] → PutsFirst (g ∷ []) old new (reverse ops) (reverse put)
-puts_find old mid new ops jump put x g behind b many plain weighs wraps lands found e e' =
+pub puts_find : (old mid new : List Block) (ops jump put : List Op) (place : Option ℕ) (terms : List Term) (g : Goal) (behind b : ℕ) (many : Bool) →
+    ((code : Code) (xs : List Op) (goals : List Goal) (end : End) → Stands code xs goals end → Stands code (block_at code b) (found_goals many goals) (found_end many goals end) → Stands code (op.Find place terms many b ∷ xs) (g ∷ goals) end) →
+    Lands old mid (reverse ops) behind → FoundAt mid new many behind b → jump ≡ op.Goto behind ∷ [] → put ≡ jump ++ op.Find place terms many b ∷ [] → PutsFirst (g ∷ []) old new (reverse ops) (reverse put)
+puts_find old mid new ops jump put place terms g behind b many wraps lands found e e' =
+    let x : Op = op.Find place terms many b in
+    let weighs : op_weight x ≡ 16 = refl in
     let front : reverse put ≡ x ∷ op.Goto behind ∷ [] = ap reverse (e' ∙ ap (λ l. l ++ x ∷ []) e) in
     record {
       stands = λ rest end h code begins.
@@ -286,8 +290,8 @@ puts_find old mid new ops jump put x g behind b many plain weighs wraps lands fo
           (wraps code (op.Goto behind ∷ []) rest end (jumps behind [] rest end (there code (begins_on mid new code.blocks found.blocks begins))) (found.stands rest end there code begins));
       neat = λ h. subst (Neat new) (sym front) (record {
         blocks_are = found.neat (lands.neat h).blocks_are;
-        first = plain_first new x (op.Goto behind ∷ []) plain;
-        queries = λ code begins. (plain_query code x plain, (tt, tt));
+        first = tt;
+        queries = λ code begins. (found.leaves code begins, (tt, tt));
       });
       light =
           let l = lands.light in
@@ -457,7 +461,7 @@ retry_lands old new ops put next b e made is = record {
       more_of code b next (reverse ops) list lists rest end (block_made old new (reverse put) b code made is begins ∙ ap reverse e ∙ reverse_put ops (op.Retry next)) (h code before) (o code before);
   neat = λ h t. (
     let front : reverse put ≡ op.Retry next ∷ reverse ops = ap reverse e ∙ reverse_put ops (op.Retry next) in
-        blocks_put old new (reverse put) made (ap begins_goto front) (λ code begins. subst (OpsTidy code) (sym front) (tt, h.queries code begins))
+        blocks_put old new (reverse put) made (ap begins_goto front) (λ code begins. subst (OpsNeat code) (sym front) (tt, h.queries code begins))
         (λ alt rest e'. retried next alt (reverse ops) rest (length old) (sym front ∙ e') t) h.blocks_are,
     there_put old new (reverse put) b made is,
   );

@@ -21,8 +21,9 @@ use Rattle.dg_mid.specs.declared.code.BodyCode.{BodyCode}
 use Rattle.dg_mid.specs.declared.code.Code.{Code}
 use Rattle.dg_mid.specs.Code.{block_at, codes_of, ops_of, label_of, first_label}
 use Rattle.dg_mid.specs.Codes.{Returns, Finishes, Stands, returns, finishes, ask, RulesStand, BodyStands, Codes}
-use Rattle.dg_mid.specs.Tidying.{BlockTidy, BlocksTidy}
-use Rattle.dg_mid.specs.Potential.{begins_goto, begins_return, OpsTidy, Tidy}
+use Rattle.dg_mid.specs.Seeking.{OpLeaves, OpsLeave, BlocksLeave}
+use Rattle.dg_mid.specs.Tidying.{OpNeat, OpsNeat, BlockTidy, BlocksTidy}
+use Rattle.dg_mid.specs.Potential.{begins_goto, begins_return, OpTidy, OpsTidy, Tidy}
 use Rattle.dg_mid.specs.Writing.{StandsFor, Lands, PutsFirst, BodyFor, BodiesFor, RuleFor, RulesFor, PredsFor, starting}
 use Rattle.dg_mid.proofs.WritingLemmas.{reverse_put, block_made, made_begins, neat_tail, block_neat}
 use Rattle.dg_mid.specs.Weights.{ops_weight, blocks_weight, body_weight, rules_weight, preds_weight, closures_weight, IsLight}
@@ -199,18 +200,18 @@ codes_made program code first begun on preds bodies =
 starts_neat : (entry : ℕ) (code : Code) → Begins (starting entry) code.blocks → (b : ℕ) → b < 3 → BlockTidy code b
 starts_neat entry code on zero lt =
     let at : block_at code 0 ≡ op.Return ∷ [] = ap (λ l. ops_of (slice_get l 0)) on.is in
-    record { no_jump = ap begins_goto at; queries = subst (OpsTidy code) (sym at) (tt, tt); earlier = λ alt ops e. let x : op.Return ∷ [] ≡ op.Retry alt ∷ ops = sym at ∙ e in cc }
+    record { no_jump = ap begins_goto at; queries = subst (OpsNeat code) (sym at) (tt, tt); earlier = λ alt ops e. let x : op.Return ∷ [] ≡ op.Retry alt ∷ ops = sym at ∙ e in cc }
 starts_neat entry code on (suc zero) lt =
     let at : block_at code 1 ≡ op.Ask entry [] false 2 ∷ [] = ap (λ l. ops_of (slice_get l 1)) on.is in
     let behind : block_at code 2 ≡ op.Done ∷ [] = ap (λ l. ops_of (slice_get l 2)) on.is in
     record {
       no_jump = ap begins_goto at;
-      queries = subst (OpsTidy code) (sym at) (ap begins_return behind, tt);
+      queries = subst (OpsNeat code) (sym at) (ap begins_return behind, tt);
       earlier = λ alt ops e. let x : op.Ask entry [] false 2 ∷ [] ≡ op.Retry alt ∷ ops = sym at ∙ e in cc;
     }
 starts_neat entry code on (suc (suc zero)) lt =
     let at : block_at code 2 ≡ op.Done ∷ [] = ap (λ l. ops_of (slice_get l 2)) on.is in
-    record { no_jump = ap begins_goto at; queries = subst (OpsTidy code) (sym at) (tt, tt); earlier = λ alt ops e. let x : op.Done ∷ [] ≡ op.Retry alt ∷ ops = sym at ∙ e in cc }
+    record { no_jump = ap begins_goto at; queries = subst (OpsNeat code) (sym at) (tt, tt); earlier = λ alt ops e. let x : op.Done ∷ [] ≡ op.Retry alt ∷ ops = sym at ∙ e in cc }
 starts_neat entry code on (suc (suc (suc b))) lt = absurd (omega arith)
 
 pub starting_neat : (entry : ℕ) → BlocksTidy (starting entry)
@@ -224,8 +225,28 @@ tidy_at code h b = elim (cases_lt b (length code.blocks)) [
   | inl within ↦ h code (begins_here code.blocks) b within
   | inr past ↦
       let at : block_at code b ≡ [] = no_block code b past in
-      record { no_jump = ap begins_goto at; queries = subst (OpsTidy code) (sym at) tt; earlier = λ alt ops e. let x : [] ≡ op.Retry alt ∷ ops = sym at ∙ e in cc }
+      record { no_jump = ap begins_goto at; queries = subst (OpsNeat code) (sym at) tt; earlier = λ alt ops e. let x : [] ≡ op.Retry alt ∷ ops = sym at ∙ e in cc }
 ]
 
+-- neat instructions are tidy, and leave first
+neat_tidy : (code : Code) (x : Op) → OpNeat code x → OpTidy code x
+neat_tidy code (op.Find place terms many next) h = tt
+neat_tidy code x h = h
+
+neat_leaves : (code : Code) (x : Op) → OpNeat code x → OpLeaves code x
+neat_leaves code (op.Find place terms many next) h = h
+neat_leaves code x h = tt
+
+all_tidy : (code : Code) (ops : List Op) → OpsNeat code ops → OpsTidy code ops
+all_tidy code [] h = tt
+all_tidy code (x ∷ ops) h = (neat_tidy code x h.0, all_tidy code ops h.1)
+
+all_leave : (code : Code) (ops : List Op) → OpsNeat code ops → OpsLeave code ops
+all_leave code [] h = tt
+all_leave code (x ∷ ops) h = (neat_leaves code x h.0, all_leave code ops h.1)
+
 pub tidy_made : (code : Code) → BlocksTidy code.blocks → Tidy code
-tidy_made code h = record { no_jumps = λ b. (tidy_at code h b).no_jump; blocks = λ b. (tidy_at code h b).queries; earlier = λ b alt ops e. (tidy_at code h b).earlier alt ops e }
+tidy_made code h = record { no_jumps = λ b. (tidy_at code h b).no_jump; blocks = λ b. all_tidy code (block_at code b) (tidy_at code h b).queries; earlier = λ b alt ops e. (tidy_at code h b).earlier alt ops e }
+
+pub leaves_made : (code : Code) → BlocksTidy code.blocks → BlocksLeave code
+leaves_made code h b = all_leave code (block_at code b) (tidy_at code h b).queries

@@ -13,9 +13,9 @@ use Rattle.dg_mid.specs.declared.writing.Level.{Level}
 use Rattle.dg_mid.specs.declared.writing.Level.TheVariants as level
 use Rattle.dg_mid.specs.declared.writing.Work.{Work}
 use Rattle.dg_mid.specs.declared.branches.Branching.{Branching}
-use Rattle.dg_mid.specs.Potential.{begins_goto, OpsTidy}
+use Rattle.dg_mid.specs.Potential.{begins_goto}
 use Rattle.dg_mid.specs.Codes.{End, Stands, selects, Branches, no_branch, a_branch}
-use Rattle.dg_mid.specs.Tidying.{BlocksTidy, TailTidy, LevelsTidy, WorkTidy, LandsTidy}
+use Rattle.dg_mid.specs.Tidying.{OpsNeat, BlocksTidy, TailTidy, LevelsTidy, WorkTidy, LandsTidy}
 use Rattle.dg_mid.specs.Writing.{Lands, Leads, ComesTo, Moves, TailFor, BlockFor, Shares, EndsAt, AtBranch, tail_ops, with_goal, with_level}
 use Rattle.dg_mid.specs.Weights.{ops_weight, blocks_weight, body_weight, lists_weight, levels_weight, work_weight}
 use Rattle.dg_mid.proofs.Weights.{ops_reverse, block_added, op_alone, goal_added, lists_append, level_added, weight_select}
@@ -65,7 +65,7 @@ no_retry_here alt rest e = cc
 pub tail_lands : (old new : List Block) (ops : List Op) (b : ℕ) → ops ≡ op.Return ∷ [] → new ≡ old ++ record { ops = reverse ops } ∷ [] → b ≡ length old → EndsAt old new None b
 tail_lands old new ops b e made is = record {
   stands = λ rest end h. block_stands old new (reverse ops) b made is rest end (λ code begins. subst (λ l. Stands code (reverse l) rest end) (sym e) (h code begins));
-  neat = λ h. blocks_put old new (reverse ops) made (ap (λ l. begins_goto (reverse l)) e) (λ code begins. subst (λ l. OpsTidy code (reverse l)) (sym e) (tt, tt))
+  neat = λ h. blocks_put old new (reverse ops) made (ap (λ l. begins_goto (reverse l)) e) (λ code begins. subst (λ l. OpsNeat code (reverse l)) (sym e) (tt, tt))
       (λ alt rest e'. absurd (no_retry_here alt rest (sym (ap reverse e) ∙ e'))) h;
   light = omega (arith, block_added old new ops made, op_alone ops op.Return e);
 }

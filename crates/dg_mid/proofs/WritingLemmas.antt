@@ -19,8 +19,8 @@ use Rattle.dg_mid.specs.Actions.{goal_of}
 use Rattle.dg_mid.specs.Codes.{End, Returns, Stands, returns, acts, ask, last_ask, query, last_query}
 use Rattle.dg_mid.specs.declared.writing.Level.{Level}
 use Rattle.dg_mid.specs.declared.writing.Level.TheVariants as level
-use Rattle.dg_mid.specs.Potential.{begins_goto, begins_return, OpTidy, OpsTidy}
-use Rattle.dg_mid.specs.Tidying.{BlocksTidy, DoesMore, FirstTidy, Neat, IsPlain, TailTidy, IsThere, LevelTidy, LevelsTidy, LandsTidy}
+use Rattle.dg_mid.specs.Potential.{begins_goto, begins_return}
+use Rattle.dg_mid.specs.Tidying.{OpNeat, OpsNeat, BlocksTidy, DoesMore, FirstTidy, Neat, IsPlain, TailTidy, IsThere, LevelTidy, LevelsTidy, LandsTidy}
 use Rattle.dg_mid.specs.Weights.{ops_weight, blocks_weight}
 use Rattle.dg_mid.proofs.Weights.{ops_reverse, op_added, op_alone, body_one, action_light}
 use Rattle.dg_mid.specs.Writing.{PutsFirst, Lands, tail_ops}
@@ -78,9 +78,10 @@ plain_first blocks (op.Ask pred terms many next) ops h = elim h [ ]
 plain_first blocks (op.Query a b many next) ops h = elim h [ ]
 plain_first blocks x ops h = tt
 
-pub plain_query : (code : Code) (x : Op) → IsPlain x → OpTidy code x
+pub plain_query : (code : Code) (x : Op) → IsPlain x → OpNeat code x
 plain_query code (op.Ask pred terms many next) h = elim h [ ]
 plain_query code (op.Query a b many next) h = elim h [ ]
+plain_query code (op.Find place terms many next) h = elim h [ ]
 plain_query code x h = tt
 
 plain_goto : (x : Op) (ops : List Op) → IsPlain x → begins_goto (x ∷ ops) ≡ false
@@ -130,7 +131,7 @@ pub no_answer_back : (blocks : List Block) (ops : List Op) → (ops ≡ op.Retur
 no_answer_back blocks ops not h = no_answer blocks (reverse ops) (λ e. not (alone_back ops op.Return e)) h
 
 -- a block that was just made
-pub blocks_put : (old now : List Block) (ops : List Op) → now ≡ old ++ record { ops = ops } ∷ [] → begins_goto ops ≡ false → ((code : Code) → Begins old code.blocks → OpsTidy code ops) →
+pub blocks_put : (old now : List Block) (ops : List Op) → now ≡ old ++ record { ops = ops } ∷ [] → begins_goto ops ≡ false → ((code : Code) → Begins old code.blocks → OpsNeat code ops) →
     ((alt : ℕ) (rest : List Op) → ops ≡ op.Retry alt ∷ rest → alt < length old) → BlocksTidy old → BlocksTidy now
 blocks_put old now ops made goto queries early h code begins b lt =
     let new : Block = record { ops = ops } in
@@ -142,7 +143,7 @@ blocks_put old now ops made goto queries early h code begins b lt =
           let at : block_at code b ≡ ops = block_made old now ops b code made is begins in
           record {
             no_jump = ap begins_goto at ∙ goto;
-            queries = subst (OpsTidy code) (sym at) (queries code before);
+            queries = subst (OpsNeat code) (sym at) (queries code before);
             earlier = λ alt rest e. let x : alt < length old = early alt rest (sym at ∙ e) in omega (arith, x, is);
           }
     ]

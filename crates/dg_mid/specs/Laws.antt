@@ -11,13 +11,12 @@ use Rattle.dg_single.specs.Singles.{IsClosed}
 use Rattle.dg_mid.specs.declared.code.Code.{Code}
 use Rattle.dg_mid.specs.State.{Mid, Status, Runs, Ended}
 use Rattle.dg_mid.specs.Step.{Setting, setting, step, takes_goal}
-use Rattle.dg_mid.specs.Code.{block_at}
 use Rattle.dg_mid.specs.Codes.{Codes}
 use Rattle.dg_mid.specs.Runs.{after, IsAt, ShowsAll, ShowsFaults}
 use Rattle.dg_mid.specs.Heights.{StatusOrdered}
 use Rattle.dg_mid.specs.Trails.{StatusTrailed}
 use Rattle.dg_mid.specs.Calls.{AllHoldFew, StatusCuts, StatusFits}
-use Rattle.dg_mid.specs.Seeking.{OpsLeave, StatusSeeks}
+use Rattle.dg_mid.specs.Seeking.{BlocksLeave, StatusSeeks}
 use Rattle.dg_mid.specs.Singles.{IsAnswered, choices_in}
 use Rattle.dg_mid.specs.Falling.{left_at}
 use Rattle.dg_mid.specs.Potential.{Tidy, IsOver}
@@ -60,7 +59,7 @@ CallsFit = (g : Game) (code : Code) (limits : Limits) → Codes g.program code �
 
 -- In every run of code in which queries of objects for one answer leave an inner construct first, objects are tried where they may be found.
 abbrev pub ObjectsTried : Type 0
-ObjectsTried = (s : Setting) → ((b : ℕ) → OpsLeave s.code (block_at s.code b)) → (typed : List ℕ) (k : ℕ) →
+ObjectsTried = (s : Setting) → BlocksLeave s.code → (typed : List ℕ) (k : ℕ) →
     StatusSeeks s.game s.code (after s typed k).now
 
 -- In every run of code that stands for a program, a query of a predicate of a set that its rules fit leaves the choices as they were, once it is

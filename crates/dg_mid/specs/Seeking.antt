@@ -31,6 +31,10 @@ abbrev pub OpsLeave : Code → List Op → Type 0
 OpsLeave code [] = Unit {0}
 OpsLeave code (x ∷ ops) = OpLeaves code x × OpsLeave code ops
 
+-- So does each of the instructions in its blocks.
+abbrev pub BlocksLeave : Code → Type 0
+BlocksLeave code = (b : ℕ) → OpsLeave code (block_at code b)
+
 -- ## Runs
 
 -- Objects are tried at a place that speaks of them, and where one answer is wanted an inner construct is left first.

@@ -9,14 +9,27 @@ use Rattle.dg_mid.specs.declared.writing.Level.{Level}
 use Rattle.dg_mid.specs.declared.writing.Level.TheVariants as level
 use Rattle.dg_mid.specs.declared.writing.Work.{Work}
 use Rattle.dg_mid.specs.Code.{block_at}
-use Rattle.dg_mid.specs.Potential.{begins_goto, begins_return, OpsTidy}
+use Rattle.dg_mid.specs.Potential.{begins_goto, begins_return, OpTidy}
+use Rattle.dg_mid.specs.Seeking.{LeavesFirst}
+
+-- ## Queries
+
+-- A query that could be a last one is, and one of objects for one answer leaves an inner construct first.
+abbrev pub OpNeat : Code → Op → Type 0
+OpNeat code (op.Find place terms many next) = LeavesFirst code many next
+OpNeat code x = OpTidy code x
+
+-- So it is with each of some instructions.
+abbrev pub OpsNeat : Code → List Op → Type 0
+OpsNeat code [] = Unit {0}
+OpsNeat code (x ∷ ops) = OpNeat code x × OpsNeat code ops
 
 -- ## Blocks
 
--- A block doesn't begin with a jump, queries in it that could be last ones are, and where it keeps a choice it does so with an earlier block.
+-- A block doesn't begin with a jump, its queries go on where they should, and where it keeps a choice it does so with an earlier block.
 pub record BlockTidy (code : Code) (b : ℕ) : Type 0 where
   pub no_jump : begins_goto (block_at code b) ≡ false
-  pub queries : OpsTidy code (block_at code b)
+  pub queries : OpsNeat code (block_at code b)
   pub earlier : (alt : ℕ) (ops : List Op) → block_at code b ≡ op.Retry alt ∷ ops → alt < b
 
 -- In every code that begins with these blocks, each of them is tidy.
@@ -41,7 +54,7 @@ FirstTidy blocks ops = Unit {0}
 pub record Neat (blocks : List Block) (ops : List Op) : Type 0 where
   pub blocks_are : BlocksTidy blocks
   pub first : FirstTidy blocks ops
-  pub queries : (code : Code) → Begins blocks code.blocks → OpsTidy code ops
+  pub queries : (code : Code) → Begins blocks code.blocks → OpsNeat code ops
 
 -- An instruction that may go in front of any others: no jump, no answer, no query that goes on at a block, and none that keeps a choice.
 abbrev pub IsPlain : Op → Type 0
@@ -50,6 +63,7 @@ IsPlain op.Return = ⊥
 IsPlain (op.Retry alt) = ⊥
 IsPlain (op.Ask pred terms many next) = ⊥
 IsPlain (op.Query a b many next) = ⊥
+IsPlain (op.Find place terms many next) = ⊥
 IsPlain x = Unit {0}
 
 -- ## What is open

@@ -23,6 +23,7 @@ use Rattle.dg_mid.specs.declared.writing.Level.TheVariants as level
 use Rattle.dg_mid.specs.declared.writing.Work.{Work}
 use Rattle.dg_mid.specs.declared.branches.Branching.{Branching}
 use Rattle.dg_mid.specs.Code.{block_at, codes_of}
+use Rattle.dg_mid.specs.Seeking.{LeavesFirst}
 use Rattle.dg_mid.specs.Tidying.{BlocksTidy, Neat, LandsTidy, TailTidy, IsThere, WorkTidy}
 use Rattle.dg_mid.specs.Weights.{ops_weight, blocks_weight, body_weight, work_weight}
 use Rattle.dg_mid.specs.Codes.{End, Stands, RuleStands, RulesStand, Others, Branches, BodyStands, found_goals, found_end}
@@ -60,10 +61,12 @@ pub record Shares (old new : List Block) (ops : List Op) (tail : Option ℕ) : T
   pub neat : Neat old ops → BlocksTidy new × TailTidy new tail
   pub light : blocks_weight new ≤ blocks_weight old + 16 + ops_weight ops
 
--- Where a block stands for goals, another stands for them where an object is found; the blocks stay tidy.
+-- Where a block stands for goals, another stands for them where an object is found: it leaves an inner construct first, where one answer is wanted. The
+-- blocks stay tidy.
 pub record FoundAt (old new : List Block) (many : Bool) (behind b : ℕ) : Type 0 where
   pub blocks : Begins old new
   pub stands : (rest : List Goal) (end : End) → BlockFor old behind rest end → BlockFor new b (found_goals many rest) (found_end many rest end)
+  pub leaves : (code : Code) → Begins new code.blocks → LeavesFirst code many b
   pub neat : BlocksTidy old → BlocksTidy new
   pub light : blocks_weight new ≤ blocks_weight old + 48
 

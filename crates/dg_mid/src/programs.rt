@@ -3,6 +3,7 @@ ghost use Rattle.std.specs.Prelude.{IfOk};
 ghost use Rattle.dg_mid.specs.Codes.{Codes};
 ghost use Rattle.dg_base.specs.Sound.{IsSound};
 ghost use Rattle.dg_mid.specs.Potential.{Tidy};
+ghost use Rattle.dg_mid.specs.Seeking.{BlocksLeave};
 ghost use Rattle.dg_mid.specs.Weights.{IsLight};
 
 use crate::code::Code;
@@ -16,6 +17,7 @@ pub fn to_mid(program: CoreProgram, alloc: Global) -> Result<Code, AllocError>
     requires { IsSound program }
     ensures codes { IfOk result (λ code. Codes program code) }
     ensures tidy { IfOk result (λ code. Tidy code) }
+    ensures leave { IfOk result (λ code. BlocksLeave code) }
     ensures light { IfOk result (λ code. IsLight program code) }
 {
     let CoreProgram {

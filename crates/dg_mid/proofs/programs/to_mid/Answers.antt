@@ -6,7 +6,7 @@ use Rattle.dg_mid.specs.declared.code.Code.{Code}
 use Rattle.dg_mid.specs.Tidying.{BlocksTidy}
 use Rattle.dg_mid.specs.Weights.{blocks_weight, closures_weight}
 use Rattle.dg_mid.specs.Writing.{PredsFor, BodiesFor}
-use Rattle.dg_mid.proofs.Rules.{codes_made, code_light, preds_later, starting_neat, tidy_made}
+use Rattle.dg_mid.proofs.Rules.{codes_made, code_light, preds_later, starting_neat, tidy_made, leaves_made}
 use Rattle.dg_mid.proofs.programs.to_mid.Goals as goal
 
 pub returns-clause-codes : goal.returns-clause-codes
@@ -22,6 +22,11 @@ pub returns-clause-tidy : goal.returns-clause-tidy
 returns-clause-tidy c =
     let code : Code = record { blocks = c.blocks-2.result; preds = c.in_ok-preds.preds; closures = c.in_ok-closures.closures } in
     tidy_made code (subst BlocksTidy (sym c.blocks-2.ensures) (c.in_ok-closures.ensures.neat (c.in_ok-preds.ensures.neat (subst BlocksTidy (sym c.in_ok-writer.ensures) (starting_neat c.args.program.entry)))))
+
+pub returns-clause-leave : goal.returns-clause-leave
+returns-clause-leave c =
+    let code : Code = record { blocks = c.blocks-2.result; preds = c.in_ok-preds.preds; closures = c.in_ok-closures.closures } in
+    leaves_made code (subst BlocksTidy (sym c.blocks-2.ensures) (c.in_ok-closures.ensures.neat (c.in_ok-preds.ensures.neat (subst BlocksTidy (sym c.in_ok-writer.ensures) (starting_neat c.args.program.entry)))))
 
 pub returns-clause-light : goal.returns-clause-light
 returns-clause-light c =

@@ -1,6 +1,5 @@
 use Rattle.std.proofs.Common.{Some, refl}
 use Rattle.dg_base.specs.declared.program.Goal.TheVariants as goals
-use Rattle.dg_mid.specs.declared.code.Op.TheVariants as op
 use Rattle.dg_meaning.proofs.OneRun.{begins_on}
 use Rattle.dg_mid.specs.Codes.{holds}
 use Rattle.dg_mid.proofs.Opening.{puts_moves, puts_find}
@@ -10,6 +9,6 @@ pub returns : goal.returns
 returns c =
     puts_moves c.args.self.now.blocks c.found_block.new.self.blocks c.args.work (record { ops = c.in_ok-ops-2.ops; goals = c.args.work.goals; levels = c.args.work.levels }) (goals.Holds c.args.place c.args.terms c.args.many) refl refl
     (begins_on c.args.self.now.blocks c.finish.new.self.blocks c.found_block.new.self.blocks c.in_ok-behind.ensures.blocks c.in_ok-found.ensures.blocks)
-    (puts_find c.args.self.now.blocks c.finish.new.self.blocks c.found_block.new.self.blocks c.args.work.ops.items c.in_ok-ops.ops.items c.in_ok-ops-2.ops.items (op.Find (Some c.args.place) c.args.terms c.args.many c.in_ok-found.found)
-    (goals.Holds c.args.place c.args.terms c.args.many) c.in_ok-behind.behind c.in_ok-found.found c.args.many tt refl (λ code xs rest end s o. holds c.args.place c.args.terms c.args.many c.in_ok-found.found xs rest end s o)
+    (puts_find c.args.self.now.blocks c.finish.new.self.blocks c.found_block.new.self.blocks c.args.work.ops.items c.in_ok-ops.ops.items c.in_ok-ops-2.ops.items (Some c.args.place) c.args.terms
+    (goals.Holds c.args.place c.args.terms c.args.many) c.in_ok-behind.behind c.in_ok-found.found c.args.many (λ code xs rest end s o. holds c.args.place c.args.terms c.args.many c.in_ok-found.found xs rest end s o)
     c.in_ok-behind.ensures.lands c.in_ok-found.ensures c.in_ok-ops.ensures c.in_ok-ops-2.ensures)
