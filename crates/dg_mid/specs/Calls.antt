@@ -4,6 +4,7 @@ use Rattle.std.specs.List.{All}
 use Rattle.dg_base.specs.declared.program.ClosureBody.{ClosureBody}
 use Rattle.dg_base.specs.declared.program.CoreProgram.{CoreProgram}
 use Rattle.dg_base.specs.declared.program.Goal.{Goal, out-Goal}
+use Rattle.dg_base.specs.declared.program.Goal.TheOpen as form
 use Rattle.dg_base.specs.declared.program.Pred.{Pred}
 use Rattle.dg_base.specs.declared.program.Rule.{Rule}
 use Rattle.dg_base.specs.declared.program.Term.{Term}
@@ -45,6 +46,19 @@ HoldsFew n x = length (terms_held (out-Goal x)) ≤ n
 pub record AllHoldFew (n : ℕ) (program : CoreProgram) : Type 0 where
   pub preds : All (λ (pred : Pred). All (λ (rule : Rule). All (HoldsFew n) (all_goals_of rule.body)) pred.rules) program.preds
   pub closures : All (λ (closure : ClosureBody). All (HoldsFew n) (all_goals_of closure.body)) program.closures
+
+-- A query of a predicate has at most so many arguments.
+abbrev pub FormAsksFew : ℕ → form.Goal-F Goal → Type 0
+FormAsksFew n (form.Ask pred args many) = length args ≤ n
+FormAsksFew n goal = Unit {0}
+
+abbrev pub AsksFew : ℕ → Goal → Type 0
+AsksFew n x = FormAsksFew n (out-Goal x)
+
+-- So has each in a program, at every depth.
+pub record AllAskFew (n : ℕ) (program : CoreProgram) : Type 0 where
+  pub preds : All (λ (pred : Pred). All (λ (rule : Rule). All (AsksFew n) (all_goals_of rule.body)) pred.rules) program.preds
+  pub closures : All (λ (closure : ClosureBody). All (AsksFew n) (all_goals_of closure.body)) program.closures
 
 -- Code begins with the entering of a rule whose head has so many terms.
 pub record EntersWith (n : ℕ) (ops : List Op) : Type 0 where
