@@ -14,7 +14,7 @@ use Rattle.dg_rt.specs.Frames.{RowIs}
 
 -- ## Opening
 
--- A choice was opened on top of the heap, in 19 instructions: its ten cells have what the registers say, and it is the newest, with a mark behind it.
+-- A choice was opened on top of the heap, in 18 instructions: its ten cells have what the registers say, and it is the newest, with a mark behind it.
 pub record Opens (p : Program) (f w : ℕ) (memory typed output : List ℕ) (drawn routine eighth ninth : ℕ) (cells : ℕ → ℕ) (top : ℕ) : Type 0 where
   pub memory' : List ℕ
   pub cells' : ℕ → ℕ
@@ -61,7 +61,8 @@ pub record OpensInner (p : Program) (f w : ℕ) (memory typed output : List ℕ)
 pub record OpenInnerWorks : Type 0 where
   pub opens : (p : Program) → HasRunTime p → (f w : ℕ) (memory typed output : List ℕ) (drawn : ℕ) (cells : ℕ → ℕ) (top : ℕ) →
       Holds p.world.layout memory cells → cells heap_reg ≡ top → top + 10 ≤ 10000 → OpensInner p f w memory typed output drawn cells top
-  pub meets : (p : Program) → HasRunTime p → (f w : ℕ) → 2 ≤ f → (memory typed output : List ℕ) (drawn : ℕ) (cells : ℕ → ℕ) (top : ℕ) →
+  pub meets : (p : Program) → HasRunTime p → (f w : ℕ) → 2 ≤ f →
+      (memory typed output : List ℕ) (drawn : ℕ) (cells : ℕ → ℕ) (top : ℕ) →
       Holds p.world.layout memory cells → cells heap_reg ≡ top → top ≤ 10000 → 10000 < top + 10 →
       MeetsLimit p f w OPEN_INNER_ACTS memory (0 ∷ 0 ∷ []) typed output drawn cells 3
 
@@ -182,8 +183,8 @@ pub record Unstops (p : Program) (f w : ℕ) (memory typed output : List ℕ) (d
   pub stop : cells' stop_reg ≡ cells (heap_at + (at + 4))
   pub gather : cells' gather_reg ≡ cells (heap_at + (at + 6))
   pub words : (k : ℕ) → k < 10000 → cells' (heap_at + k) ≡ undone newer cells (heap_at + k)
-  pub others : (k : ℕ) → k ≢ trail_reg → k ≢ mark_reg → k ≢ heap_reg → k ≢ frame_reg → k ≢ choice_reg → k ≢ inner_reg → k ≢ stop_reg →
-      k ≢ gather_reg → (heap_at ≤ k → trail_at ≤ k) → cells' k ≡ cells k
+  pub others : (k : ℕ) → k ≢ trail_reg → k ≢ mark_reg → k ≢ heap_reg → k ≢ frame_reg → k ≢ choice_reg → k ≢ inner_reg →
+      k ≢ stop_reg → k ≢ gather_reg → (heap_at ≤ k → trail_at ≤ k) → cells' k ≡ cells k
   pub count : ℕ
   pub few : count ≤ 4 * dropped_of at ks + 6 * length newer + 18
   pub runs : Runs p f w UNSTOP_ACTS UNSTOP_ACTS (state memory (0 ∷ 0 ∷ 0 ∷ 0 ∷ []) typed drawn output) (Returns (cells (heap_at + (at + 1))))

@@ -76,11 +76,12 @@ pub record Asks (p : Program) (f w : ℕ) (memory typed output : List ℕ) (draw
   pub runs : Runs p f w ASK_ACTS ASK_ACTS (state memory (routine ∷ many ∷ first ∷ 0 ∷ []) typed drawn output) (Returns 0)
       (state memory' (routine ∷ many ∷ first ∷ 0 ∷ []) typed drawn output) count
 
--- So it is with any first argument, in 5 instructions a link of it and 20, and without one in 7; a key of 32,768 excludes no rule.
+-- So it is with any first argument, in 5 instructions a link of it and 20, and without one in 7, with the key of a variable.
 pub record AskWorks : Type 0 where
-  pub asks : (p : Program) → HasRunTime p → (f w : ℕ) → 2 ≤ f → 8 ≤ w → (memory typed output : List ℕ) (drawn routine many top : ℕ) (sh : Shape) →
-      IsShape sh → (cells : ℕ → ℕ) → Holds p.world.layout memory cells → (S : Substitution) → Stands sh cells S → (v : Value) →
-      Shows sh (cells args_reg) v → cells heap_reg ≡ top → top ≤ 10000 → routine < 65536 → many < 65536 →
+  pub asks : (p : Program) → HasRunTime p → (f w : ℕ) → 2 ≤ f → 8 ≤ w →
+      (memory typed output : List ℕ) (drawn routine many top : ℕ) (sh : Shape) → IsShape sh → (cells : ℕ → ℕ) →
+      Holds p.world.layout memory cells → (S : Substitution) → Stands sh cells S → (v : Value) → Shows sh (cells args_reg) v →
+      cells heap_reg ≡ top → top ≤ 10000 → routine < 65536 → many < 65536 →
       Asks p f w memory typed output drawn routine many 1 top cells (KeyIs (walk S v)) (5 * links S v + 20)
   pub has_none : (p : Program) → HasRunTime p → (f w : ℕ) (memory typed output : List ℕ) (drawn routine many top : ℕ) (cells : ℕ → ℕ) →
       Holds p.world.layout memory cells → cells heap_reg ≡ top → top ≤ 10000 → routine < 65536 → many < 65536 →
@@ -117,8 +118,8 @@ pub record Stays (p : Program) (f w : ℕ) (memory typed output : List ℕ) (dra
 -- So it is by what the frame keeps; without a frame it is as where one answer is wanted.
 pub record TailCallWorks : Type 0 where
   pub leaves : (p : Program) → HasRunTime p → (f w : ℕ) (memory typed output : List ℕ) (drawn at n x : ℕ) (cells : ℕ → ℕ) →
-      Holds p.world.layout memory cells → cells frame_reg ≡ at_place at → at + 6 ≤ 10000 → cells (heap_at + (at + 4)) ≡ 2 * n + 1 → n ≤ 10000 →
-      LeavesFirst p f w memory typed output drawn at x cells
+      Holds p.world.layout memory cells → cells frame_reg ≡ at_place at → at + 6 ≤ 10000 → cells (heap_at + (at + 4)) ≡ 2 * n + 1 →
+      n ≤ 10000 → LeavesFirst p f w memory typed output drawn at x cells
   pub stays : (p : Program) → HasRunTime p → (f w : ℕ) (memory typed output : List ℕ) (drawn at n x : ℕ) (cells : ℕ → ℕ) →
       Holds p.world.layout memory cells → cells frame_reg ≡ at_place at → at + 6 ≤ 10000 → cells (heap_at + (at + 4)) ≡ 2 * n → n ≤ 10000 →
       Stays p f w memory typed output drawn x cells 6
@@ -140,7 +141,8 @@ pub record EntersBody (p : Program) (f w : ℕ) (memory typed output : List ℕ)
   pub row : RowIs cells' (top + 0)
       (cells frame_reg ∷ cells back_reg ∷ at_place top ∷ cells inner_reg ∷ (n + n + cells many_reg) ∷ box ∷ [])
   pub vars : (i : ℕ) → i < n → cells' (heap_at + (top + 6 + i)) ≡ at_place (top + 6 + i)
-  pub others : (k : ℕ) → k ≢ heap_reg → k ≢ frame_reg → k ≢ inner_reg → (heap_at + top ≤ k → heap_at + (top + 6 + n) ≤ k) → cells' k ≡ cells k
+  pub others : (k : ℕ) → k ≢ heap_reg → k ≢ frame_reg → k ≢ inner_reg → (heap_at + top ≤ k → heap_at + (top + 6 + n) ≤ k) →
+      cells' k ≡ cells k
   pub count : ℕ
   pub few : count ≤ 4 * n + 20
   pub runs : Runs p f w BODY_ACTS BODY_ACTS (state memory (n ∷ box ∷ 0 ∷ 0 ∷ []) typed drawn output) (Returns 0)
@@ -151,6 +153,7 @@ pub record BodyWorks : Type 0 where
   pub enters : (p : Program) → HasRunTime p → (f w : ℕ) (memory typed output : List ℕ) (drawn n box : ℕ) (cells : ℕ → ℕ) (top : ℕ) →
       Holds p.world.layout memory cells → cells heap_reg ≡ top → top + (6 + n) ≤ 10000 → cells many_reg ≤ 1 → box < 65536 →
       EntersBody p f w memory typed output drawn n box cells top
-  pub meets : (p : Program) → HasRunTime p → (f w : ℕ) → 2 ≤ f → (memory typed output : List ℕ) (drawn n box : ℕ) (cells : ℕ → ℕ) (top : ℕ) →
+  pub meets : (p : Program) → HasRunTime p → (f w : ℕ) → 2 ≤ f →
+      (memory typed output : List ℕ) (drawn n box : ℕ) (cells : ℕ → ℕ) (top : ℕ) →
       Holds p.world.layout memory cells → cells heap_reg ≡ top → top ≤ 10000 → n ≤ 10001 → 10000 < top + (6 + n) →
       MeetsLimit p f w BODY_ACTS memory (n ∷ box ∷ 0 ∷ 0 ∷ []) typed output drawn cells 4

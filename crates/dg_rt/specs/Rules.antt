@@ -88,7 +88,8 @@ pub record OpensFurther (p : Program) (f w : ℕ) (memory typed output : List �
   pub choice : cells' choice_reg ≡ at_place top
   pub mark : cells' mark_reg ≡ at_place top
   pub row : RowIs cells' (top + 0) (cells choice_reg ∷ self ∷ cells frame_reg ∷ cells inner_reg ∷ cells stop_reg ∷ cells trail_reg
-      ∷ cells gather_reg ∷ cells back_reg ∷ cells many_reg ∷ cells key_reg ∷ cells 16 ∷ cells 17 ∷ cells 18 ∷ cells 19 ∷ cells 20 ∷ cells 21 ∷ cells 22 ∷ cells 23
+      ∷ cells gather_reg ∷ cells back_reg ∷ cells many_reg ∷ cells key_reg
+      ∷ cells 16 ∷ cells 17 ∷ cells 18 ∷ cells 19 ∷ cells 20 ∷ cells 21 ∷ cells 22 ∷ cells 23
       ∷ cells 24 ∷ cells 25
       ∷ cells 26 ∷ cells 27 ∷ [])
   pub others : (k : ℕ) → k ≢ heap_reg → k ≢ choice_reg → k ≢ mark_reg → (heap_at + top ≤ k → heap_at + (top + 22) ≤ k) →
