@@ -1,5 +1,5 @@
 -- The goals of a sound program hold few terms where its queries of predicates have few arguments.
-use Rattle.std.proofs.Common.{◌≡◌, ℕ, ◌+◌, ◌≤◌, List, [], ◌∷◌, Option, Some, None, arith, length, get_or}
+use Rattle.std.proofs.Common.{ℕ, ◌≤◌, List, Option, Some, None, arith, length, get_or}
 use Rattle.std.specs.Prelude.{slice_get}
 use Rattle.std.specs.List.{All}
 use Rattle.dg_base.specs.declared.program.CoreProgram.{CoreProgram}
@@ -10,7 +10,7 @@ use Rattle.dg_base.specs.declared.program.PlaceKind.{PlaceKind}
 use Rattle.dg_base.specs.declared.program.PlaceKind.TheVariants.{Flag, ObjectFlag, ObjectVar, Parent, Global}
 use Rattle.dg_base.specs.declared.program.Term.{Term}
 use Rattle.dg_base.specs.Goals.{all_goals_of, terms_held, option_terms}
-use Rattle.dg_base.specs.Sound.{IsGoalOf, IsSound, FitsPlace, FitsProgram, terms_of_kind, closure_vars}
+use Rattle.dg_base.specs.Sound.{IsGoalOf, FitsPlace, FitsProgram, terms_of_kind, closure_vars}
 use Rattle.dg_mid.specs.Calls.{HoldsFew, FormAsksFew, AsksFew}
 use Rattle.dg_mid.specs.Laws.{GoalsHoldFew}
 
