@@ -7,9 +7,9 @@ ghost use Rattle.z_story.specs.Parts.{AreParts};
 
 use crate::checks::same;
 use dg_base::{SureSink, SureSource};
-use dg_rt::{
-    CHARGE, CHOICE, DONE, FAIL, HEAP, LAST, OPEN, TRAIL, UNIFY, WALK, runtime, runtime_fits,
-};
+use dg_rt::numbers::{CHARGE, DONE, FAIL, OPEN, UNIFY, WALK};
+use dg_rt::registers::{CHOICE, HEAP, LAST, TRAIL};
+use dg_rt::{runtime, runtime_fits};
 use sqlite_items::Items;
 use std::alloc::{AllocError, Global};
 use std::process::Abort;
