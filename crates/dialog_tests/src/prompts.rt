@@ -12,6 +12,7 @@ use std::process::Abort;
 use std::test::Fail;
 
 // An output that tells how many bytes it has taken.
+#[derive(Drop)]
 struct Telling<'a> {
     inner: SureSink,
     written: &'a Cell<usize>,
@@ -30,6 +31,7 @@ impl Sink for Telling<'_> {
 }
 
 // An input that notes at each call how many bytes are written.
+#[derive(Drop)]
 struct Noting<'a> {
     inner: SureSource,
     written: &'a Cell<usize>,
