@@ -1,0 +1,94 @@
+-- Rules are looked at from the first to the second that isn't excluded.
+use Rattle.std.proofs.Common.{◌≡◌, ◌≢◌, ℕ, suc, ◌+◌, ◌*◌, ◌<◌, ◌≤◌, Bool, true, false, List, [], ◌∷◌, length, Option, refl, ap, subst, ◌∙◌, arith}
+use Rattle.std.specs.Prelude.{if◌then◌else◌}
+use Rattle.dg_base.specs.declared.run.Ending.TheVariants.{HeapLimit}
+use Rattle.dg_meaning.specs.Values.{Value}
+use Rattle.dg_mid.specs.Code.{excluded, selected}
+use Rattle.dg_mid.specs.State.{Call, Mid}
+use Rattle.dg_mid.specs.Step.{first_of}
+use Rattle.dg_mid.specs.declared.code.RuleCode.{RuleCode}
+use Rattle.z_model.specs.Run.{ZState}
+use Rattle.z_lang.specs.Leads.{Leads}
+use Rattle.z_lang.proofs.Stretches.{leads_then}
+use Rattle.dg_rt.specs.Closings.{closing_most}
+use Rattle.dg_turn.specs.Told.{Telling, FirstIs}
+use Rattle.dg_turn.specs.Plays.{Playing}
+use Rattle.dg_turn.specs.Rules.{LooksAt, Selects, passed_over, OpensTo, BegunTo, behind_first, BeginTurns}
+use Rattle.dg_turn.proofs.Looking.{select_turns}
+use Rattle.dg_turn.proofs.Finding.{found_turns, none_turns}
+use Rattle.dg_turn.proofs.Moving.{closes_then}
+
+-- the first that is left isn't excluded, and there are no more than before
+record Left (first : Option Value) (rules : List RuleCode) (r : RuleCode) (rs : List RuleCode) : Type 0 where
+  fits : excluded first r.key ≡ false
+  few : suc (length rs) ≤ length rules
+
+left_first : (first : Option Value) (rules : List RuleCode) (r : RuleCode) (rs : List RuleCode) → selected first rules ≡ r ∷ rs → Left first rules r rs
+left_first first [] r rs e = absurd (cc)
+left_first first (x ∷ xs) r rs e = by_answer (λ f. left_first first xs r rs f) (excluded first x.key) refl e
+  where
+    by_answer : (selected first xs ≡ r ∷ rs → Left first xs r rs) → (b : Bool) → excluded first x.key ≡ b → (if b then selected first xs else x ∷ xs) ≡ r ∷ rs → Left first (x ∷ xs) r rs
+    by_answer ih true q f = let i = ih f in record { fits = i.fits; few = let n = i.few in omega arith }
+    by_answer ih false q f =
+        let same : x ≡ r = cc in
+        let rest : xs ≡ rs = cc in
+        record { fits = subst (λ (y : RuleCode). excluded first y.key ≡ false) same q; few = let n = ap length rest in omega arith }
+
+-- the rules that are passed over, and those that are left
+over_and_left : (first : Option Value) (rules : List RuleCode) → passed_over first rules + length (selected first rules) ≡ length rules
+over_and_left first [] = refl
+over_and_left first (r ∷ rs) = by_answer (excluded first r.key) (over_and_left first rs)
+  where
+    by_answer : (b : Bool) → passed_over first rs + length (selected first rs) ≡ length rs → (if b then 1 + passed_over first rs else 0) + length (if b then selected first rs else r ∷ rs) ≡ suc (length rs)
+    by_answer true e = omega arith
+    by_answer false e = omega arith
+
+module _ (t : Telling) (plays : Playing t) (blocks : (b : ℕ) → t.at_block b ≢ 0) (output : List ℕ) (call : Call) (key : ℕ) (m : Mid) (is_key : FirstIs (first_of m.state.subst call) key) (none : m.gathered ≡ []) (cut : call.cut.height ≡ m.state.heap) where
+  abbrev first : Option Value
+  first = first_of m.state.subst call
+
+  -- behind the first that was found
+  second : (r : RuleCode) (rs found : List RuleCode) (a last most : ℕ) (z there : ZState) → selected first rs ≡ found → Leads t.p.world a z there → (s : Selects t output found call key (t.at_block r.block) last m (4 * passed_over first rs) there) → a + 4 * passed_over first rs + 60 ≤ most → BegunTo t output call (r ∷ rs) found last m most z
+  second r rs [] a last most z there e leads s enough =
+      let l = subst (λ (n : ℕ). LooksAt t output n call key (t.at_block r.block) m s.there) s.rules_are s.looks in
+      let k = none_turns.begins t plays output call key (t.at_block r.block) m s.there (blocks r.block) l in
+      let few = s.few in
+      let few' = k.few in
+      record { there = k.there; count = a + (s.count + k.count); few = omega arith; leads = leads_then t.p.world a (s.count + k.count) z there k.there leads (leads_then t.p.world s.count k.count there s.there k.there s.leads k.leads); rep = k.rep; call_is = k.call_is }
+  second r rs (q ∷ qs) a last most z there e leads s enough =
+      let i = left_first first rs q qs e in
+      let few = s.few in
+      let both = leads_then t.p.world a s.count z there s.there leads s.leads in
+      record {
+        opens = λ room.
+            let k = found_turns.opens t plays output q qs s.number call key (t.at_block r.block) m s.there s.rules_are is_key i.fits (blocks r.block) none cut room s.looks in
+            let few' = k.few in
+            record { there = k.there; count = a + s.count + k.count; few = omega arith; leads = leads_then t.p.world (a + s.count) k.count z s.there k.there both k.leads; rep = k.rep; call_is = k.call_is };
+        meets = λ over.
+            let k = found_turns.meets t plays output q qs s.number call first key (t.at_block r.block) m s.there s.rules_are is_key i.fits (blocks r.block) over s.looks in
+            closes_then t output (s.looks.rep.cells 28) last HeapLimit (a + s.count) (a + s.count) (15 + closing_most) (most + closing_most) z s.there s.last_is (omega arith) (omega arith) both k;
+      }
+
+  begun : (rules found : List RuleCode) (last : ℕ) (z : ZState) → selected first rules ≡ found → Selects t output found call key 0 last m (4 * passed_over first rules) z → BegunTo t output call found (behind_first first found) last m (4 * length rules + 70) z
+  begun rules [] last z e s =
+      let l = subst (λ (n : ℕ). LooksAt t output n call key 0 m s.there) s.rules_are s.looks in
+      let k = none_turns.fails t plays output call key m s.there l in
+      let whole = over_and_left first rules in
+      let few = s.few in
+      let few' = k.few in
+      record { there = k.there; count = s.count + k.count; few = omega arith; leads = leads_then t.p.world s.count k.count z s.there k.there s.leads k.leads; rep = k.rep }
+  begun rules (r ∷ rs) last z e s =
+      let i = left_first first rules r rs e in
+      let f = found_turns.keeps t plays output r rs s.number call first key m s.there s.rules_are is_key i.fits s.looks in
+      let n = select_turns t plays output rs f.number call first key (t.at_block r.block) m f.there f.rules_are is_key f.looks in
+      let n' = subst (λ (y : ℕ). Selects t output (selected first rs) call key (t.at_block r.block) y m (4 * passed_over first rs) f.there) (f.last_is ∙ s.last_is) n in
+      let few = s.few in
+      let few' = f.few in
+      let whole = over_and_left first rules in
+      let left = ap length e in
+      let behind = over_and_left first rs in
+      second r rs (selected first rs) (s.count + f.count) last (4 * length rules + 70) z f.there refl (leads_then t.p.world s.count f.count z s.there f.there s.leads f.leads) n' (omega arith)
+
+pub begin_turns : BeginTurns
+begin_turns t plays blocks output rules number call key m z are is_key none cut l =
+    begun t plays blocks output call key m is_key none cut rules (selected (first_of m.state.subst call) rules) (l.rep.cells 28) z refl (select_turns t plays output rules number call (first_of m.state.subst call) key 0 m z are is_key l)

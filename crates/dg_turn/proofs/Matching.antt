@@ -1,0 +1,350 @@
+-- Arguments are unified with the terms of a rule's head, one after another, up to a clash.
+use Rattle.std.proofs.Common.{◌≡◌, ◌≢◌, ℕ, zero, suc, ◌+◌, ◌-◌, ◌*◌, ◌<◌, ◌≤◌, Bool, true, false, List, [], ◌∷◌, ◌++◌, inl, inr, length, refl, sym, ap, ◌∙◌, subst, arith, append_assoc}
+use Rattle.std.specs.List.{zip}
+use Rattle.std.proofs.lemmas.Bool.{cases_lt}
+use Rattle.dg_base.specs.declared.run.Ending.TheVariants.{TrailLimit}
+use Rattle.dg_meaning.specs.Values.{Value}
+use Rattle.dg_meaning.specs.Substitutions.{Substitution}
+use Rattle.dg_meaning.specs.Letters.{compared}
+use Rattle.dg_meaning.specs.Unify.{agreed, Unified, Equations, solve, counted, and_then}
+use Rattle.dg_meaning.specs.inside.Unify.{unify}
+use Rattle.dg_meaning.proofs.UnifyLaws.{solve_first, solve_nothing}
+use Rattle.dg_meaning.proofs.Solving.{solve_extends}
+use Rattle.dg_mid.specs.State.{Mid}
+use Rattle.dg_mid.specs.Step.{bound, trail_more}
+use Rattle.z_model.specs.declared.end.Halt.TheVariants.{AtQuit}
+use Rattle.z_lang.specs.declared.act.Act.{Act}
+use Rattle.z_lang.specs.State.{State}
+use Rattle.z_lang.specs.Runs.{ActsRun, ActsOutcome, Returns, Stops, calls, calls_last}
+use Rattle.dg_rt.specs.declared.rules.TheConstants.{MATCH_ACTS}
+use Rattle.dg_rt.specs.inside.Walks.{steps}
+use Rattle.dg_rt.specs.Cells.{Holds, bit}
+use Rattle.dg_rt.specs.Areas.{state}
+use Rattle.dg_rt.specs.Shapes.{Shape, Shows}
+use Rattle.dg_rt.specs.RunTime.{HasRunTime}
+use Rattle.dg_rt.specs.Unifies.{price}
+use Rattle.dg_rt.specs.Closings.{closing, closing_most}
+use Rattle.dg_rt.specs.Rules.{Matches as MatchesOne, agree, limit_met}
+use Rattle.dg_rt.proofs.Backs.{grown_none}
+use Rattle.dg_rt.proofs.Binding.{trail_append}
+use Rattle.dg_rt.proofs.Compared.{compared_then, compared_append}
+use Rattle.dg_rt.proofs.Following.{register}
+use Rattle.dg_rt.proofs.Matching.{match_works}
+use Rattle.dg_rt.proofs.UnifySteps.{steps_are}
+use Rattle.dg_turn.specs.Told.{Telling}
+use Rattle.dg_turn.specs.Lies.{MidIn}
+use Rattle.dg_turn.specs.Turns.{match_acts}
+use Rattle.dg_turn.proofs.Standing.{match_at}
+use Rattle.dg_turn.proofs.Staying.{mid_same}
+use Rattle.dg_turn.proofs.Rows.{InRegisters, regs_stay}
+use Rattle.dg_turn.proofs.Unified.{more_is, setting, moment, mid_behind, fits, fit_trail, pass_trail}
+
+-- ## One after another
+
+-- What a machine's trail has behind bindings on bindings.
+trail_then : (m : Mid) (u v : Unified) (made more : Substitution) → u.subst ≡ made ++ m.state.subst → v.subst ≡ more ++ u.subst → trail_more (bound u m).state v ≡ trail_more m.state v
+trail_then m u v made more is then =
+    let a = more_is m.state u made is in
+    let b = more_is (bound u m).state v more then in
+    let both : v.subst ≡ (more ++ made) ++ m.state.subst = then ∙ ap (λ (l : Substitution). more ++ l) is ∙ sym (append_assoc more made m.state.subst) in
+    let d = more_is m.state v (more ++ made) both in
+    let e = trail_append m.state.since more made in
+    omega arith
+
+-- a machine with bindings on bindings
+bound_then : (m : Mid) (u v : Unified) → trail_more (bound u m).state v ≡ trail_more m.state v → bound v (bound u m) ≡ bound v m
+bound_then m u v e = ap (λ (n : ℕ). record m { state = record m.state { subst = v.subst; trail = n } }) e
+
+-- Acts went on behind the matches: whether values have clashed is told, and memory stands for the machine with what was bound.
+pub record Matched (t : Telling) (f w : ℕ) (body rest all : List Act) (sh : Shape) (memory typed output : List ℕ) (drawn : ℕ) (c : ℕ → ℕ) (m : Mid) (u : Unified) (most : ℕ) : Type 0 where
+  pub memory' : List ℕ
+  pub cells' : ℕ → ℕ
+  pub trail' : List ℕ
+  pub holds : Holds t.p.world.layout memory' cells'
+  pub mid : MidIn t sh cells' trail' (bound u m)
+  pub clash : cells' 13 ≡ 1 - bit u.agrees
+  pub others : (k : ℕ) → k ≢ 1 → k ≢ 13 → k < 303 → cells' k ≡ c k
+  pub count : ℕ
+  pub few : count ≤ most
+  pub runs : (o : ActsOutcome) (s' : State) (k : ℕ) → ActsRun t.p f w body rest (state memory' [] typed drawn output) o s' k → ActsRun t.p f w body all (state memory [] typed drawn output) o s' (steps count k)
+
+-- Or the trail's limit has ended the run.
+pub record Full (t : Telling) (f w : ℕ) (body all : List Act) (memory typed output : List ℕ) (drawn : ℕ) (c : ℕ → ℕ) (most : ℕ) : Type 0 where
+  pub memory' : List ℕ
+  pub locals' : List ℕ
+  pub count : ℕ
+  pub few : count ≤ most + closing_most
+  pub runs : ActsRun t.p f w body all (state memory [] typed drawn output) (Stops AtQuit) (state memory' locals' typed drawn (output ++ closing (c 28) TrailLimit)) count
+
+-- Both, by what the bindings take of the trail.
+pub record Goes (t : Telling) (f w : ℕ) (body rest all : List Act) (sh : Shape) (memory typed output : List ℕ) (drawn : ℕ) (c : ℕ → ℕ) (m : Mid) (u : Unified) (most : ℕ) : Type 0 where
+  pub matched : trail_more m.state u ≤ 2000 → Matched t f w body rest all sh memory typed output drawn c m u most
+  pub full : 2000 < trail_more m.state u → Full t f w body all memory typed output drawn c most
+
+module _ (t : Telling) (has : HasRunTime t.p) (f w : ℕ) (frames_left : 3400 ≤ f) (words_left : 16700 ≤ w) (sh : Shape) (typed output : List ℕ) (drawn : ℕ) (body rest : List Act) where
+  abbrev now : List ℕ → State
+  now memory = state memory [] typed drawn output
+
+  -- where two have clashed nothing more is done
+  pub skips : (n v x : ℕ) (memory : List ℕ) (c : ℕ → ℕ) → Holds t.p.world.layout memory c → 16 ≤ v → v + n ≤ 240 → 16 ≤ x → x + n ≤ 240 → c 13 ≢ 0 → (o : ActsOutcome) (s' : State) (k : ℕ) → ActsRun t.p f w body rest (now memory) o s' k → ActsRun t.p f w body (match_acts v x n ++ rest) (now memory) o s' (steps (3 * n) k)
+  skips zero v x memory c h lv hv lx hx clash o s' k r = r
+  skips (suc n) v x memory c h lv hv lx hx clash o s' k r =
+      let high = has.mapped.room in
+      let a = c (v - 16) in
+      let b = c (x - 16) in
+      let more = skips n (suc v) (suc x) memory c h (omega arith) (omega arith) (omega arith) (omega arith) clash o s' k r in
+      let e1 = steps_are (3 * n) k in
+      let e2 = steps_are (3 * suc n) k in
+      let sum : suc 2 + steps (3 * n) k ≡ steps (3 * suc n) k = omega arith in
+      subst (ActsRun t.p f w body (match_acts v x (suc n) ++ rest) (now memory) o s') sum
+      (calls {f' = 0} {w' = 0} {n = 2} {n' = steps (3 * n) k} {xs = (a, b, 0)} refl (rw (register t.p (now memory) c v h lv (omega arith) (omega arith), register t.p (now memory) c x h lx (omega arith) (omega arith)) refl) (match_at t.p has) (omega arith) (omega arith)
+      (match_works.skips t.p has.mapped 0 0 memory typed output drawn a b c h clash) refl more)
+
+  -- ## One pair of values, where none has clashed
+
+  pub record One (memory : List ℕ) (x y : ℕ) (c : ℕ → ℕ) (m : Mid) (u : Unified) (most : ℕ) : Type 0 where
+    pub memory' : List ℕ
+    pub cells' : ℕ → ℕ
+    pub trail' : List ℕ
+    pub holds : Holds t.p.world.layout memory' cells'
+    pub mid : MidIn t sh cells' trail' (bound u m)
+    pub clash : cells' 13 ≡ 1 - bit u.agrees
+    pub others : (k : ℕ) → k ≢ 1 → k ≢ 13 → k < 303 → cells' k ≡ c k
+    pub locals' : List ℕ
+    pub count : ℕ
+    pub few : count ≤ most + 5
+    pub runs : ActsRun t.p 3337 16685 MATCH_ACTS MATCH_ACTS (state memory (x ∷ y ∷ 0 ∷ 0 ∷ []) typed drawn output) (Returns 0) (state memory' locals' typed drawn output) count
+
+  pub record OneFull (memory : List ℕ) (x y : ℕ) (c : ℕ → ℕ) (most : ℕ) : Type 0 where
+    pub memory' : List ℕ
+    pub locals' : List ℕ
+    pub count : ℕ
+    pub few : count ≤ most + 5 + closing_most
+    pub runs : ActsRun t.p 3337 16685 MATCH_ACTS MATCH_ACTS (state memory (x ∷ y ∷ 0 ∷ 0 ∷ []) typed drawn output) (Stops AtQuit) (state memory' locals' typed drawn (output ++ closing (c 28) TrailLimit)) count
+
+  module _ (memory : List ℕ) (c : ℕ → ℕ) (trail : List ℕ) (m : Mid) (h : Holds t.p.world.layout memory c) (mid : MidIn t sh c trail m) (none : c 13 ≡ 0) (x y : ℕ) (a b : Value) (sx : Shows sh x a) (sy : Shows sh y b) where
+    abbrev u : Unified
+    u = unify m.state.subst a b
+
+    abbrev most : ℕ
+    most = price m.state.subst ((a, b) ∷ [])
+
+    -- the routine, from this moment on
+    ends : MatchesOne (setting t has sh memory typed output drawn c trail m h mid) memory x y most u
+    ends = match_works.matches (setting t has sh memory typed output drawn c trail m h mid) m.state.subst (moment t has sh memory typed output drawn c trail m h mid) x y a b sx sy none
+
+    one_by : MatchesOne (setting t has sh memory typed output drawn c trail m h mid) memory x y most u → trail_more m.state u ≤ 2000 → One memory x y c m u most
+    one_by (agree k memory' locals' cells' count holds clash same few runs) fit =
+        let behind = mid_behind t has sh memory typed output drawn c trail m h mid u k.memory k.cells fit k.at in
+        record {
+          memory' = memory';
+          cells' = cells';
+          trail' = k.at.trail;
+          holds = holds;
+          mid = mid_same t sh k.cells cells' k.at.trail (bound u m) (λ j ne far. same j (λ (e : j ≡ 13). (let q : 302 < j = far (omega arith) in omega arith))) behind;
+          clash = clash;
+          others = λ j n1 n13 low. same j n13 ∙ k.at.others j n1 (λ le. (omega arith));
+          locals' = locals';
+          count = count;
+          few = few;
+          runs = runs;
+        }
+    one_by (limit_met memory' locals' count over few runs) fit =
+        let passes = pass_trail t has sh memory typed output drawn c trail m h mid u (solve_extends m.state.subst ((a, b) ∷ []) mid.state.stands.sound) over in
+        absurd (omega arith)
+
+    full_by : MatchesOne (setting t has sh memory typed output drawn c trail m h mid) memory x y most u → 2000 < trail_more m.state u → OneFull memory x y c most
+    full_by (agree k memory' locals' cells' count holds clash same few runs) over =
+        let fit = fit_trail t has sh memory typed output drawn c trail m h mid u (solve_extends m.state.subst ((a, b) ∷ []) mid.state.stands.sound) k.room in
+        absurd (omega arith)
+    full_by (limit_met memory' locals' count over few runs) past = record { memory' = memory'; locals' = locals'; count = count; few = few; runs = runs }
+
+    pub one : trail_more m.state u ≤ 2000 → One memory x y c m u most
+    one fit = one_by ends fit
+
+    pub one_full : 2000 < trail_more m.state u → OneFull memory x y c most
+    one_full over = full_by ends over
+
+  no_more : (S : Substitution) (m : Mid) → m.state.subst ≡ S → trail_more m.state (agreed S) ≡ m.state.trail
+  no_more S m e = let r = more_is m.state (agreed S) [] (sym e) in omega arith
+
+  -- ## All of them
+
+  -- What matching so many costs.
+  abbrev cost : Substitution → Equations → ℕ → ℕ
+  cost S es n = price S es + 6 * n
+
+  -- So it is with all, from whatever memory stands for a machine.
+  abbrev Others : ℕ → ℕ → ℕ → List Value → List Value → Type 0
+  Others n v x xs ys = (memory : List ℕ) (c : ℕ → ℕ) (trail : List ℕ) (m : Mid) → Holds t.p.world.layout memory c → MidIn t sh c trail m → c 13 ≡ 0 → InRegisters sh c (v - 16) xs → InRegisters sh c (x - 16) ys →
+      Goes t f w body rest (match_acts v x n ++ rest) sh memory typed output drawn c m (solve m.state.subst (zip xs ys)) (cost m.state.subst (zip xs ys) n)
+
+  module _ (n v x : ℕ) (memory : List ℕ) (c : ℕ → ℕ) (trail : List ℕ) (m : Mid) (a b : Value) (xs ys : List Value) (ex : length xs ≡ n) (ey : length ys ≡ n) (h : Holds t.p.world.layout memory c) (mid : MidIn t sh c trail m) (none : c 13 ≡ 0)
+      (lv : 30 ≤ v) (hv : v + suc n ≤ 240) (lx : 30 ≤ x) (hx : x + suc n ≤ 240) (rx : InRegisters sh c (v - 16) (a ∷ xs)) (ry : InRegisters sh c (x - 16) (b ∷ ys)) (ih : Others n (suc v) (suc x) xs ys) where
+    abbrev S : Substitution
+    S = m.state.subst
+
+    abbrev es : Equations
+    es = zip xs ys
+
+    abbrev u : Unified
+    u = unify S a b
+
+    abbrev first_most : ℕ
+    first_most = price S ((a, b) ∷ [])
+
+    letters_are : compared S ((a, b) ∷ es) ≡ compared S ((a, b) ∷ []) + compared_then u es
+    letters_are = compared_append S ((a, b) ∷ []) es mid.state.stands.sound
+
+    abbrev all : List Act
+    all = match_acts v x (suc n) ++ rest
+
+    high : 24694 ≤ t.p.world.layout.base
+    high = has.mapped.room
+
+    -- the call of the first
+    first_call : (r : One memory (c (v - 16)) (c (x - 16)) c m u first_most) → (o : ActsOutcome) (s' : State) (k : ℕ) → ActsRun t.p f w body (match_acts (suc v) (suc x) n ++ rest) (now r.memory') o s' k → ActsRun t.p f w body all (now memory) o s' (suc r.count + k)
+    first_call r o s' k rest' = let base = high in calls {f' = 3337} {w' = 16685} {n = r.count} {n' = k} {xs = (c (v - 16), c (x - 16), 0)} refl (rw (register t.p (now memory) c v h (omega arith) (omega arith) (omega arith), register t.p (now memory) c x h (omega arith) (omega arith) (omega arith)) refl) (match_at t.p has) (omega arith) (omega arith) r.runs refl rest'
+
+    abbrev first : trail_more m.state u ≤ 2000 → One memory (c (v - 16)) (c (x - 16)) c m u first_most
+    first few = one memory c trail m h mid none (c (v - 16)) (c (x - 16)) a b rx.0 ry.0 few
+
+    -- the first passes the trail's limit
+    first_full : (most : ℕ) → first_most + 6 ≤ most → 2000 < trail_more m.state u → Full t f w body all memory typed output drawn c most
+    first_full most le over =
+        let base = high in
+        let r = one_full memory c trail m h mid none (c (v - 16)) (c (x - 16)) a b rx.0 ry.0 over in
+        let few = r.few in
+        record {
+          memory' = r.memory';
+          locals' = r.locals';
+          count = suc r.count;
+          few = omega arith;
+          runs = calls_last {f' = 3337} {w' = 16685} {n = r.count} {xs = (c (v - 16), c (x - 16), 0)} refl (rw (register t.p (now memory) c v h (omega arith) (omega arith) (omega arith), register t.p (now memory) c x h (omega arith) (omega arith) (omega arith)) refl) (match_at t.p has) (omega arith) (omega arith) r.runs;
+        }
+
+    -- the first clashes
+    first_clashes : u.agrees ≡ false → Goes t f w body rest all sh memory typed output drawn c m u (15 * u.count + 8 * compared S ((a, b) ∷ es) + 6 * suc n)
+    first_clashes e = record {
+      matched = λ few.
+          let sum = letters_are in
+          let r = first few in
+          let one_is : r.cells' 13 ≡ 1 = r.clash ∙ ap (λ (g : Bool). 1 - bit g) e in
+          let few' = r.few in
+          record {
+            memory' = r.memory';
+            cells' = r.cells';
+            trail' = r.trail';
+            holds = r.holds;
+            mid = r.mid;
+            clash = r.clash;
+            others = r.others;
+            count = suc r.count + 3 * n;
+            few = omega arith;
+            runs = λ o s' k r'.
+                let d = skips n (suc v) (suc x) r.memory' r.cells' r.holds (omega arith) (omega arith) (omega arith) (omega arith) (λ (q : r.cells' 13 ≡ 0). (omega arith)) o s' k r' in
+                let e1 = steps_are (3 * n) k in
+                let e2 = steps_are (suc r.count + 3 * n) k in
+                let sum' : suc r.count + steps (3 * n) k ≡ steps (suc r.count + 3 * n) k = omega arith in
+                subst (ActsRun t.p f w body all (now memory) o s') sum' (first_call r o s' (steps (3 * n) k) d);
+          };
+      full = λ over. let sum = letters_are in first_full (15 * u.count + 8 * compared S ((a, b) ∷ es) + 6 * suc n) (omega arith) over;
+    }
+
+    -- the first agrees, and the others come behind it
+    first_agrees : u.agrees ≡ true → Goes t f w body rest all sh memory typed output drawn c m (counted u.count (solve u.subst es)) (15 * (u.count + (solve u.subst es).count) + 8 * compared S ((a, b) ∷ es) + 6 * suc n)
+    first_agrees e =
+        let sum : compared S ((a, b) ∷ es) ≡ compared S ((a, b) ∷ []) + compared u.subst es = letters_are ∙ rw e refl in
+        let v2 = solve u.subst es in
+        let grew = solve_extends S ((a, b) ∷ []) mid.state.stands.sound in
+        let grew' = solve_extends u.subst es grew.sound in
+        let then = trail_then m u v2 grew.made grew'.made grew.is grew'.is in
+        let first_trail = more_is m.state u grew.made grew.is in
+        let second_trail = more_is (bound u m).state v2 grew'.made grew'.is in
+        let go : (fit : trail_more m.state u ≤ 2000) → Goes t f w body rest (match_acts (suc v) (suc x) n ++ rest) sh (first fit).memory' typed output drawn (first fit).cells' (bound u m) v2 (cost u.subst es n) = λ fit.
+        let r = first fit in
+        let zero_is : r.cells' 13 ≡ 0 = r.clash ∙ ap (λ (g : Bool). 1 - bit g) e in
+        let nv : suc v - 16 ≡ suc (v - 16) = omega arith in
+        let nx : suc x - 16 ≡ suc (x - 16) = omega arith in
+        let rx' = subst (λ (k : ℕ). InRegisters sh r.cells' k xs) (sym nv) (regs_stay sh sh c r.cells' (grown_none sh) (suc (v - 16)) xs (λ j low lt. r.others j (λ q. (omega arith)) (λ q. (omega arith)) (omega arith)) rx.1) in
+        let ry' = subst (λ (k : ℕ). InRegisters sh r.cells' k ys) (sym nx) (regs_stay sh sh c r.cells' (grown_none sh) (suc (x - 16)) ys (λ j low lt. r.others j (λ q. (omega arith)) (λ q. (omega arith)) (omega arith)) ry.1) in
+        ih r.memory' r.cells' r.trail' (bound u m) r.holds r.mid zero_is rx' ry' in
+        record {
+          matched = λ few.
+              let fit : trail_more m.state u ≤ 2000 = omega arith in
+              let r = first fit in
+              let o = (go fit).matched (omega arith) in
+              let few1 = r.few in
+              let few2 = o.few in
+              record {
+                memory' = o.memory';
+                cells' = o.cells';
+                trail' = o.trail';
+                holds = o.holds;
+                mid = subst (MidIn t sh o.cells' o.trail') (bound_then m u v2 then) o.mid;
+                clash = o.clash;
+                others = λ k n1 n13 low. o.others k n1 n13 low ∙ r.others k n1 n13 low;
+                count = suc r.count + o.count;
+                few = omega arith;
+                runs = λ out s' k r'.
+                    let e1 = steps_are o.count k in
+                    let e2 = steps_are (suc r.count + o.count) k in
+                    let sum' : suc r.count + steps o.count k ≡ steps (suc r.count + o.count) k = omega arith in
+                    subst (ActsRun t.p f w body all (now memory) out s') sum' (first_call r out s' (steps o.count k) (o.runs out s' k r'));
+              };
+          full = λ over. elim (cases_lt 2000 (trail_more m.state u)) [
+            | inl lt ↦ first_full (15 * (u.count + v2.count) + 8 * compared S ((a, b) ∷ es) + 6 * suc n) (omega arith) lt
+            | inr ge ↦
+                let r = first ge in
+                let o = (go ge).full (omega arith) in
+                let few1 = r.few in
+                let few2 = o.few in
+                record {
+                  memory' = o.memory';
+                  locals' = o.locals';
+                  count = suc r.count + o.count;
+                  few = omega arith;
+                  runs = subst (λ (i : ℕ). ActsRun t.p f w body all (now memory) (Stops AtQuit) (state o.memory' o.locals' typed drawn (output ++ closing i TrailLimit)) (suc r.count + o.count)) (r.others 28 (λ q. (omega arith)) (λ q. (omega arith)) (omega arith))
+                      (first_call r (Stops AtQuit) (state o.memory' o.locals' typed drawn (output ++ closing (r.cells' 28) TrailLimit)) o.count o.runs);
+                }
+          ];
+        }
+
+    by_answer : (agrees : Bool) → u.agrees ≡ agrees → solve S ((a, b) ∷ es) ≡ and_then u (λ S'. solve S' es) → Goes t f w body rest all sh memory typed output drawn c m (solve S ((a, b) ∷ es)) (cost S ((a, b) ∷ es) (suc n))
+    by_answer false e is =
+        let q : solve S ((a, b) ∷ es) ≡ u = is ∙ rw e refl in
+        subst (λ (z : Unified). Goes t f w body rest all sh memory typed output drawn c m z (15 * z.count + 8 * compared S ((a, b) ∷ es) + 6 * suc n)) (sym q) (first_clashes e)
+    by_answer true e is =
+        let q : solve S ((a, b) ∷ es) ≡ counted u.count (solve u.subst es) = is ∙ rw e refl in
+        subst (λ (z : Unified). Goes t f w body rest all sh memory typed output drawn c m z (15 * z.count + 8 * compared S ((a, b) ∷ es) + 6 * suc n)) (sym q) (first_agrees e)
+
+    pub all_matched : Goes t f w body rest all sh memory typed output drawn c m (solve S ((a, b) ∷ es)) (cost S ((a, b) ∷ es) (suc n))
+    all_matched = by_answer u.agrees refl (solve_first S (a, b) es mid.state.stands.sound)
+
+  pub matches : (n v x : ℕ) (memory : List ℕ) (c : ℕ → ℕ) (trail : List ℕ) (m : Mid) (xs ys : List Value) → length xs ≡ n → length ys ≡ n → Holds t.p.world.layout memory c → MidIn t sh c trail m → c 13 ≡ 0 → 30 ≤ v → v + n ≤ 240 → 30 ≤ x → x + n ≤ 240 → InRegisters sh c (v - 16) xs → InRegisters sh c (x - 16) ys →
+      Goes t f w body rest (match_acts v x n ++ rest) sh memory typed output drawn c m (solve m.state.subst (zip xs ys)) (cost m.state.subst (zip xs ys) n)
+  matches zero v x memory c trail m [] ys ex ey h mid none lv hv lx hx rx ry =
+      let S = m.state.subst in
+      let few = mid.state.few_trail in
+      let same = no_more S m refl in
+      subst (λ (u : Unified). Goes t f w body rest rest sh memory typed output drawn c m u (cost S [] 0)) (sym (solve_nothing S)) (record {
+        matched = λ fit. record {
+          memory' = memory;
+          cells' = c;
+          trail' = trail;
+          holds = h;
+          mid = subst (λ (n : ℕ). MidIn t sh c trail (record m { state = record m.state { trail = n } })) (sym same) mid;
+          clash = none;
+          others = λ k n1 n13 low. refl;
+          count = 0;
+          few = omega arith;
+          runs = λ o s' k r. r;
+        };
+        full = λ over. absurd (omega arith);
+      })
+  matches zero v x memory c trail m (a ∷ xs) ys ex ey h mid none lv hv lx hx rx ry = absurd (omega arith)
+  matches (suc n) v x memory c trail m [] ys ex ey h mid none lv hv lx hx rx ry = absurd (omega arith)
+  matches (suc n) v x memory c trail m (a ∷ xs) [] ex ey h mid none lv hv lx hx rx ry = absurd (omega arith)
+  matches (suc n) v x memory c trail m (a ∷ xs) (b ∷ ys) ex ey h mid none lv hv lx hx rx ry =
+      all_matched n v x memory c trail m a b xs ys (omega arith) (omega arith) h mid none lv hv lx hx rx ry
+      (λ memory1 c1 trail1 m1 h1 mid1 none1 rx1 ry1. matches n (suc v) (suc x) memory1 c1 trail1 m1 xs ys (omega arith) (omega arith) h1 mid1 none1 (omega arith) (omega arith) (omega arith) (omega arith) rx1 ry1)

@@ -1,0 +1,47 @@
+-- Where the routines stand that turns call.
+use Rattle.std.proofs.Common.{◌≡◌, Some, refl}
+use Rattle.z_lang.specs.State.{Program}
+use Rattle.dg_rt.specs.declared.numbers.TheConstants.{CHARGE, VAR, ENTER, FAIL, FAILED, CAPTURE, COMMIT, KEY_OF, FOUND, NONE, MATCH, MATCHED}
+use Rattle.dg_rt.specs.declared.closings.TheConstants.{FAILED_ACTS}
+use Rattle.dg_rt.specs.declared.heap.TheConstants.{CHARGE_ACTS}
+use Rattle.dg_rt.specs.declared.frames.TheConstants.{VAR_ACTS, CAPTURE_ACTS, ENTER_ACTS}
+use Rattle.dg_rt.specs.declared.choices.TheConstants.{FAIL_ACTS, COMMIT_ACTS}
+use Rattle.dg_rt.specs.declared.rules.TheConstants.{KEY_OF_ACTS, FOUND_ACTS, NONE_ACTS, MATCH_ACTS, MATCHED_ACTS}
+use Rattle.dg_rt.specs.RunTime.{routine_of, HasRunTime}
+
+module _ (p : Program) (has : HasRunTime p) where
+  pub failed_at : p.routine_at (p.names.routine FAILED) ≡ Some (routine_of 0 FAILED_ACTS)
+  failed_at = has.each 9 (routine_of 0 FAILED_ACTS) refl
+
+  pub charge_at : p.routine_at (p.names.routine CHARGE) ≡ Some (routine_of 1 CHARGE_ACTS)
+  charge_at = has.each 15 (routine_of 1 CHARGE_ACTS) refl
+
+  pub var_at : p.routine_at (p.names.routine VAR) ≡ Some (routine_of 4 VAR_ACTS)
+  var_at = has.each 16 (routine_of 4 VAR_ACTS) refl
+
+  pub enter_at : p.routine_at (p.names.routine ENTER) ≡ Some (routine_of 4 ENTER_ACTS)
+  enter_at = has.each 17 (routine_of 4 ENTER_ACTS) refl
+
+  pub fail_at : p.routine_at (p.names.routine FAIL) ≡ Some (routine_of 4 FAIL_ACTS)
+  fail_at = has.each 20 (routine_of 4 FAIL_ACTS) refl
+
+  pub capture_at : p.routine_at (p.names.routine CAPTURE) ≡ Some (routine_of 8 CAPTURE_ACTS)
+  capture_at = has.each 21 (routine_of 8 CAPTURE_ACTS) refl
+
+  pub commit_at : p.routine_at (p.names.routine COMMIT) ≡ Some (routine_of 1 COMMIT_ACTS)
+  commit_at = has.each 22 (routine_of 1 COMMIT_ACTS) refl
+
+  pub key_of_at : p.routine_at (p.names.routine KEY_OF) ≡ Some (routine_of 4 KEY_OF_ACTS)
+  key_of_at = has.each 23 (routine_of 4 KEY_OF_ACTS) refl
+
+  pub found_at : p.routine_at (p.names.routine FOUND) ≡ Some (routine_of 4 FOUND_ACTS)
+  found_at = has.each 24 (routine_of 4 FOUND_ACTS) refl
+
+  pub none_at : p.routine_at (p.names.routine NONE) ≡ Some (routine_of 0 NONE_ACTS)
+  none_at = has.each 25 (routine_of 0 NONE_ACTS) refl
+
+  pub match_at : p.routine_at (p.names.routine MATCH) ≡ Some (routine_of 4 MATCH_ACTS)
+  match_at = has.each 26 (routine_of 4 MATCH_ACTS) refl
+
+  pub matched_at : p.routine_at (p.names.routine MATCHED) ≡ Some (routine_of 1 MATCHED_ACTS)
+  matched_at = has.each 27 (routine_of 1 MATCHED_ACTS) refl

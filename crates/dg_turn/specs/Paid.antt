@@ -1,0 +1,37 @@
+-- What the turns cost is within what code is paid for: 800 instructions a unit, and 9,000 where rules are looked at. Hold it against
+-- dg_mid/specs/Units.antt.
+use Rattle.std.specs.Prelude.{◌≡◌, ℕ, ◌+◌, ◌*◌, ◌≤◌, List, [], ◌∷◌, length, Bool}
+use Rattle.dg_base.specs.declared.program.Term.{Term}
+use Rattle.dg_meaning.specs.World.{Print}
+use Rattle.dg_meaning.specs.Cells.{nodes_of}
+use Rattle.dg_mid.specs.declared.code.Action.TheVariants as action
+use Rattle.dg_mid.specs.declared.code.Op.{Op}
+use Rattle.dg_mid.specs.declared.code.Op.TheVariants as op
+use Rattle.dg_mid.specs.declared.code.RuleCode.{RuleCode}
+use Rattle.dg_mid.specs.State.{Place, Call, Calls, Mid, Status, Runs, Enters, Resumes, Fails}
+use Rattle.dg_mid.specs.Step.{Setting}
+use Rattle.dg_mid.specs.Units.{units, selects, dropped, undone}
+use Rattle.dg_turn.specs.Terms.{AreNodes}
+use Rattle.dg_turn.specs.Turns.{entering_most, equal_most}
+use Rattle.dg_turn.specs.Queries.{asking_most}
+
+-- What a step may cost.
+abbrev pub paid : Setting → List Print → Status → ℕ
+paid g ps now = 800 * units g ps now + 9000 * selects now
+
+-- The costs of a rule of at most 300 variables and 12 parameters, of an equation, of a query of at most 2,200 rules, of going on with as many, of going
+-- back, and of leaving an inner construct, as the turns have them, are paid for.
+pub record TurnsArePaid : Type 0 where
+  pub enter : (g : Setting) (ps : List Print) (call : Call) (m : Mid) (vars : ℕ) (head : List Term) (ops : List Op) →
+      m.ops ≡ op.Enter vars head ∷ ops → AreNodes g.game.program (nodes_of head) → vars ≤ 300 → length head ≤ 12 →
+      entering_most g.game.program call vars head m ≤ paid g ps (Enters call m)
+  pub equal : (g : Setting) (ps : List Print) (m : Mid) (a b : Term) (ops : List Op) → m.ops ≡ op.Do (action.Equal a b) ∷ ops →
+      AreNodes g.game.program (nodes_of (a ∷ b ∷ [])) → equal_most g.game.program a b m ≤ paid g ps (Runs m)
+  pub ask : (g : Setting) (ps : List Print) (m : Mid) (pred : ℕ) (ts : List Term) (many : Bool) (next : ℕ) (rules : List RuleCode) (ops : List Op) →
+      m.ops ≡ op.Ask pred ts many next ∷ ops → AreNodes g.game.program (nodes_of ts) → length rules ≤ 2200 →
+      asking_most g.game.program ts m + 4 * length rules + 70 ≤ paid g ps (Runs m)
+  pub begin : (g : Setting) (ps : List Print) (m : Mid) (call : Call) (rules : List RuleCode) → length rules ≤ 2200 →
+      4 * length rules + 70 ≤ paid g ps (Resumes (Calls call rules) m)
+  pub fail : (g : Setting) (ps : List Print) (m : Mid) → 6 * undone m.choices m + 34 ≤ paid g ps (Fails m)
+  pub commit : (g : Setting) (ps : List Print) (m : Mid) (place : Place) (places : List Place) (ops : List Op) → m.ops ≡ op.Commit ∷ ops →
+      m.inner ≡ place ∷ places → 4 * dropped place m.choices + 15 ≤ paid g ps (Runs m)

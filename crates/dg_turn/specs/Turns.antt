@@ -1,0 +1,160 @@
+-- Rules that are entered, terms that are unified, and inner constructs that are left: what their routines are, and each as a turn. Hold it against
+-- dg_mid/specs/Step.antt.
+use Rattle.std.specs.Prelude.{◌≡◌, ℕ, zero, suc, ◌+◌, ◌*◌, ◌<◌, ◌≤◌, List, [], ◌∷◌, ◌++◌, length, map, Some, None, Bool, true, false}
+use Rattle.std.specs.List.{zip}
+use Rattle.dg_base.specs.declared.program.CoreProgram.{CoreProgram}
+use Rattle.dg_base.specs.declared.program.Term.{Term}
+use Rattle.dg_base.specs.declared.run.Ending.TheVariants.{HeapLimit, TrailLimit}
+use Rattle.dg_meaning.specs.Values.{value_of}
+use Rattle.dg_meaning.specs.Cells.{nodes_of, cells}
+use Rattle.dg_meaning.specs.Unify.{Unified, Equations, solve}
+use Rattle.dg_mid.specs.State.{Place, Call, Mid, vars_of}
+use Rattle.dg_mid.specs.Step.{new_frame, bound, more, trail_more, cut_to}
+use Rattle.dg_mid.specs.Units.{dropped}
+use Rattle.dg_mid.specs.Heights.{AgreeAll}
+use Rattle.z_model.specs.Run.{ZState}
+use Rattle.z_lang.specs.declared.act.Act.{Act}
+use Rattle.z_lang.specs.declared.act.Act.TheVariants as acts
+use Rattle.z_lang.specs.declared.act.Args.TheVariants as args
+use Rattle.z_lang.specs.declared.act.Atom.TheVariants as atoms
+use Rattle.z_lang.specs.declared.act.Routine.{Routine}
+use Rattle.z_lang.specs.State.{Program}
+use Rattle.dg_rt.specs.declared.numbers.TheConstants.{ENTER, MATCH, MATCHED, COMMIT, FAIL}
+use Rattle.dg_rt.specs.declared.registers.TheConstants.{ARGS, CLASH, WORD}
+use Rattle.dg_rt.specs.Areas.{last_reg}
+use Rattle.dg_rt.specs.RunTime.{routine_of}
+use Rattle.dg_rt.specs.Unifies.{price}
+use Rattle.dg_rt.specs.Closings.{closing_most}
+use Rattle.dg_turn.specs.Told.{Telling}
+use Rattle.dg_turn.specs.Plays.{Playing, Represented, CallAt, Comes, Closes}
+use Rattle.dg_turn.specs.Terms.{capped, terms_acts, AreNodes, written_in}
+
+-- The routine that comes behind a unification: this one, or the one that fails.
+abbrev pub agreed_next : Program → ℕ → Bool → ℕ
+agreed_next p behind true = p.names.routine behind
+agreed_next p behind false = p.names.routine FAIL
+
+-- ## A rule is entered
+
+-- So many variables from one on are matched with those from another on.
+abbrev pub match_acts : ℕ → ℕ → ℕ → List Act
+match_acts v x zero = []
+match_acts v x (suc n) = acts.Call None (atoms.Routine MATCH) (args.Two (atoms.Var v) (atoms.Var x)) ∷ match_acts (suc v) (suc x) n
+
+-- What comes behind a unification is answered.
+abbrev pub last_acts : ℕ → List Act
+last_acts behind = acts.Call (Some WORD) (atoms.Routine MATCHED) (args.One (atoms.Routine behind)) ∷ acts.Return (atoms.Var WORD) ∷ []
+
+-- Where the words of a head are put: behind all other registers.
+abbrev pub HEAD : ℕ
+HEAD = 64
+
+-- The words of a head are put there, and matched with the arguments.
+abbrev pub head_acts : CoreProgram → List Term → ℕ → List Act
+head_acts program head behind = terms_acts program HEAD head ++ (match_acts ARGS HEAD (length head) ++ last_acts behind)
+
+-- The routine that enters a rule of so many variables with this head, and goes on there.
+abbrev pub enter_routine : CoreProgram → ℕ → List Term → ℕ → Routine
+enter_routine program vars head behind =
+    routine_of 0 (acts.Call None (atoms.Routine ENTER) (args.Two (atoms.Num vars) (atoms.Num (capped (cells program head))))
+    ∷ head_acts program head behind)
+
+-- The machine inside a rule, with its head written.
+abbrev pub in_rule : CoreProgram → Call → ℕ → List Term → Mid → Mid
+in_rule program call vars head m =
+    record m { state = record m.state { vars = m.state.vars + vars; heap = m.state.heap + (6 + vars + cells program head) } }
+
+-- The same with what a unification has bound, and its frame.
+abbrev pub entered : CoreProgram → Call → ℕ → List Term → Unified → Mid → Mid
+entered program call vars head u m =
+    record (bound u (in_rule program call vars head m)) { frames = new_frame call vars m ∷ m.frames; inner = [] }
+
+-- The arguments of a call beside the terms of a rule's head, and their unification.
+abbrev pub head_equations : CoreProgram → Call → ℕ → List Term → Mid → Equations
+head_equations program call vars head m = zip call.args (map (value_of program (new_frame call vars m).vars) head)
+
+abbrev pub head_unified : CoreProgram → Call → ℕ → List Term → Mid → Unified
+head_unified program call vars head m = solve m.state.subst (head_equations program call vars head m)
+
+-- What entering takes at most.
+abbrev pub entering_most : CoreProgram → Call → ℕ → List Term → Mid → ℕ
+entering_most program call vars head m =
+    4 * vars + written_in program head + price m.state.subst (head_equations program call vars head m) + 6 * length head + 40
+
+-- The player is in front of the routine that enters a rule, with a call in registers.
+pub record Entering (t : Telling) (output : List ℕ) (call : Call) (vars : ℕ) (head : List Term) (behind : ℕ) (m : Mid) (z : ZState) : Type 0 where
+  pub x : ℕ
+  pub rep : Represented t output x m z
+  pub call_is : CallAt t rep.sh rep.cells call
+  pub there : t.p.routine_at x ≡ Some (enter_routine t.program vars head behind)
+  pub fits : length call.args ≡ length head
+  pub short : length head ≤ 12
+  pub nodes : AreNodes t.program (nodes_of head)
+
+-- In one turn a rule is entered, or a limit is met: `enter` of dg_mid/specs/Step.antt.
+pub record EnterTurns : Type 0 where
+  pub enters : (t : Telling) → Playing t → (output : List ℕ) (call : Call) (vars : ℕ) (head : List Term) (behind : ℕ) (m : Mid) (z : ZState) →
+      Entering t output call vars head behind m z → m.state.heap + (6 + vars + cells t.program head) ≤ 10000 →
+      let u = head_unified t.program call vars head m in
+      trail_more m.state u ≤ 2000 →
+      Comes t output (agreed_next t.p behind u.agrees) (entered t.program call vars head u m) (entering_most t.program call vars head m) z
+  pub meets_heap : (t : Telling) → Playing t → (output : List ℕ) (call : Call) (vars : ℕ) (head : List Term) (behind : ℕ) (m : Mid) (z : ZState) →
+      (e : Entering t output call vars head behind m z) → vars ≤ 300 → 10000 < m.state.heap + (6 + vars + cells t.program head) →
+      Closes t output (e.rep.cells last_reg) HeapLimit (10 + closing_most) z
+  pub meets_trail : (t : Telling) → Playing t → (output : List ℕ) (call : Call) (vars : ℕ) (head : List Term) (behind : ℕ) (m : Mid) (z : ZState) →
+      (e : Entering t output call vars head behind m z) → m.state.heap + (6 + vars + cells t.program head) ≤ 10000 →
+      2000 < trail_more m.state (head_unified t.program call vars head m) →
+      Closes t output (e.rep.cells last_reg) TrailLimit (entering_most t.program call vars head m + closing_most) z
+
+-- ## Two terms are unified
+
+-- The routine of a goal (= a b) that goes on there.
+abbrev pub equal_routine : CoreProgram → Term → Term → ℕ → Routine
+equal_routine program a b behind =
+    routine_of 0 (terms_acts program ARGS (a ∷ b ∷ []) ++ (acts.Copy CLASH (atoms.Num 0) ∷ (match_acts ARGS (ARGS + 1) 1 ++ last_acts behind)))
+
+-- The equation of two terms, and its unification.
+abbrev pub equation : CoreProgram → Term → Term → Mid → Equations
+equation program a b m = (value_of program (vars_of m.frames) a, value_of program (vars_of m.frames) b) ∷ []
+
+abbrev pub equal_unified : CoreProgram → Term → Term → Mid → Unified
+equal_unified program a b m = solve m.state.subst (equation program a b m)
+
+-- What unifying them takes at most.
+abbrev pub equal_most : CoreProgram → Term → Term → Mid → ℕ
+equal_most program a b m = written_in program (a ∷ b ∷ []) + price m.state.subst (equation program a b m) + 30
+
+-- The player is in front of the routine that unifies two terms.
+pub record Equating (t : Telling) (output : List ℕ) (a b : Term) (behind : ℕ) (m : Mid) (z : ZState) : Type 0 where
+  pub x : ℕ
+  pub rep : Represented t output x m z
+  pub there : t.p.routine_at x ≡ Some (equal_routine t.program a b behind)
+  pub nodes : AreNodes t.program (nodes_of (a ∷ b ∷ []))
+
+-- In one turn two terms are unified, or a limit is met: what `done` of dg_mid/specs/Step.antt does of a goal (= a b).
+pub record EqualTurns : Type 0 where
+  pub unifies : (t : Telling) → Playing t → (output : List ℕ) (a b : Term) (behind : ℕ) (m : Mid) (z : ZState) → Equating t output a b behind m z →
+      m.state.heap + cells t.program (a ∷ b ∷ []) ≤ 10000 →
+      let u = equal_unified t.program a b m in
+      trail_more m.state u ≤ 2000 →
+      Comes t output (agreed_next t.p behind u.agrees) (bound u (more (cells t.program (a ∷ b ∷ [])) m)) (equal_most t.program a b m) z
+  pub meets_heap : (t : Telling) → Playing t → (output : List ℕ) (a b : Term) (behind : ℕ) (m : Mid) (z : ZState) →
+      (e : Equating t output a b behind m z) → 10000 < m.state.heap + cells t.program (a ∷ b ∷ []) →
+      Closes t output (e.rep.cells last_reg) HeapLimit (10 + closing_most) z
+  pub meets_trail : (t : Telling) → Playing t → (output : List ℕ) (a b : Term) (behind : ℕ) (m : Mid) (z : ZState) →
+      (e : Equating t output a b behind m z) → m.state.heap + cells t.program (a ∷ b ∷ []) ≤ 10000 →
+      2000 < trail_more m.state (equal_unified t.program a b m) →
+      Closes t output (e.rep.cells last_reg) TrailLimit (equal_most t.program a b m + closing_most) z
+
+-- ## An inner construct is left
+
+-- The routine that leaves it and goes on there.
+abbrev pub commit_routine : ℕ → Routine
+commit_routine behind = routine_of 0 (acts.Call None (atoms.Routine COMMIT) args.Zero ∷ acts.Return (atoms.Routine behind) ∷ [])
+
+-- In one turn the newest inner construct is left, and the choices inside it are dropped, in 4 instructions each: `commits` of
+-- dg_mid/specs/Step.antt.
+abbrev pub CommitTurns : Type 0
+CommitTurns = (t : Telling) → Playing t → (output : List ℕ) (x : ℕ) (m : Mid) (z : ZState) (place : Place) (places : List Place) (behind : ℕ) →
+    t.p.routine_at x ≡ Some (commit_routine behind) → m.inner ≡ place ∷ places → AgreeAll m.choices place → Represented t output x m z →
+    Comes t output (t.p.names.routine behind) (cut_to place (record m { inner = places })) (4 * dropped place m.choices + 15) z

@@ -1,0 +1,76 @@
+// What the code of a story does to its memory: each function's clause is a law.
+ghost use Rattle.dg_turn.specs.Paid.{TurnsArePaid};
+ghost use Rattle.dg_turn.specs.Queries.{AskBegins, AskTurns, FailBegins, FailEnds, FailTurns};
+ghost use Rattle.dg_turn.specs.Rules.{BeginTurns, FoundTurns, NoneTurns, SelectTurns};
+ghost use Rattle.dg_turn.specs.Terms.{TermsWork};
+ghost use Rattle.dg_turn.specs.Turns.{CommitTurns, EnterTurns, EqualTurns};
+
+/// Terms are written on the heap, or its limit is met.
+pub fn terms_work()
+    ensures { TermsWork }
+{}
+
+/// Entering a rule with variables and a head is a turn.
+pub fn enter_turns()
+    ensures { EnterTurns }
+{}
+
+/// Unifying two terms is a turn.
+pub fn equal_turns()
+    ensures { EqualTurns }
+{}
+
+/// Leaving an inner construct is a turn.
+pub fn commit_turns()
+    ensures { CommitTurns }
+{}
+
+/// Rules that an argument excludes are passed over, each in a turn.
+pub fn select_turns()
+    ensures { SelectTurns }
+{}
+
+/// Behind the last rule what was found comes next, or it fails, in a turn.
+pub fn none_turns()
+    ensures { NoneTurns }
+{}
+
+/// A rule that isn't excluded is kept, or a choice is opened, in a turn.
+pub fn found_turns()
+    ensures { FoundTurns }
+{}
+
+/// The rules of a query are looked at, up to the second that isn't excluded.
+pub fn begin_turns()
+    ensures { BeginTurns }
+{}
+
+/// Asking a query is a turn.
+pub fn ask_turns()
+    ensures { AskTurns }
+{}
+
+/// A whole query is asked and begun.
+pub fn ask_begins()
+    ensures { AskBegins }
+{}
+
+/// Going back to further rules is a turn.
+pub fn fail_turns()
+    ensures { FailTurns }
+{}
+
+/// A failure goes back to further rules, and they are begun.
+pub fn fail_begins()
+    ensures { FailBegins }
+{}
+
+/// A failure without a choice ends the run.
+pub fn fail_ends()
+    ensures { FailEnds }
+{}
+
+/// What the turns cost is paid for.
+pub fn turns_are_paid()
+    ensures { TurnsArePaid }
+{}

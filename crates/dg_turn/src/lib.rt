@@ -1,0 +1,9 @@
+//! What a story's code for terms, queries, rules, choices and going back does to memory, as turns.
+#![tactic(auto)]
+
+mod laws;
+
+pub use laws::{
+    ask_begins, ask_turns, begin_turns, commit_turns, enter_turns, equal_turns, fail_begins,
+    fail_ends, fail_turns, found_turns, none_turns, select_turns, terms_work, turns_are_paid,
+};
