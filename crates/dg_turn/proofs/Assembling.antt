@@ -189,11 +189,11 @@ pair_nodes h t = append-nil (nodes (Pair-Term h t)) ∙ nodes_are h t
 -- A closure has as many parts as it captures.
 parts_count : (env : List Value) (vs : List ℕ) → count_of (node_parts (map (value_of_var env) vs)) ≡ length vs
 parts_count env [] = refl
-parts_count env (v ∷ vs) = ap suc (parts_count env vs)
+parts_count env (v ∷ vs) = let e = parts_count env vs in omega arith
 
 parts_are : (env : List Value) (o : Option ClosureBody) → captured_values env o ≡ node_parts (map (value_of_var env) (captured_of o))
 parts_are env None = refl
-parts_are env (Some closure) = refl
+parts_are env (Some body) = refl
 
 module _ (program : CoreProgram) (sh sh' : Shape) (g : Grown sh sh') (told : (place : ℕ) → sh'.captures place ≡ captured_count (slice_get program.closures place)) (env : List Value) (c : ℕ → ℕ) (total : ℕ) (few : sh.top + total ≤ 10000) (cell_at : (i : ℕ) → i < total → Cell sh' (sh.top + i) (c (heap_at + (sh.top + i)))) where
   -- A node is written, and its cells are a box.

@@ -2,7 +2,7 @@
 use Rattle.std.proofs.Common.{◌≡◌, ◌≢◌, ℕ, zero, suc, ◌+◌, ◌-◌, ◌*◌, ◌/◌, ◌%◌, ◌<◌, ◌≤◌, List, [], ◌∷◌, ◌++◌, drop, length, refl, sym, ap, ◌∙◌, subst, arith}
 use Rattle.std.specs.Prelude.{get_or}
 use Rattle.dg_base.specs.declared.program.Term.{Term}
-use Rattle.dg_meaning.specs.Values.{Value}
+use Rattle.dg_meaning.specs.Values.{Value, Nil, leaf}
 use Rattle.dg_mid.specs.State.{Mid, vars_of}
 use Rattle.z_lang.specs.declared.act.Act.{Act}
 use Rattle.z_lang.specs.declared.act.Act.TheVariants as acts
@@ -89,7 +89,7 @@ all_hold sh cells k env (a ∷ b ∷ c ∷ d ∷ e ∷ f ∷ vs) h g =
 pub hold_same : (sh : Shape) (c c' : ℕ → ℕ) (k : ℕ) (env : List Value) (vs : List ℕ) → ((i : ℕ) → k ≤ i → i < k + length vs → c' (heap_at + i) ≡ c (heap_at + i)) → HoldVars sh c k env vs → HoldVars sh c' k env vs
 hold_same sh c c' k env [] same h = tt
 hold_same sh c c' k env (v ∷ vs) same h =
-    (subst (λ (y : ℕ). Shows sh y (get_or env v _)) (sym (same k (omega arith) (omega arith))) h.0, hold_same sh c c' (suc k) env vs (λ i low lt. same i (omega arith) (omega arith)) h.1)
+    (subst (λ (y : ℕ). Shows sh y (get_or env v (leaf Nil))) (sym (same k (omega arith) (omega arith))) h.0, hold_same sh c c' (suc k) env vs (λ i low lt. same i (omega arith) (omega arith)) h.1)
 
 module _ (t : Telling) (has : HasRunTime t.p) (f w : ℕ) (frames_left : 0 < f) (words_left : 8 ≤ w) (sh : Shape) (typed output : List ℕ) (drawn : ℕ) (trail : List ℕ) (m : Mid) (start : ℕ → ℕ) (mid : MidIn t sh start trail m) (total : ℕ) (room : sh.top + total ≤ 10000) where
   abbrev now : List ℕ → State

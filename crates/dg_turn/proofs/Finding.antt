@@ -194,19 +194,13 @@ row_front c c' at k (suc n) zero le h = absurd (omega arith)
 row_front c c' at k (suc n) (suc m) le h = (h.0, row_front c c' (suc at) (suc k) n m (omega arith) h.1)
 
 module _ (t : Telling) (plays : Playing t) (output : List ℕ) (r : RuleCode) (rs : List RuleCode) (number : ℕ) (call : Call) (key found : ℕ) (m : Mid) (z : ZState) (i : RuleAt (λ n. RulesAt t (length call.args) n rs) t (length call.args) number r) (is_key : FirstIs (first_of m.state.subst call) key) (in_ : excluded (first_of m.state.subst call) r.key ≡ false) (l : LooksAt t output number call key found m z) where
-  abbrev rep : Represented t output (t.p.names.routine number) m z
-  rep = l.rep
-
-  abbrev n : ℕ
-  n = length call.args
-
-  abbrev c0 : ℕ → ℕ
-  c0 = replaced rep.cells 37 n
-
   -- A choice is opened.
-  opens : found ≢ 0 → m.gathered ≡ [] → call.cut.height ≡ m.state.heap → m.state.heap + (10 + n) ≤ 10000 → EntersAt t output found call (inside (CallsWay call (r ∷ rs)) n m) 50 z
+  opens : found ≢ 0 → m.gathered ≡ [] → call.cut.height ≡ m.state.heap → m.state.heap + (10 + length call.args) ≤ 10000 → EntersAt t output found call (inside (CallsWay call (r ∷ rs)) (length call.args) m) 50 z
   opens some none cut room =
       let p = t.p in
+      let rep = l.rep in
+      let n = length call.args in
+      let c0 = replaced rep.cells 37 n in
       let few = i.few in
       let top = rep.sh.top in
       let heap_is = rep.mid.state.heap in

@@ -6,8 +6,8 @@ use Rattle.dg_base.specs.declared.run.Ending.TheVariants.{TrailLimit}
 use Rattle.dg_meaning.specs.Values.{Value}
 use Rattle.dg_meaning.specs.Substitutions.{Substitution}
 use Rattle.dg_meaning.specs.Letters.{compared}
-use Rattle.dg_meaning.specs.Unify.{agreed, Unified, Equations, solve, counted, and_then}
-use Rattle.dg_meaning.specs.inside.Unify.{unify}
+use Rattle.dg_meaning.specs.Unify.{agreed, Unified, Equations, solve, counted}
+use Rattle.dg_meaning.specs.inside.Unify.{unify, and_then}
 use Rattle.dg_meaning.proofs.UnifyLaws.{solve_first, solve_nothing}
 use Rattle.dg_meaning.proofs.Solving.{solve_extends}
 use Rattle.dg_mid.specs.State.{Mid}
@@ -123,25 +123,25 @@ module _ (t : Telling) (has : HasRunTime t.p) (f w : ℕ) (frames_left : 3400 �
     pub runs : ActsRun t.p 3337 16685 MATCH_ACTS MATCH_ACTS (state memory (x ∷ y ∷ 0 ∷ 0 ∷ []) typed drawn output) (Stops AtQuit) (state memory' locals' typed drawn (output ++ closing (c 28) TrailLimit)) count
 
   module _ (memory : List ℕ) (c : ℕ → ℕ) (trail : List ℕ) (m : Mid) (h : Holds t.p.world.layout memory c) (mid : MidIn t sh c trail m) (none : c 13 ≡ 0) (x y : ℕ) (a b : Value) (sx : Shows sh x a) (sy : Shows sh y b) where
-    abbrev u : Unified
-    u = unify m.state.subst a b
+    abbrev answer : Unified
+    answer = unify m.state.subst a b
 
     abbrev most : ℕ
     most = price m.state.subst ((a, b) ∷ [])
 
     -- the routine, from this moment on
-    ends : MatchesOne (setting t has sh memory typed output drawn c trail m h mid) memory x y most u
+    ends : MatchesOne (setting t has sh memory typed output drawn c trail m h mid) memory x y most answer
     ends = match_works.matches (setting t has sh memory typed output drawn c trail m h mid) m.state.subst (moment t has sh memory typed output drawn c trail m h mid) x y a b sx sy none
 
-    one_by : MatchesOne (setting t has sh memory typed output drawn c trail m h mid) memory x y most u → trail_more m.state u ≤ 2000 → One memory x y c m u most
+    one_by : MatchesOne (setting t has sh memory typed output drawn c trail m h mid) memory x y most answer → trail_more m.state answer ≤ 2000 → One memory x y c m answer most
     one_by (agree k memory' locals' cells' count holds clash same few runs) fit =
-        let behind = mid_behind t has sh memory typed output drawn c trail m h mid u k.memory k.cells fit k.at in
+        let behind = mid_behind t has sh memory typed output drawn c trail m h mid answer k.memory k.cells fit k.at in
         record {
           memory' = memory';
           cells' = cells';
           trail' = k.at.trail;
           holds = holds;
-          mid = mid_same t sh k.cells cells' k.at.trail (bound u m) (λ j ne far. same j (λ (e : j ≡ 13). (let q : 302 < j = far (omega arith) in omega arith))) behind;
+          mid = mid_same t sh k.cells cells' k.at.trail (bound answer m) (λ j ne far. same j (λ (e : j ≡ 13). (let q : 302 < j = far (omega arith) in omega arith))) behind;
           clash = clash;
           others = λ j n1 n13 low. same j n13 ∙ k.at.others j n1 (λ le. (omega arith));
           locals' = locals';
@@ -150,19 +150,19 @@ module _ (t : Telling) (has : HasRunTime t.p) (f w : ℕ) (frames_left : 3400 �
           runs = runs;
         }
     one_by (limit_met memory' locals' count over few runs) fit =
-        let passes = pass_trail t has sh memory typed output drawn c trail m h mid u (solve_extends m.state.subst ((a, b) ∷ []) mid.state.stands.sound) over in
+        let passes = pass_trail t has sh memory typed output drawn c trail m h mid answer (solve_extends m.state.subst ((a, b) ∷ []) mid.state.stands.sound) over in
         absurd (omega arith)
 
-    full_by : MatchesOne (setting t has sh memory typed output drawn c trail m h mid) memory x y most u → 2000 < trail_more m.state u → OneFull memory x y c most
+    full_by : MatchesOne (setting t has sh memory typed output drawn c trail m h mid) memory x y most answer → 2000 < trail_more m.state answer → OneFull memory x y c most
     full_by (agree k memory' locals' cells' count holds clash same few runs) over =
-        let fit = fit_trail t has sh memory typed output drawn c trail m h mid u (solve_extends m.state.subst ((a, b) ∷ []) mid.state.stands.sound) k.room in
+        let fit = fit_trail t has sh memory typed output drawn c trail m h mid answer (solve_extends m.state.subst ((a, b) ∷ []) mid.state.stands.sound) k.room in
         absurd (omega arith)
     full_by (limit_met memory' locals' count over few runs) past = record { memory' = memory'; locals' = locals'; count = count; few = few; runs = runs }
 
-    pub one : trail_more m.state u ≤ 2000 → One memory x y c m u most
+    pub one : trail_more m.state answer ≤ 2000 → One memory x y c m answer most
     one fit = one_by ends fit
 
-    pub one_full : 2000 < trail_more m.state u → OneFull memory x y c most
+    pub one_full : 2000 < trail_more m.state answer → OneFull memory x y c most
     one_full over = full_by ends over
 
   no_more : (S : Substitution) (m : Mid) → m.state.subst ≡ S → trail_more m.state (agreed S) ≡ m.state.trail

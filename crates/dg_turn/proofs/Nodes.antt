@@ -54,7 +54,7 @@ Written program sh env c o other = Unit {0}
 -- as many as are captured
 pub count_is : (o : Option ClosureBody) → captured_count o ≡ length (captured_of o)
 count_is None = refl
-count_is (Some closure) = refl
+count_is (Some body) = refl
 
 pub written_same : (program : CoreProgram) (sh : Shape) (env : List Value) (c c' : ℕ → ℕ) (o : ℕ) (x : term.Term-F Term) → ((i : ℕ) → i < node_cells program x → c' (heap_at + (sh.top + o + i)) ≡ c (heap_at + (sh.top + o + i))) → Written program sh env c o x → Written program sh env c' o x
 written_same program sh env c c' o (term.Pair head tail) same w = (
@@ -128,6 +128,7 @@ module _ (t : Telling) (has : HasRunTime t.p) (f w : ℕ) (frames_left : 0 < f) 
       let vs = captured_of (slice_get t.program.closures place) in
       let n = count_is (slice_get t.program.closures place) in
       let r = closure t has f w frames_left words_left sh typed output drawn trail m start mid total room body rest o place vs memory c b (omega arith) is.0 is.1 is.2 in
+      let few = r.few in
       record {
         memory' = r.memory';
         cells' = r.cells';
@@ -135,7 +136,7 @@ module _ (t : Telling) (has : HasRunTime t.p) (f w : ℕ) (frames_left : 0 < f) 
         kept = kept_wider (sh.top + o) (3 + length vs + 5) (sh.top + o) (3 + captured_count (slice_get t.program.closures place) + 5) c r.cells' (omega arith) (omega arith) r.kept;
         written = r.written;
         count = r.count;
-        few = r.few;
+        few = omega arith;
         runs = r.runs;
       }
   node body rest o (term.Pair head tail) memory c b le is =

@@ -1,7 +1,8 @@
 -- A unification keeps what memory stands for.
 use Rattle.std.proofs.Common.{◌≡◌, ◌≢◌, ℕ, ◌+◌, ◌-◌, ◌<◌, ◌≤◌, List, [], ◌∷◌, ◌++◌, length, take, refl, sym, ap, ◌∙◌, subst, arith, length-append}
 use Rattle.std.specs.Prelude.{nat_lt, if◌then◌else◌}
-use Rattle.dg_meaning.specs.Substitutions.{Substitution, Extends}
+use Rattle.dg_meaning.specs.Substitutions.{Substitution}
+use Rattle.dg_meaning.specs.inside.Substitutions.{Extends}
 use Rattle.dg_meaning.specs.Unify.{Unified}
 use Rattle.dg_meaning.specs.Moves.{made_since}
 use Rattle.dg_unify.specs.Store as store
@@ -40,7 +41,7 @@ module _ (t : Telling) (has : HasRunTime t.p) (sh : Shape) (memory typed output 
   abbrev S : Substitution
   S = m.state.subst
 
-  at_first : IsAt t.p.world.layout sh m.state.since mid.hb S m.state.trail begun memory cells S
+  pub at_first : IsAt t.p.world.layout sh m.state.since mid.hb S m.state.trail begun memory cells S
   at_first = record {
     holds = holds;
     stands = mid.state.stands;

@@ -124,7 +124,7 @@ module _ (t : Telling) (has : HasRunTime t.p) (f w : ℕ) (frames_left : 0 < f) 
         small = small;
         count = suc r.count;
         few = omega arith;
-        runs = λ out s' k rest'. subst (ActsRun t.p f w body (word_act v o (term.Var n) ∷ rest) (now memory) out s') (sym (steps_are (suc r.count) k)) (calls {f' = 0} {w' = 0} {n = r.count} {n' = k} {xs = (n, 0, 0)} refl refl (var_at t.p has) (omega arith) (omega arith) r.runs put.put_is rest');
+        runs = λ out s' k rest'. subst (ActsRun t.p f w body (word_act v o (term.Var n) ∷ rest) (now memory) out s') (sym (steps_are (suc r.count) k)) (calls {f' = 0} {w' = 0} {n = r.count} {n' = k} {xs = (n, 0, 0)} {s2 = now (with_cell memory (v - 16) r.word)} refl refl (var_at t.p has) (omega arith) (omega arith) r.runs put.put_is rest');
       }
 
   -- ## One cell
