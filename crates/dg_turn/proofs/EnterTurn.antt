@@ -65,8 +65,8 @@ record HeadFull (t : Telling) (f w : ℕ) (body acts' : List Act) (memory typed 
   runs : ActsRun t.p f w body acts' (state memory [] typed drawn output) (Stops AtQuit) (state memory' locals' typed drawn (output ++ closing last TrailLimit)) count
 
 module _ (t : Telling) (has : HasRunTime t.p) (words : (k : ℕ) → t.p.names.routine k < 65536) (f w : ℕ) (some : 3400 ≤ f) (enough : 16700 ≤ w) (body : List Act) (memory typed output : List ℕ) (drawn behind : ℕ) (sh : Shape) (c : ℕ → ℕ) (trail : List ℕ) (m : Mid) (xs : List Value) (head : List Term) (h : Holds t.p.world.layout memory c) (mid : MidIn t sh c trail m) (clash : c 13 ≡ 0) (args_are : InRegisters sh c 16 xs) (fits : length xs ≡ length head) (short : length head ≤ 12) (nodes : AreNodes t.program (nodes_of head)) (room : m.state.heap + cells_of t.program head ≤ 10000) where
-  abbrev n : ℕ
-  n = cells_of t.program head
+  abbrev taken : ℕ
+  taken = cells_of t.program head
 
   abbrev values : List Value
   values = map (value_of t.program (vars_of m.frames)) head
@@ -80,18 +80,18 @@ module _ (t : Telling) (has : HasRunTime t.p) (words : (k : ℕ) → t.p.names.r
   abbrev rest2 : List Act
   rest2 = match_acts 32 64 (length head) ++ last_acts behind
 
-  abbrev written : Wrote t f w body rest2 (head_acts t.program head behind) sh memory typed output drawn c trail m n 64 values (written_in t.program head + 6)
+  abbrev written : Wrote t f w body rest2 (head_acts t.program head behind) sh memory typed output drawn c trail m taken 64 values (written_in t.program head + 6)
   written = writes_terms t has f w sh memory typed output drawn c trail m h mid body (omega arith) (omega arith) rest2 64 head (omega arith) (omega arith) nodes room
 
-  matching : Goes t f w body (last_acts behind) rest2 written.sh' written.memory' typed output drawn written.cells' (more n m) u (price m.state.subst (zip xs values) + 6 * length head)
+  matching : Goes t f w body (last_acts behind) rest2 written.sh' written.memory' typed output drawn written.cells' (more taken m) u (price m.state.subst (zip xs values) + 6 * length head)
   matching =
       let w1 = written in
       let size = length_map t.program (vars_of m.frames) head in
-      let args_there = regs_stay sh w1.sh' c w1.cells' w1.grown 16 xs (λ j low lt. w1.others j (λ e. (omega arith)) (λ e. (omega arith)) (λ e. (omega arith)) (omega arith)) args_are in
-      let clash' : w1.cells' 13 ≡ 0 = w1.others 13 (λ e. (omega arith)) (λ e. (omega arith)) (λ e. (omega arith)) (omega arith) ∙ clash in
-      matches t has f w some enough w1.sh' typed output drawn body (last_acts behind) (length head) 32 64 w1.memory' w1.cells' trail (more n m) xs values fits size w1.holds w1.mid clash' (omega arith) (omega arith) (omega arith) (omega arith) args_there (regs_of w1.sh' w1.cells' 48 values w1.words)
+      let args_there = regs_stay sh w1.sh' c w1.cells' w1.grown 16 xs (λ j low lt. w1.others j (λ e. (omega arith)) (λ e. (omega arith)) (λ e. (omega arith)) (λ q. (omega arith)) (omega arith)) args_are in
+      let clash' : w1.cells' 13 ≡ 0 = w1.others 13 (λ e. (omega arith)) (λ e. (omega arith)) (λ e. (omega arith)) (λ q. (omega arith)) (omega arith) ∙ clash in
+      matches t has f w some enough w1.sh' typed output drawn body (last_acts behind) (length head) 32 64 w1.memory' w1.cells' trail (more taken m) xs values fits size w1.holds w1.mid clash' (omega arith) (omega arith) (omega arith) (omega arith) args_there (regs_of w1.sh' w1.cells' 48 values w1.words)
 
-  heads : trail_more m.state u ≤ 2000 → Headed t f w body (head_acts t.program head behind) memory typed output drawn (agreed_next t.p behind u.agrees) (bound u (more n m)) most
+  heads : trail_more m.state u ≤ 2000 → Headed t f w body (head_acts t.program head behind) memory typed output drawn (agreed_next t.p behind u.agrees) (bound u (more taken m)) most
   heads few =
       let w1 = written in
       let k = matching.matched few in
@@ -106,7 +106,7 @@ module _ (t : Telling) (has : HasRunTime t.p) (words : (k : ℕ) → t.p.names.r
         sh' = w1.sh';
         trail' = k.trail';
         holds = last.holds;
-        mid = mid_same t w1.sh' k.cells' last.cells' k.trail' (bound u (more n m)) (λ j ne far. last.others j (λ (e : j ≡ 36). (let q : 302 < j = far (omega arith) in omega arith))) k.mid;
+        mid = mid_same t w1.sh' k.cells' last.cells' k.trail' (bound u (more taken m)) (λ j ne far. last.others j (λ (e : j ≡ 36). (let q : 302 < j = far (omega arith) in omega arith))) k.mid;
         count = steps w1.count (steps k.count 4);
         few = omega arith;
         runs = w1.runs (Returns (agreed_next t.p behind u.agrees)) (state last.memory' [] typed drawn output) (steps k.count 4) (k.runs (Returns (agreed_next t.p behind u.agrees)) (state last.memory' [] typed drawn output) 4 last.runs);
@@ -119,7 +119,7 @@ module _ (t : Telling) (has : HasRunTime t.p) (words : (k : ℕ) → t.p.names.r
       let few2 = w1.few in
       let few3 = k.few in
       let e1 = steps_are w1.count k.count in
-      let last : w1.cells' 28 ≡ c 28 = w1.others 28 (λ e. (omega arith)) (λ e. (omega arith)) (λ e. (omega arith)) (omega arith) in
+      let last : w1.cells' 28 ≡ c 28 = w1.others 28 (λ e. (omega arith)) (λ e. (omega arith)) (λ e. (omega arith)) (λ q. (omega arith)) (omega arith) in
       record {
         memory' = k.memory';
         locals' = k.locals';

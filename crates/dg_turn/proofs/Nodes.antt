@@ -241,15 +241,15 @@ module _ (t : Telling) (has : HasRunTime t.p) (f w : ℕ) (frames_left : 0 < f) 
 
   -- ## Their words
 
-  -- Words that differ in registers from one on alone.
-  abbrev pub Before : (ℕ → ℕ) → (ℕ → ℕ) → ℕ → Type 0
-  Before c c' v = (k : ℕ) → (v ≤ k + 16 → 302 < k) → c' k ≡ c k
+  -- Words that differ in so many registers from one on alone.
+  abbrev pub Before : (ℕ → ℕ) → (ℕ → ℕ) → ℕ → ℕ → Type 0
+  Before c c' v n = (k : ℕ) → (v ≤ k + 16 → v + n ≤ k + 16) → c' k ≡ c k
 
   pub record Words (body rest : List Act) (v o : ℕ) (xs : List Term) (memory : List ℕ) (c : ℕ → ℕ) : Type 0 where
     pub memory' : List ℕ
     pub cells' : ℕ → ℕ
     pub begun : Here memory' cells'
-    pub before : Before c cells' v
+    pub before : Before c cells' v (length xs)
     pub are : AreWords t.program sh env cells' (v - 16) o xs
     pub count : ℕ
     pub few : count ≤ 16 * length xs
@@ -278,7 +278,7 @@ module _ (t : Telling) (has : HasRunTime t.p) (f w : ℕ) (frames_left : 0 < f) 
         memory' = others.memory';
         cells' = others.cells';
         begun = others.begun;
-        before = λ k far. others.before k (λ q. far (omega arith)) ∙ other_cell c (v - 16) first.word k (λ (e : k ≡ v - 16). (let q : 302 < k = far (omega arith) in omega arith));
+        before = λ k far. others.before k (λ q. (let y : v + suc (length xs) ≤ k + 16 = far (omega arith) in omega arith)) ∙ other_cell c (v - 16) first.word k (λ (e : k ≡ v - 16). (let q : v + suc (length xs) ≤ k + 16 = far (omega arith) in omega arith));
         are = (subst (λ (y : ℕ). WordOf t.program sh env o y (out-Term x)) (sym here) first.is, subst (λ (k : ℕ). AreWords t.program sh env others.cells' k o' xs) next others.are);
         count = first.count + others.count;
         few = omega arith;

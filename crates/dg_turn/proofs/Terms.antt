@@ -27,7 +27,7 @@ use Rattle.dg_turn.specs.Lies.{StateIn, MidIn}
 use Rattle.dg_turn.specs.Terms.{capped, charge_acts, laying_acts, terms_acts, nodes_acts, words_acts, IsTerm, IsNode, AreNodes, written_in, Wrote, Meets, TermsWork}
 use Rattle.dg_turn.proofs.Standing.{charge_at}
 use Rattle.dg_turn.proofs.Kept.{Beyond}
-use Rattle.dg_turn.proofs.Rows.{words_in}
+use Rattle.dg_turn.proofs.Rows.{words_in, length_map}
 use Rattle.dg_turn.proofs.Making.{made, made_grown, made_shape, made_stands, made_low, made_known, block_cell}
 use Rattle.dg_turn.proofs.Boxing.{AreNew, with_boxes, new_box, boxes_grown, boxes_shape, boxes_stand}
 use Rattle.dg_turn.proofs.Nodes.{size, Written, AreTerms, written_same, nodes, words}
@@ -221,6 +221,7 @@ module _ (t : Telling) (has : HasRunTime t.p) (f w : ℕ) (sh : Shape) (memory t
       let lies = all_both program (λ i x. Here i x × Boxed i x) (λ i x. Is i x × Fit i x) 0 xs (all_both program Here Boxed 0 xs written boxed) (all_both program Is Fit 0 xs (all_nodes program 0 xs are) (all_fit program total 0 xs (omega arith))) in
       let shown = all_shown program sh s2 g s.told env new total (omega arith) cell_at (v - 16) 0 ts lies w1.are in
       let many = pairs_of_all ts in
+      let as_many = length_map program env ts in
       let few0 = t0.few in
       let few1 = n1.few in
       let few2 = w1.few in
@@ -232,7 +233,7 @@ module _ (t : Telling) (has : HasRunTime t.p) (f w : ℕ) (sh : Shape) (memory t
         grown = g;
         mid = mid_grown t sh s2 c new trail m (more total m).state g none_new refl refl three beyond state_in mid;
         words = words_in s2 new (v - 16) (map (value_of program env) ts) shown;
-        others = λ k n3 n14 n36 low. w1.before k (λ q. (omega arith)) ∙ n1.kept k n36 (λ q. (omega arith)) ∙ t0.others k n3 n14;
+        others = λ k n3 n14 n36 far low. w1.before k (λ q. (let y : v + length (map (value_of program env) ts) ≤ k + 16 = far q in omega arith)) ∙ n1.kept k n36 (λ q. (omega arith)) ∙ t0.others k n3 n14;
         count = t0.count + (n1.count + w1.count);
         few = omega arith;
         runs = λ o s' k r.

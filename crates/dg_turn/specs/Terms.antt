@@ -25,7 +25,7 @@ use Rattle.dg_rt.specs.declared.numbers.TheConstants.{CHARGE, VAR, CAPTURE}
 use Rattle.dg_rt.specs.declared.registers.TheConstants.{TERM, WORD}
 use Rattle.dg_rt.specs.inside.Walks.{steps}
 use Rattle.dg_rt.specs.Cells.{Holds}
-use Rattle.dg_rt.specs.Areas.{heap_reg, term_reg, last_reg, word_reg, state}
+use Rattle.dg_rt.specs.Areas.{heap_at, heap_reg, term_reg, last_reg, word_reg, state}
 use Rattle.dg_rt.specs.Shapes.{Shape}
 use Rattle.dg_rt.specs.Back.{Grown}
 use Rattle.dg_rt.specs.RunTime.{HasRunTime}
@@ -182,7 +182,7 @@ pub record Wrote (t : Telling) (f w : ℕ) (body rest all : List Act) (sh : Shap
   pub grown : Grown sh sh'
   pub mid : MidIn t sh' cells' trail (more n m)
   pub words : WordsIn sh' (registers cells' (v - 16) (length vs)) vs
-  pub others : (k : ℕ) → k ≢ heap_reg → k ≢ term_reg → k ≢ word_reg → k + 16 < v → cells' k ≡ cells k
+  pub others : (k : ℕ) → k ≢ heap_reg → k ≢ term_reg → k ≢ word_reg → (v ≤ k + 16 → v + length vs ≤ k + 16) → k < heap_at → cells' k ≡ cells k
   pub count : ℕ
   pub few : count ≤ most
   pub runs : (o : ActsOutcome) (s' : State) (k : ℕ) → ActsRun t.p f w body rest (state memory' [] typed drawn output) o s' k →

@@ -1,0 +1,149 @@
+-- A failure goes back to a choice of further rules, or ends the run: one turn of the story.
+use Rattle.std.proofs.Common.{◌≡◌, ◌≢◌, ℕ, zero, suc, ◌+◌, ◌-◌, ◌*◌, ◌<◌, ◌≤◌, List, [], ◌∷◌, ◌++◌, length, refl, sym, ap, ◌∙◌, subst, arith, length-append}
+use Rattle.dg_base.specs.declared.run.Ending.TheVariants.{Failed}
+use Rattle.dg_mid.specs.declared.code.RuleCode.{RuleCode}
+use Rattle.dg_mid.specs.State.{Call, Choice, Mid}
+use Rattle.dg_mid.specs.Step.{first_of, back_at}
+use Rattle.dg_mid.specs.Units.{undone}
+use Rattle.dg_mid.specs.Heights.{ChoicesNamed}
+use Rattle.z_model.specs.Run.{ZState}
+use Rattle.z_lang.specs.Runs.{ActsRun, Returns}
+use Rattle.dg_rt.specs.declared.numbers.TheConstants.{FAIL, FAILED}
+use Rattle.dg_rt.specs.declared.choices.TheConstants.{FAIL_ACTS}
+use Rattle.dg_rt.specs.declared.closings.TheConstants.{FAILED_ACTS}
+use Rattle.dg_rt.specs.Areas.{heap_at, trail_at, state}
+use Rattle.dg_rt.specs.Shapes.{Shape, Cell}
+use Rattle.dg_rt.specs.Back.{OnTrail, at_place}
+use Rattle.dg_rt.specs.RunTime.{routine_of}
+use Rattle.dg_rt.specs.Closings.{closing_most}
+use Rattle.dg_rt.specs.Choices.{GoesBack}
+use Rattle.dg_rt.proofs.Failing.{fail_works}
+use Rattle.dg_rt.proofs.Closing.{closings_work}
+use Rattle.dg_turn.specs.Told.{Telling}
+use Rattle.dg_turn.specs.Lies.{CellsAre, CallsIn, WayIn, ChoicesIn, MidIn}
+use Rattle.dg_turn.specs.Plays.{Playing, Represented, registers, CallAt, Closes}
+use Rattle.dg_turn.specs.Queries.{GoneBack, FailTurns, FailEnds}
+use Rattle.dg_turn.proofs.Standing.{fail_at, failed_at}
+use Rattle.dg_turn.proofs.Rows.{words_length, registers_same}
+use Rattle.dg_turn.proofs.Returning.{goes_back_in}
+use Rattle.dg_turn.proofs.Moving.{moved, closes, closes_then}
+
+-- arguments that are put back
+args_back : (sh : Shape) (c c' : ℕ → ℕ) → ((k y : ℕ) → Cell sh k y → c (heap_at + k) ≡ y) → (v at : ℕ) (xs : List ℕ) → ((i : ℕ) → i < length xs → c' (v + i) ≡ c (heap_at + (at + i))) → CellsAre sh at xs → registers c' v (length xs) ≡ xs
+args_back sh c c' word v at [] same cells = refl
+args_back sh c c' word v at (x ∷ xs) same cells =
+    let v0 : v + 0 ≡ v = omega arith in
+    let at0 : at + 0 ≡ at = omega arith in
+    let here : c' v ≡ x = ap c' (sym v0) ∙ same 0 (omega arith) ∙ ap (λ (i : ℕ). c (heap_at + i)) at0 ∙ word at x cells.0 in
+    let rest = args_back sh c c' word (suc v) (suc at) xs (λ i lt. (let a : suc v + i ≡ v + suc i = omega arith in let b : at + suc i ≡ suc at + i = omega arith in ap c' a ∙ same (suc i) (omega arith) ∙ ap (λ (j : ℕ). c (heap_at + j)) b)) cells.1 in
+    ap (λ (y : ℕ). y ∷ registers c' (suc v) (length xs)) here ∙ ap (λ (l : List ℕ). x ∷ l) rest
+
+module _ (t : Telling) (plays : Playing t) (output : List ℕ) (m : Mid) (x : Choice) (xs : List Choice) (call : Call) (rules : List RuleCode) (z : ZState)
+    (named : x.state.heap ≡ x.place.height) (few : length call.args ≤ 12) (r : Represented t output (t.p.names.routine FAIL) m z) (h : ChoicesIn t r.sh r.cells r.trail (r.cells 5) (x ∷ xs)) (w : CallsIn t h.saved.sh h.routine h.args h.next (at_place x.place.height) h.many h.key x.state.subst call rules) where
+  abbrev at : ℕ
+  at = x.place.height
+
+  cell_word : (k y : ℕ) → Cell r.sh k y → r.cells (heap_at + k) ≡ y
+  cell_word k y cell = let low = cell.fixed.0 in let top = r.mid.state.heap in let fits = r.mid.state.few in r.mid.state.stands.fixed k (omega arith) cell.fixed ∙ cell.is
+
+  field : (i k y : ℕ) → k ≡ at + i → Cell r.sh k y → r.cells (heap_at + (at + i)) ≡ y
+  field i k y e cell = ap (λ (j : ℕ). r.cells (heap_at + j)) (sym e) ∙ cell_word k y cell
+
+  gone : GoesBack t.p 3500 19000 r.memory r.typed output r.drawn at r.cells h.saved.trail h.back.newer
+  gone =
+      let s = r.mid.state in
+      let top = s.heap in
+      let few_cells = s.few in
+      let last = h.cells_are.1.1.1.1.1.1.1.1.1.0 in
+      let low = last.fixed.0 in
+      let on = subst (OnTrail r.cells) h.back.trail_is r.mid.on_trail in
+      let all : r.cells 1 ≡ length (h.back.newer ++ h.saved.trail) = r.mid.height ∙ sym s.trail_len ∙ ap length h.back.trail_is in
+      let few_trail = s.few_trail in
+      let height = r.mid.height in
+      fail_works.goes t.p plays.has 3500 19000 (omega arith) (omega arith) r.memory r.typed output r.drawn at r.cells h.saved.trail h.back.newer r.holds h.word_is (omega arith)
+      (field 5 (suc (suc (suc (suc (suc at))))) x.state.trail (omega arith) h.cells_are.1.1.1.1.1.0 ∙ sym h.state.trail_len) all (omega arith) on
+
+  -- memory stands for the machine there
+  mid_there : MidIn t h.saved.sh gone.cells' h.saved.trail (back_at x xs m)
+  mid_there =
+      let cs = h.cells_are in
+      let s = h.state in
+      let top = r.mid.state.heap in
+      let few_cells = r.mid.state.few in
+      let grown = h.back.grown.top in
+      let heap = s.heap in
+      let low = h.back.trail_is in
+      let total = ap length low in
+      let long = length-append h.back.newer h.saved.trail in
+      let trail_few = r.mid.state.few_trail in
+      let trail_is = r.mid.state.trail_len in
+      goes_back_in t r.sh r.cells gone.cells' r.trail m x xs r.mid h (λ k lt. gone.words k (omega arith)) (λ i lt. gone.others (trail_at + i) (omega arith))
+      (gone.heap ∙ sym named) (gone.trail ∙ s.trail_len) (gone.mark ∙ (let e : at ≡ h.saved.sh.top = omega arith in ap at_place e))
+      (gone.frame ∙ field 2 (suc (suc at)) h.e (omega arith) cs.1.1.0) (gone.choice ∙ field 0 at h.behind (omega arith) cs.0) (gone.inner ∙ field 3 (suc (suc (suc at))) h.l (omega arith) cs.1.1.1.0)
+
+  -- the call in registers
+  call_there : (c' : ℕ → ℕ) → ((k : ℕ) → k ≢ 0 → c' k ≡ gone.cells' k) → CallAt t h.saved.sh c' call
+  call_there c' same =
+      let cs = h.cells_are in
+      let i = w.call_is in
+      let size : length h.args ≡ length call.args = words_length h.saved.sh h.args call.args i.args_are in
+      let ten : suc (suc (suc (suc (suc (suc (suc (suc (suc (suc at))))))))) ≡ at + 10 = omega arith in
+      let row = subst (λ (k : ℕ). CellsAre r.sh k h.args) ten cs.1.1.1.1.1.1.1.1.1.1 in
+      let words : registers gone.cells' 16 (length h.args) ≡ h.args = args_back r.sh r.cells gone.cells' cell_word 16 (at + 10) h.args (λ j lt. gone.args j (omega arith) ∙ (let q : at + (10 + j) ≡ at + 10 + j = omega arith in ap (λ (k : ℕ). r.cells (heap_at + k)) q)) row in
+      let there : registers c' 16 (length call.args) ≡ h.args = registers_same gone.cells' c' 16 (length call.args) (λ j low lt. same j (λ e. (omega arith))) ∙ ap (λ (n : ℕ). registers gone.cells' 16 n) (sym size) ∙ words in
+      let back : c' 8 ≡ h.next = same 8 (λ e. (omega arith)) ∙ gone.back ∙ field 7 (suc (suc (suc (suc (suc (suc (suc at))))))) h.next (omega arith) cs.1.1.1.1.1.1.1.0 in
+      let cut : c' 9 ≡ at_place at = same 9 (λ e. (omega arith)) ∙ gone.cut in
+      let many : c' 10 ≡ h.many = same 10 (λ e. (omega arith)) ∙ gone.many ∙ field 8 (suc (suc (suc (suc (suc (suc (suc (suc at)))))))) h.many (omega arith) cs.1.1.1.1.1.1.1.1.0 in
+      rw (there, back, cut, many) i
+
+  turn : GoneBack t output rules call (first_of x.state.subst call) (r.cells 28) (back_at x xs m) (6 * (m.state.trail - x.state.trail) + 34) z
+  turn =
+      let y = t.p.names.routine w.number in
+      let cs = h.cells_are in
+      let to : r.cells (heap_at + (at + 1)) ≡ y = field 1 (suc at) h.routine (omega arith) cs.1.0 ∙ w.routine_is in
+      let runs = subst (λ (i : ℕ). ActsRun t.p 3500 19000 FAIL_ACTS FAIL_ACTS (state r.memory (0 ∷ 0 ∷ 0 ∷ 0 ∷ []) r.typed r.drawn output) (Returns i) (state gone.memory' gone.locals' r.typed r.drawn output) gone.count) to gone.runs in
+      let go = moved t plays output (t.p.names.routine FAIL) m z r (routine_of 4 FAIL_ACTS) (fail_at t.p plays.has) (omega arith) y gone.count gone.memory' gone.locals' gone.cells' h.saved.sh h.saved.trail (back_at x xs m) runs gone.holds (plays.words w.number) mid_there in
+      let few' = gone.few in
+      let total = ap length h.back.trail_is in
+      let long = length-append h.back.newer h.saved.trail in
+      let trail_is = r.mid.state.trail_len in
+      let left_is = h.state.trail_len in
+      record {
+        number = w.number;
+        rules_are = w.rules_are;
+        key = h.key;
+        key_is = w.key_is;
+        cut = let q = w.call_is.cut_is in omega (arith, named);
+        there = go.there;
+        count = gone.count + 2;
+        few = omega arith;
+        leads = go.leads;
+        looks = record {
+          rep = go.rep;
+          call_is = subst (λ (s : Shape). CallAt t s go.rep.cells call) (sym go.shape_is) (call_there go.rep.cells go.cells_are);
+          key_is = go.cells_are 11 (λ e. (omega arith)) ∙ gone.key ∙ field 9 (suc (suc (suc (suc (suc (suc (suc (suc (suc at))))))))) h.key (omega arith) cs.1.1.1.1.1.1.1.1.1.0;
+          found_is = go.cells_are 12 (λ e. (omega arith)) ∙ gone.begin;
+        };
+        last_is = go.cells_are 28 (λ e. (omega arith)) ∙ last_there;
+      }
+
+pub fail_turns : FailTurns
+fail_turns t plays output m x xs call rules z e way ordered few r =
+    let h : ChoicesIn t r.sh r.cells r.trail (r.cells 5) (x ∷ xs) = subst (ChoicesIn t r.sh r.cells r.trail (r.cells 5)) e r.mid.choices in
+    let names : ChoicesNamed m.next_tag m.state.heap (x ∷ xs) = subst (ChoicesNamed m.next_tag m.state.heap) e ordered in
+    let w : CallsIn t h.saved.sh h.routine h.args h.next (at_place x.place.height) h.many h.key x.state.subst call rules = subst (WayIn t h.saved.sh h.routine h.args h.next (at_place x.place.height) h.many h.key x.state.subst) way h.way in
+    let back : m.state.trail - x.state.trail ≡ undone m.choices m = sym (ap (λ (l : List Choice). undone l m) e) in
+    subst (λ (n : ℕ). GoneBack t output rules call (first_of x.state.subst call) (r.cells 28) (back_at x xs m) (6 * n + 34) z) back (turn t plays output m x xs call rules z names.2 few r h w)
+
+-- ## Without a choice
+
+pub fail_ends : FailEnds
+fail_ends t plays output m z none r =
+    let p = t.p in
+    let empty : r.cells 5 ≡ 0 = subst (ChoicesIn t r.sh r.cells r.trail (r.cells 5)) none r.mid.choices in
+    let runs = fail_works.has_none p plays.has.mapped 3500 19000 r.memory r.typed output r.drawn r.cells r.holds empty in
+    let go = moved t plays output (p.names.routine FAIL) m z r (routine_of 4 FAIL_ACTS) (fail_at p plays.has) (omega arith) (p.names.routine FAILED) 2 r.memory (0 ∷ 0 ∷ 0 ∷ 0 ∷ []) r.cells r.sh r.trail m runs r.holds (plays.words FAILED) r.mid in
+    let k = closings_work.failed p plays.has go.rep.memory go.rep.typed output go.rep.drawn go.rep.cells go.rep.holds in
+    let few = k.few in
+    let over = closes t plays output (p.names.routine FAILED) m go.there go.rep (routine_of 0 FAILED_ACTS) (failed_at p plays.has) (omega arith) k.count 25 (go.rep.cells 28) Failed go.rep.memory [] (wider k.runs) (omega arith) in
+    closes_then t output (go.rep.cells 28) (r.cells 28) Failed 4 4 25 30 z go.there (go.cells_are 28 (λ e. (omega arith))) (omega arith) (omega arith) go.leads over
