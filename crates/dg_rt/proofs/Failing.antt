@@ -21,7 +21,7 @@ use Rattle.dg_rt.proofs.Following.{word, tested, computes, copies, register, put
 use Rattle.dg_rt.proofs.Locals.{get_1, get_2, get_3, set_1, set_2, set_3, subtracts}
 use Rattle.dg_rt.proofs.Standing.{undo_at}
 use Rattle.dg_rt.proofs.Unwinding.{undo_works}
-use Rattle.dg_rt.proofs.Loading.{Ascend, AreLoaded, loaded_same, loads}
+use Rattle.dg_rt.proofs.Loading.{Ascend, AreLoaded, Avoids, loaded_same, loads}
 
 pub in_heap : (cells : ℕ → ℕ) (xs ys : List ℕ) → OnTrail cells (xs ++ ys) → InHeap xs
 in_heap cells [] ys h = tt
@@ -79,6 +79,17 @@ loaded_before : (at : ℕ) (xs : List (ℕ × ℕ)) (c c' c2 : ℕ → ℕ) (v :
 loaded_before at [] c c' c2 v some same low h = tt
 loaded_before at (x ∷ xs) c c' c2 v some same low h = (let a = low.0 in same (x.0 - 16) (omega arith) ∙ h.0, loaded_before at xs c c' c2 v some same low.1 h.1)
 
+-- what comes behind a row is none of it
+avoids_row : (k v i n : ℕ) → 16 ≤ v → v + n ≤ k + 16 → Avoids k (in_a_row v i n)
+avoids_row k v i zero le behind = tt
+avoids_row k v i (suc n) le behind = (λ (e : k ≡ v - 16). (omega arith), avoids_row k (suc v) (suc i) n (omega arith) (omega arith))
+
+avoids_first : (k : ℕ) → 27 < k → Avoids k put_first
+avoids_first k far = (λ e. (omega arith), (λ e. (omega arith), (λ e. (omega arith), (λ e. (omega arith), (λ e. (omega arith), tt)))))
+
+avoids_two : (k : ℕ) → 27 < k → Avoids k put_two
+avoids_two k far = (λ e. (omega arith), (λ e. (omega arith), tt))
+
 -- what is loaded in a row, by its number
 row_at : (c c' : ℕ → ℕ) (at v i n : ℕ) → 16 ≤ v → AreLoaded c c' at (in_a_row v i n) → (j : ℕ) → j < n → c' (v - 16 + j) ≡ c (heap_at + (at + (i + j)))
 row_at c c' at v i zero le h j lt = absurd (omega arith)
@@ -119,6 +130,7 @@ module _ (p : Program) (has : HasRunTime p) (f w : ℕ) (some : 0 < f) (enough :
     twelve : cells' 12 ≡ 0
     one : cells' 1 ≡ c 1
     far : (k : ℕ) → 302 < k → cells' k ≡ c k
+    behind : (k : ℕ) → 27 < k → cells' k ≡ c k
     runs : (s' : State) (n : ℕ) → Runs p f w FAIL_ACTS (drop 27 FAIL_ACTS) (st memory' (at_place at) left routine) (Returns routine) s' n → Runs p f w FAIL_ACTS FAIL_ACTS (st memory 0 0 0) (Returns routine) s' (steps 27 n)
 
   restored : Restored
@@ -162,6 +174,9 @@ module _ (p : Program) (has : HasRunTime p) (f w : ℕ) (some : 0 < f) (enough :
         twelve = r3.others 12 (λ q. (omega arith)) ∙ same_cell r2.cells' 12 0;
         one = early 1 (omega arith) ∙ r1.others 1 (λ q. (omega arith)) ∙ other_cell c1 3 at 1 (λ e. (omega arith)) ∙ other_cell c 2 v 1 (λ e. (omega arith));
         far = λ k q. r3.others k (λ q'. q) ∙ far5 k q;
+        behind = λ k q.
+            r3.kept k (avoids_row k 32 10 12 (omega arith) (omega arith)) ∙ other_cell r2.cells' 12 0 k (λ e. (omega arith)) ∙ r2.kept k (avoids_two k q) ∙ other_cell r1.cells' 9 v k (λ e. (omega arith)) ∙ r1.kept k (avoids_first k q)
+            ∙ other_cell c1 3 at k (λ e. (omega arith)) ∙ other_cell c 2 v k (λ e. (omega arith));
         runs = λ s' n r'.
             passed (tested p (st memory 0 0 0) comparisons.Equal (atoms.Var 21) (atoms.Num 0) true v 0 false (choice_is 0 0 0) refl (ne_eqb v 0 (λ (z : v ≡ 0). (omega arith))))
             (done (copies p (st memory 0 0 0) (st memory v 0 0) 1 (atoms.Var 21) v (choice_is 0 0 0) (set_1 p memory 0 0 0 0 v typed drawn output))
@@ -191,6 +206,7 @@ module _ (p : Program) (has : HasRunTime p) (f w : ℕ) (some : 0 < f) (enough :
     gather : cells' 29 ≡ c (heap_at + (at + 6))
     one : cells' 1 ≡ c 1
     far : (k : ℕ) → 302 < k → cells' k ≡ c k
+    behind : (k : ℕ) → 27 < k → k ≢ 29 → cells' k ≡ c k
     runs : (s' : State) (n : ℕ) → Runs p f w FAIL_ACTS (drop 28 FAIL_ACTS) (st memory' (at_place at) left routine) (Returns routine) s' n → Runs p f w FAIL_ACTS FAIL_ACTS (st memory 0 0 0) (Returns routine) s' (steps 27 (suc n))
 
   completes : (a : Restored) → Complete
@@ -213,6 +229,7 @@ module _ (p : Program) (has : HasRunTime p) (f w : ℕ) (some : 0 < f) (enough :
         gather = are.0 ∙ a.far (heap_at + (at + 6)) (omega arith);
         one = same 1 (omega arith) ∙ a.one;
         far = λ k q. r.others k (λ q'. q) ∙ a.far k q;
+        behind = λ k q away. r.kept k (λ e. away e, tt) ∙ a.behind k q;
         runs = λ s' n r'. a.runs s' (suc n) (r.runs (Returns routine) s' n r');
       }
 
@@ -249,6 +266,7 @@ module _ (p : Program) (has : HasRunTime p) (f w : ℕ) (some : 0 < f) (enough :
         args = λ i lt. low (args_reg + i) (λ e. (omega arith)) (omega arith) ∙ row_at c a.cells' at 32 10 12 (omega arith) a.args i lt;
         words = λ k lt. u.words k lt ∙ undone_same newer c a.cells' (heap_at + k) (a.far (heap_at + k) (omega arith));
         others = λ k far. u.others k (λ e. (omega arith)) (λ le. far) ∙ a.far k (omega arith);
+        rest = λ k low lt away. u.others k (λ e. (omega arith)) (λ le. (omega arith)) ∙ a.behind k (omega arith) away;
         count = 29 + (u.count + 1);
         few = omega arith;
         runs = subst (Runs p f w FAIL_ACTS FAIL_ACTS (st memory 0 0 0) (Returns routine) s') (let z : steps 27 (suc (suc u.count + 1)) ≡ 29 + (u.count + 1) = omega arith in z)

@@ -123,7 +123,7 @@ CommitWorks = (p : Program) → HasRunTime p → (f w : ℕ) → 1 ≤ f → 1 �
 -- ## Going back
 
 -- The newest choice was gone back to, in 6 instructions for each binding that was undone and 32: what it keeps is in the registers, the twelve cells
--- behind it are arguments, and the variables at these places, the newest on the trail, are unbound.
+-- behind it are arguments, and the variables at these places, the newest on the trail, are unbound. The other registers behind the arguments stay.
 pub record GoesBack (p : Program) (f w : ℕ) (memory typed output : List ℕ) (drawn at : ℕ) (cells : ℕ → ℕ) (old newer : List ℕ) : Type 0 where
   pub memory' : List ℕ
   pub cells' : ℕ → ℕ
@@ -145,6 +145,7 @@ pub record GoesBack (p : Program) (f w : ℕ) (memory typed output : List ℕ) (
   pub args : (i : ℕ) → i < 12 → cells' (args_reg + i) ≡ cells (heap_at + (at + (10 + i)))
   pub words : (k : ℕ) → k < 10000 → cells' (heap_at + k) ≡ undone newer cells (heap_at + k)
   pub others : (k : ℕ) → trail_at ≤ k → cells' k ≡ cells k
+  pub rest : (k : ℕ) → args_reg + 12 ≤ k → k < heap_at → k ≢ gather_reg → cells' k ≡ cells k
   pub count : ℕ
   pub few : count ≤ 6 * length newer + 32
   pub runs : Runs p f w FAIL_ACTS FAIL_ACTS (state memory (0 ∷ 0 ∷ 0 ∷ 0 ∷ []) typed drawn output) (Returns (cells (heap_at + (at + 1))))
