@@ -26,7 +26,7 @@ use Rattle.dg_turn.specs.Queries.{GoneBack, FailTurns, FailEnds}
 use Rattle.dg_turn.proofs.Standing.{fail_at, failed_at}
 use Rattle.dg_turn.proofs.Rows.{words_length, registers_same}
 use Rattle.dg_turn.proofs.Returning.{goes_back_in}
-use Rattle.dg_turn.proofs.Moving.{moved, closes, closes_then}
+use Rattle.dg_turn.proofs.Moving.{moved, closes_within, closes_then}
 
 -- arguments that are put back
 args_back : (sh : Shape) (c c' : ℕ → ℕ) → ((k y : ℕ) → Cell sh k y → c (heap_at + k) ≡ y) → (v at : ℕ) (xs : List ℕ) → ((i : ℕ) → i < length xs → c' (v + i) ≡ c (heap_at + (at + i))) → CellsAre sh at xs → registers c' v (length xs) ≡ xs
@@ -124,7 +124,7 @@ module _ (t : Telling) (plays : Playing t) (output : List ℕ) (m : Mid) (x : Ch
           key_is = go.cells_are 11 (λ e. (omega arith)) ∙ gone.key ∙ field 9 (suc (suc (suc (suc (suc (suc (suc (suc (suc at))))))))) h.key (omega arith) cs.1.1.1.1.1.1.1.1.1.0;
           found_is = go.cells_are 12 (λ e. (omega arith)) ∙ gone.begin;
         };
-        last_is = go.cells_are 28 (λ e. (omega arith)) ∙ last_there;
+        last_is = go.cells_are 28 (λ e. (omega arith)) ∙ gone.rest 28 (omega arith) (omega arith);
       }
 
 pub fail_turns : FailTurns
@@ -145,5 +145,5 @@ fail_ends t plays output m z none r =
     let go = moved t plays output (p.names.routine FAIL) m z r (routine_of 4 FAIL_ACTS) (fail_at p plays.has) (omega arith) (p.names.routine FAILED) 2 r.memory (0 ∷ 0 ∷ 0 ∷ 0 ∷ []) r.cells r.sh r.trail m runs r.holds (plays.words FAILED) r.mid in
     let k = closings_work.failed p plays.has go.rep.memory go.rep.typed output go.rep.drawn go.rep.cells go.rep.holds in
     let few = k.few in
-    let over = closes t plays output (p.names.routine FAILED) m go.there go.rep (routine_of 0 FAILED_ACTS) (failed_at p plays.has) (omega arith) k.count 25 (go.rep.cells 28) Failed go.rep.memory [] (wider k.runs) (omega arith) in
+    let over = closes_within t plays output (p.names.routine FAILED) m go.there go.rep (routine_of 0 FAILED_ACTS) (failed_at p plays.has) (omega arith) 1 0 (omega arith) (omega arith) k.count 25 (go.rep.cells 28) Failed go.rep.memory [] k.runs (omega arith) in
     closes_then t output (go.rep.cells 28) (r.cells 28) Failed 4 4 25 30 z go.there (go.cells_are 28 (λ e. (omega arith))) (omega arith) (omega arith) go.leads over

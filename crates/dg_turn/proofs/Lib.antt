@@ -23,3 +23,12 @@ pub mod Keys
 pub mod Looking
 pub mod Finding
 pub mod Beginning
+pub mod Matching
+pub mod Ends
+pub mod EnterTurn
+pub mod EqualTurn
+pub mod CommitTurn
+pub mod AskTurn
+pub mod FailTurn
+pub mod Begun
+pub mod Paid

@@ -67,12 +67,12 @@ module _ (t : Telling) (plays : Playing t) (output : List ℕ) (x : ℕ) (m : Mi
       record { there = g.there; count = n + 2; few = le; leads = g.leads; rep = g.rep }
 
   -- Where they end the run, it is over.
-  pub closes : (n most last : ℕ) (ending : Ending) (memory' locals' : List ℕ) → ActsRun t.p 3500 19000 body.body body.body (routine_entered (state r.memory [] r.typed r.drawn output) body.locals (0, 0, 0)) (Stops AtQuit) (state memory' locals' r.typed r.drawn (output ++ closing last ending)) n → n + 1 ≤ most → Closes t output last ending most z
-  closes n most last ending memory' locals' runs le =
+  pub closes_within : (f w : ℕ) → f < 3600 → body.locals + w ≤ 20000 → (n most last : ℕ) (ending : Ending) (memory' locals' : List ℕ) → ActsRun t.p f w body.body body.body (routine_entered (state r.memory [] r.typed r.drawn output) body.locals (0, 0, 0)) (Stops AtQuit) (state memory' locals' r.typed r.drawn (output ++ closing last ending)) n → n + 1 ≤ most → Closes t output last ending most z
+  closes_within f w less fits n most last ending memory' locals' runs le =
       let high = plays.has.mapped.room in
       let s0 = state r.memory [] r.typed r.drawn output in
       let s1 = state memory' locals' r.typed r.drawn (output ++ closing last ending) in
-      let over = stops t.p t.story plays.stands 16 plays.labels t.pc plays.placed plays.from t.context s0 s1 x 3600 20000 3500 19000 n AtQuit body r.kept (plays.room r.memory r.typed output r.drawn) (register t.p s0 r.cells 16 r.holds (omega arith) (omega arith) (omega arith) ∙ ap word_is r.next_is) there (omega arith) (omega arith) runs in
+      let over = stops t.p t.story plays.stands 16 plays.labels t.pc plays.placed plays.from t.context s0 s1 x 3600 20000 f w n AtQuit body r.kept (plays.room r.memory r.typed output r.drawn) (register t.p s0 r.cells 16 r.holds (omega arith) (omega arith) (omega arith) ∙ ap word_is r.next_is) there less fits runs in
       record {
         at_end = over.0;
         written = over.1;
@@ -80,6 +80,9 @@ module _ (t : Telling) (plays : Playing t) (output : List ℕ) (x : ℕ) (m : Mi
         few = omega arith;
         ends = subst (λ (s : ZState). Ends t.p.world (suc n) s (record { end = ends.Quit; state = over.0 })) (sym r.is) over.2;
       }
+
+  pub closes : (n most last : ℕ) (ending : Ending) (memory' locals' : List ℕ) → ActsRun t.p 3500 19000 body.body body.body (routine_entered (state r.memory [] r.typed r.drawn output) body.locals (0, 0, 0)) (Stops AtQuit) (state memory' locals' r.typed r.drawn (output ++ closing last ending)) n → n + 1 ≤ most → Closes t output last ending most z
+  closes n most last ending memory' locals' runs le = closes_within 3500 19000 (omega arith) (omega arith) n most last ending memory' locals' runs le
 
 -- An end behind a stretch.
 pub closes_then : (t : Telling) (output : List ℕ) (last last' : ℕ) (ending : Ending) (a n most all : ℕ) (z there : ZState) → last ≡ last' → a ≤ n → n + most ≤ all → Leads t.p.world a z there → Closes t output last ending most there → Closes t output last' ending all z

@@ -1,0 +1,62 @@
+-- What the turns cost is paid for.
+use Rattle.std.proofs.Common.{◌≡◌, ℕ, ◌+◌, ◌*◌, ◌/◌, ◌≤◌, Bool, List, [], ◌∷◌, length, Option, Some, None, ap, arith}
+use Rattle.std.specs.List.{slice_get}
+use Rattle.dg_base.specs.declared.program.CoreProgram.{CoreProgram}
+use Rattle.dg_base.specs.declared.program.Term.{Term, out-Term}
+use Rattle.dg_base.specs.declared.program.Term.TheOpen as term
+use Rattle.dg_meaning.specs.Cells.{nodes_of}
+use Rattle.dg_meaning.specs.World.{Print}
+use Rattle.dg_mid.specs.declared.code.Action.TheVariants as action
+use Rattle.dg_mid.specs.declared.code.Op.{Op}
+use Rattle.dg_mid.specs.declared.code.Op.TheVariants as op
+use Rattle.dg_mid.specs.declared.code.RuleCode.{RuleCode}
+use Rattle.dg_mid.specs.State.{Place, Call, Calls, Mid, Enters, Runs, Resumes, Fails}
+use Rattle.dg_mid.specs.Step.{Setting}
+use Rattle.dg_mid.specs.Units.{units_of, selects_at, entering, dropped_in, dropped, undone}
+use Rattle.dg_turn.specs.Terms.{captured_of, captures_for, IsNode, AreNodes, capturing, all_capturing}
+use Rattle.dg_turn.specs.Turns.{entering_most, equal_most}
+use Rattle.dg_turn.specs.Queries.{asking_most}
+use Rattle.dg_turn.specs.Paid.{paid, TurnsArePaid}
+
+-- a node costs less than 600 beside the others
+one_few : (program : CoreProgram) (x : term.Term-F Term) → IsNode program x → capturing program x ≤ 600
+one_few program (term.Closure c) is = let few = is.1 in omega arith
+one_few program (term.Num n) is = omega arith
+one_few program (term.Word n) is = omega arith
+one_few program (term.Object n) is = omega arith
+one_few program (term.Var n) is = omega arith
+one_few program term.Nil is = omega arith
+one_few program (term.Pair head tail) is = omega arith
+
+all_few : (program : CoreProgram) (xs : List Term) → AreNodes program xs → all_capturing program xs ≤ 600 * length xs
+all_few program [] are = omega arith
+all_few program (x ∷ xs) are = let a = one_few program (out-Term x) are.0 in let b = all_few program xs are.1 in omega arith
+
+enter_is_paid : (g : Setting) (ps : List Print) (call : Call) (m : Mid) (vars : ℕ) (head : List Term) (ops : List Op) → m.ops ≡ op.Enter vars head ∷ ops → AreNodes g.game.program (nodes_of head) → vars ≤ 300 → length head ≤ 12 → entering_most g.game.program call vars head m ≤ paid g ps (Enters call m)
+enter_is_paid g ps call m vars head ops e nodes few short = let k = ap (λ (l : List Op). entering g call l m) e in let c = all_few g.game.program (nodes_of head) nodes in omega arith
+
+equal_is_paid : (g : Setting) (ps : List Print) (m : Mid) (a b : Term) (ops : List Op) → m.ops ≡ op.Do (action.Equal a b) ∷ ops → AreNodes g.game.program (nodes_of (a ∷ b ∷ [])) → equal_most g.game.program a b m ≤ paid g ps (Runs m)
+equal_is_paid g ps m a b ops e nodes = let k = ap (λ (l : List Op). units_of g ps l m) e in let c = all_few g.game.program (nodes_of (a ∷ b ∷ [])) nodes in omega arith
+
+ask_is_paid : (g : Setting) (ps : List Print) (m : Mid) (pred : ℕ) (ts : List Term) (many : Bool) (next : ℕ) (rules : List RuleCode) (ops : List Op) → m.ops ≡ op.Ask pred ts many next ∷ ops → AreNodes g.game.program (nodes_of ts) → length rules ≤ 2200 → asking_most g.game.program ts m + 4 * length rules + 70 ≤ paid g ps (Runs m)
+ask_is_paid g ps m pred ts many next rules ops e nodes few = let k = ap (λ (l : List Op). units_of g ps l m) e in let s = ap selects_at e in let c = all_few g.game.program (nodes_of ts) nodes in omega arith
+
+begin_is_paid : (g : Setting) (ps : List Print) (m : Mid) (call : Call) (rules : List RuleCode) → length rules ≤ 2200 → 4 * length rules + 70 ≤ paid g ps (Resumes (Calls call rules) m)
+begin_is_paid g ps m call [] few = omega arith
+begin_is_paid g ps m call (r ∷ rs) few = omega arith
+
+fail_is_paid : (g : Setting) (ps : List Print) (m : Mid) → 6 * undone m.choices m + 34 ≤ paid g ps (Fails m)
+fail_is_paid g ps m = omega arith
+
+commit_is_paid : (g : Setting) (ps : List Print) (m : Mid) (place : Place) (places : List Place) (ops : List Op) → m.ops ≡ op.Commit ∷ ops → m.inner ≡ place ∷ places → 4 * dropped place m.choices + 15 ≤ paid g ps (Runs m)
+commit_is_paid g ps m place places ops e i = let k = ap (λ (l : List Op). units_of g ps l m) e in let d = ap (λ (l : List Place). dropped_in l m.choices) i in omega arith
+
+pub turns_are_paid : TurnsArePaid
+turns_are_paid = record {
+  enter = λ g ps call m vars head ops e nodes few short. enter_is_paid g ps call m vars head ops e nodes few short;
+  equal = λ g ps m a b ops e nodes. equal_is_paid g ps m a b ops e nodes;
+  ask = λ g ps m pred ts many next rules ops e nodes few. ask_is_paid g ps m pred ts many next rules ops e nodes few;
+  begin = λ g ps m call rules few. begin_is_paid g ps m call rules few;
+  fail = λ g ps m. fail_is_paid g ps m;
+  commit = λ g ps m place places ops e i. commit_is_paid g ps m place places ops e i;
+}

@@ -1,0 +1,5 @@
+use Rattle.dg_turn.proofs.Begun as begun
+use Rattle.dg_turn.proofs.laws.ask_begins.Goals as goal
+
+pub returns : goal.returns
+returns c = λ t plays blocks output ts many next number rules m z are none room a. begun.ask_begins t plays blocks output ts many next number rules m z are none room a
