@@ -1,5 +1,5 @@
 -- A query is asked: one turn of the story.
-use Rattle.std.proofs.Common.{◌≡◌, ◌≢◌, ℕ, suc, ◌+◌, ◌*◌, ◌<◌, ◌≤◌, Bool, true, false, List, [], ◌∷◌, ◌++◌, length, map, Option, None, Some, refl, sym, ap, ◌∙◌, subst, arith}
+use Rattle.std.proofs.Common.{◌≡◌, ℕ, suc, ◌+◌, ◌*◌, ◌<◌, ◌≤◌, Bool, List, [], ◌∷◌, ◌++◌, length, map, Option, None, Some, refl, sym, ap, ◌∙◌, subst, arith}
 use Rattle.dg_base.specs.declared.program.Term.{Term}
 use Rattle.dg_base.specs.declared.run.Ending.TheVariants.{HeapLimit}
 use Rattle.dg_meaning.specs.Cells.{cells as cells_of}
@@ -23,7 +23,6 @@ use Rattle.dg_rt.specs.Areas.{state}
 use Rattle.dg_rt.specs.Shapes.{Shape, Shows}
 use Rattle.dg_rt.specs.Back.{at_place}
 use Rattle.dg_rt.specs.RunTime.{HasRunTime}
-use Rattle.dg_rt.specs.Rules.{Keyed}
 use Rattle.dg_rt.specs.Closings.{closing_most}
 use Rattle.dg_rt.proofs.Cells.{other_cell, same_cell}
 use Rattle.dg_rt.proofs.Following.{word as word_is, computes, copies, register, puts}
@@ -31,9 +30,8 @@ use Rattle.dg_rt.proofs.Keying.{key_works}
 use Rattle.dg_rt.proofs.Locals.{adds}
 use Rattle.dg_rt.proofs.UnifySteps.{steps_are}
 use Rattle.dg_turn.specs.Told.{Telling, FirstIs}
-use Rattle.dg_turn.specs.Lies.{bit_of, WordsIn, CallIn, MidIn}
-use Rattle.dg_turn.specs.Plays.{Playing, registers, CallAt, Closes}
-use Rattle.dg_turn.specs.Terms.{terms_acts, written_in}
+use Rattle.dg_turn.specs.Lies.{bit_of, WordsIn, MidIn}
+use Rattle.dg_turn.specs.Plays.{Playing, registers, Closes}
 use Rattle.dg_turn.specs.Queries.{call_acts, key_acts, asking_routine, asked_call, asking_most, AskedAt, Asking, AskTurns}
 use Rattle.dg_turn.proofs.Standing.{key_of_at}
 use Rattle.dg_turn.proofs.Environment.{bit_few}

@@ -1,5 +1,5 @@
 -- Rules are looked at from the first to the second that isn't excluded.
-use Rattle.std.proofs.Common.{◌≡◌, ◌≢◌, ℕ, suc, ◌+◌, ◌*◌, ◌<◌, ◌≤◌, Bool, true, false, List, [], ◌∷◌, length, Option, refl, ap, subst, ◌∙◌, arith}
+use Rattle.std.proofs.Common.{◌≡◌, ◌≢◌, ℕ, suc, ◌+◌, ◌*◌, ◌≤◌, Bool, true, false, List, [], ◌∷◌, length, Option, refl, ap, subst, ◌∙◌, arith}
 use Rattle.std.specs.Prelude.{if◌then◌else◌}
 use Rattle.dg_base.specs.declared.run.Ending.TheVariants.{HeapLimit}
 use Rattle.dg_meaning.specs.Values.{Value}
@@ -13,7 +13,7 @@ use Rattle.z_lang.proofs.Stretches.{leads_then}
 use Rattle.dg_rt.specs.Closings.{closing_most}
 use Rattle.dg_turn.specs.Told.{Telling, FirstIs}
 use Rattle.dg_turn.specs.Plays.{Playing}
-use Rattle.dg_turn.specs.Rules.{LooksAt, Selects, passed_over, OpensTo, BegunTo, behind_first, BeginTurns}
+use Rattle.dg_turn.specs.Rules.{LooksAt, Selects, passed_over, BegunTo, behind_first, BeginTurns}
 use Rattle.dg_turn.proofs.Looking.{select_turns}
 use Rattle.dg_turn.proofs.Finding.{found_turns, none_turns}
 use Rattle.dg_turn.proofs.Moving.{closes_then}

@@ -1,13 +1,12 @@
 -- Cells become boxes.
-use Rattle.std.proofs.Common.{◌≡◌, ℕ, ◌+◌, ◌*◌, ◌<◌, ◌≤◌, inl, inr, List, length, Option, Some, refl, sym, ◌∙◌, arith}
+use Rattle.std.proofs.Common.{◌≡◌, ℕ, ◌+◌, ◌<◌, ◌≤◌, inl, inr, Option, Some, refl, sym, ◌∙◌, arith}
 use Rattle.std.specs.Prelude.{nat_lt, if◌then◌else◌}
 use Rattle.std.proofs.lemmas.Bool.{lt-ltb, le-ltb, cond-true, cond-false, cases_lt}
 use Rattle.dg_meaning.specs.Substitutions.{Substitution}
-use Rattle.dg_meaning.specs.ValueCells.{count_of}
-use Rattle.dg_meaning.specs.Values.{Unknown, Closure, Value, Node, Values, leaf, pair}
+use Rattle.dg_meaning.specs.Values.{Value}
 use Rattle.dg_rt.proofs.Grows.{grown_shows}
 use Rattle.dg_rt.specs.Back.{Grown}
-use Rattle.dg_rt.specs.Shapes.{Shape, IsShape, Letters, Shows, boxed, pair_in, closure_in, word_in, AllShow, Stands, Cell}
+use Rattle.dg_rt.specs.Shapes.{Shape, IsShape, Stands}
 
 -- ## Boxes
 

@@ -1,7 +1,6 @@
 -- A closure is written, with what it captures.
-use Rattle.std.proofs.Common.{◌≡◌, ◌≢◌, ℕ, zero, suc, ◌+◌, ◌-◌, ◌*◌, ◌/◌, ◌%◌, ◌<◌, ◌≤◌, List, [], ◌∷◌, ◌++◌, drop, length, refl, sym, ap, ◌∙◌, subst, arith}
+use Rattle.std.proofs.Common.{◌≡◌, ℕ, zero, suc, ◌+◌, ◌*◌, ◌/◌, ◌%◌, ◌<◌, ◌≤◌, List, [], ◌∷◌, ◌++◌, drop, length, refl, sym, ap, ◌∙◌, subst, arith}
 use Rattle.std.specs.Prelude.{get_or}
-use Rattle.dg_base.specs.declared.program.Term.{Term}
 use Rattle.dg_meaning.specs.Values.{Value, Nil, leaf}
 use Rattle.dg_mid.specs.State.{Mid, vars_of}
 use Rattle.z_lang.specs.declared.act.Act.{Act}
@@ -11,12 +10,12 @@ use Rattle.z_lang.specs.declared.act.Function.TheVariants as functions
 use Rattle.z_lang.specs.State.{State}
 use Rattle.z_lang.specs.Runs.{ActsRun, ActsOutcome, done, calls}
 use Rattle.dg_rt.specs.inside.Walks.{steps}
-use Rattle.dg_rt.specs.Cells.{with_cell, replaced, Holds}
+use Rattle.dg_rt.specs.Cells.{with_cell, replaced}
 use Rattle.dg_rt.specs.Areas.{heap_at, state}
 use Rattle.dg_rt.specs.Shapes.{Shape, Shows}
 use Rattle.dg_rt.specs.RunTime.{HasRunTime}
 use Rattle.dg_rt.specs.Frames.{six_numbers, HoldVars}
-use Rattle.dg_rt.proofs.Cells.{holds_with, other_cell, same_cell}
+use Rattle.dg_rt.proofs.Cells.{other_cell, same_cell}
 use Rattle.dg_rt.proofs.Following.{word as word_is, computes, register, puts}
 use Rattle.dg_rt.proofs.Locals.{adds}
 use Rattle.dg_rt.proofs.UnifySteps.{steps_are}
@@ -24,7 +23,7 @@ use Rattle.dg_rt.proofs.Capturing.{capture_works}
 use Rattle.dg_turn.specs.Told.{Telling}
 use Rattle.dg_turn.specs.Lies.{MidIn}
 use Rattle.dg_turn.specs.Terms.{cell_act, two_numbers, capture_acts, captures_for, closure_acts, AreCaptured}
-use Rattle.dg_turn.proofs.Kept.{KeptBut, kept_cell, kept_word, kept_then, kept_wider, beyond_kept}
+use Rattle.dg_turn.proofs.Kept.{KeptBut, kept_then, kept_wider, beyond_kept}
 use Rattle.dg_turn.proofs.Standing.{capture_at}
 use Rattle.dg_turn.proofs.Writing.{Begun, still, env_at, put_cell, begun_word}
 

@@ -1,7 +1,6 @@
 -- An inner construct is left: one turn of the story.
-use Rattle.std.proofs.Common.{◌≡◌, ◌≢◌, ℕ, suc, ◌+◌, ◌*◌, ◌<◌, List, [], ◌∷◌, inl, inr, refl, sym, ap, ◌∙◌, subst, arith}
+use Rattle.std.proofs.Common.{◌≡◌, ◌≢◌, ℕ, suc, ◌+◌, ◌*◌, [], ◌∷◌, inl, inr, refl, sym, ◌∙◌, subst, arith}
 use Rattle.std.proofs.lemmas.Bool.{cases_eq}
-use Rattle.dg_mid.specs.State.{Place, Mid}
 use Rattle.dg_mid.specs.Step.{cut_to}
 use Rattle.dg_mid.specs.Units.{dropped}
 use Rattle.z_lang.specs.Runs.{calls, returns}
@@ -10,7 +9,7 @@ use Rattle.dg_rt.specs.Areas.{heap_at, state}
 use Rattle.dg_rt.specs.Shapes.{Cell}
 use Rattle.dg_rt.proofs.Cells.{other_cell, same_cell}
 use Rattle.dg_rt.proofs.Cutting.{commit_works}
-use Rattle.dg_turn.specs.Lies.{FramesIn, InnersIn, MidIn}
+use Rattle.dg_turn.specs.Lies.{InnersIn, MidIn}
 use Rattle.dg_turn.specs.Turns.{commit_routine, CommitTurns}
 use Rattle.dg_turn.proofs.Standing.{commit_at}
 use Rattle.dg_turn.proofs.Staying.{mid_with}

@@ -1,5 +1,5 @@
 -- A rule with variables and a head is entered: one turn of the story.
-use Rattle.std.proofs.Common.{◌≡◌, ◌≢◌, ℕ, suc, ◌+◌, ◌-◌, ◌*◌, ◌<◌, ◌≤◌, List, [], ◌∷◌, ◌++◌, length, map, None, sym, ap, ◌∙◌, subst, arith, refl}
+use Rattle.std.proofs.Common.{◌≡◌, ℕ, suc, ◌+◌, ◌*◌, ◌<◌, ◌≤◌, List, [], ◌∷◌, ◌++◌, length, map, None, sym, ap, ◌∙◌, subst, arith, refl}
 use Rattle.std.specs.List.{zip}
 use Rattle.dg_base.specs.declared.program.CoreProgram.{CoreProgram}
 use Rattle.dg_base.specs.declared.program.Term.{Term}
@@ -31,7 +31,7 @@ use Rattle.dg_turn.specs.Told.{Telling}
 use Rattle.dg_turn.specs.Lies.{MidIn}
 use Rattle.dg_turn.specs.Plays.{Playing, Represented, CallAt, Comes, Closes}
 use Rattle.dg_turn.specs.Terms.{capped, AreNodes, written_in, Wrote}
-use Rattle.dg_turn.specs.Turns.{agreed_next, match_acts, last_acts, head_acts, enter_routine, in_rule, entered, head_equations, head_unified, entering_most, Entering, EnterTurns}
+use Rattle.dg_turn.specs.Turns.{agreed_next, match_acts, last_acts, head_acts, enter_routine, entered, head_unified, entering_most, Entering, EnterTurns}
 use Rattle.dg_turn.proofs.Standing.{enter_at}
 use Rattle.dg_turn.proofs.Environment.{bit_few}
 use Rattle.dg_turn.proofs.Staying.{mid_same}

@@ -1,5 +1,5 @@
 -- The variables of the code at hand lie where its newest frame is.
-use Rattle.std.proofs.Common.{◌≡◌, ℕ, suc, ◌+◌, ◌*◌, ◌≤◌, Bool, true, false, List, [], ◌∷◌, length, sym, refl, subst, arith}
+use Rattle.std.proofs.Common.{◌≡◌, ℕ, suc, ◌+◌, ◌≤◌, Bool, true, false, List, [], ◌∷◌, sym, refl, subst, arith}
 use Rattle.dg_meaning.specs.Values.{Value}
 use Rattle.dg_mid.specs.State.{Frame, vars_of}
 use Rattle.dg_rt.specs.Shapes.{Shape}

@@ -1,9 +1,8 @@
 -- Two terms are unified: one turn of the story.
-use Rattle.std.proofs.Common.{◌≡◌, ◌≢◌, ℕ, suc, ◌+◌, ◌*◌, ◌<◌, ◌≤◌, List, [], ◌∷◌, ◌++◌, refl, ◌∙◌, subst, arith}
+use Rattle.std.proofs.Common.{◌≡◌, ℕ, suc, ◌+◌, ◌*◌, ◌<◌, ◌≤◌, List, [], ◌∷◌, ◌++◌, refl, ◌∙◌, subst, arith}
 use Rattle.dg_base.specs.declared.program.Term.{Term}
 use Rattle.dg_base.specs.declared.run.Ending.TheVariants.{HeapLimit, TrailLimit}
 use Rattle.dg_meaning.specs.Cells.{cells as cells_of}
-use Rattle.dg_meaning.specs.Unify.{Unified}
 use Rattle.dg_meaning.specs.Values.{Value, value_of}
 use Rattle.dg_mid.specs.State.{Mid, vars_of}
 use Rattle.dg_mid.specs.Step.{bound, trail_more, more}
@@ -24,7 +23,6 @@ use Rattle.dg_rt.proofs.Cells.{other_cell, same_cell}
 use Rattle.dg_rt.proofs.Following.{IsPut, copies, puts}
 use Rattle.dg_rt.proofs.UnifySteps.{steps_are}
 use Rattle.dg_turn.specs.Told.{Telling}
-use Rattle.dg_turn.specs.Lies.{MidIn}
 use Rattle.dg_turn.specs.Plays.{Playing, Represented, Comes, Closes}
 use Rattle.dg_turn.specs.Terms.{written_in, Wrote}
 use Rattle.dg_turn.specs.Turns.{agreed_next, match_acts, last_acts, equal_routine, equation, equal_unified, equal_most, Equating, EqualTurns}

@@ -1,5 +1,5 @@
 -- A failure goes back to a choice of further rules, or ends the run: one turn of the story.
-use Rattle.std.proofs.Common.{◌≡◌, ◌≢◌, ℕ, zero, suc, ◌+◌, ◌-◌, ◌*◌, ◌<◌, ◌≤◌, List, [], ◌∷◌, ◌++◌, length, refl, sym, ap, ◌∙◌, subst, arith, length-append}
+use Rattle.std.proofs.Common.{◌≡◌, ◌≢◌, ℕ, suc, ◌+◌, ◌-◌, ◌*◌, ◌<◌, ◌≤◌, List, [], ◌∷◌, ◌++◌, length, refl, sym, ap, ◌∙◌, subst, arith, length-append}
 use Rattle.dg_base.specs.declared.run.Ending.TheVariants.{Failed}
 use Rattle.dg_mid.specs.declared.code.RuleCode.{RuleCode}
 use Rattle.dg_mid.specs.State.{Call, Choice, Mid}
@@ -15,13 +15,12 @@ use Rattle.dg_rt.specs.Areas.{heap_at, trail_at, state}
 use Rattle.dg_rt.specs.Shapes.{Shape, Cell}
 use Rattle.dg_rt.specs.Back.{OnTrail, at_place}
 use Rattle.dg_rt.specs.RunTime.{routine_of}
-use Rattle.dg_rt.specs.Closings.{closing_most}
 use Rattle.dg_rt.specs.Choices.{GoesBack}
 use Rattle.dg_rt.proofs.Failing.{fail_works}
 use Rattle.dg_rt.proofs.Closing.{closings_work}
 use Rattle.dg_turn.specs.Told.{Telling}
 use Rattle.dg_turn.specs.Lies.{CellsAre, CallsIn, WayIn, ChoicesIn, MidIn}
-use Rattle.dg_turn.specs.Plays.{Playing, Represented, registers, CallAt, Closes}
+use Rattle.dg_turn.specs.Plays.{Playing, Represented, registers, CallAt}
 use Rattle.dg_turn.specs.Queries.{GoneBack, FailTurns, FailEnds}
 use Rattle.dg_turn.proofs.Standing.{fail_at, failed_at}
 use Rattle.dg_turn.proofs.Rows.{words_length, registers_same}

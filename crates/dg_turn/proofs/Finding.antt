@@ -19,7 +19,7 @@ use Rattle.z_lang.specs.Acts.{answer_of}
 use Rattle.z_lang.specs.Runs.{ActsRun, ActsOutcome, Returns, Stops, taken, done, calls, calls_last, returns, behind_label}
 use Rattle.dg_rt.specs.declared.numbers.TheConstants.{FAIL, FOUND, NONE}
 use Rattle.dg_rt.specs.declared.rules.TheConstants.{FOUND_ACTS, NONE_ACTS}
-use Rattle.dg_rt.specs.Cells.{with_cell, replaced, Holds}
+use Rattle.dg_rt.specs.Cells.{with_cell, replaced}
 use Rattle.dg_rt.specs.Areas.{trail_at, state}
 use Rattle.dg_rt.specs.Shapes.{Shape}
 use Rattle.dg_rt.specs.Back.{at_place}

@@ -37,7 +37,7 @@ use Rattle.dg_turn.specs.Turns.{match_acts}
 use Rattle.dg_turn.proofs.Standing.{match_at}
 use Rattle.dg_turn.proofs.Staying.{mid_same}
 use Rattle.dg_turn.proofs.Rows.{InRegisters, regs_stay}
-use Rattle.dg_turn.proofs.Unified.{more_is, setting, moment, mid_behind, fits, fit_trail, pass_trail}
+use Rattle.dg_turn.proofs.Unified.{more_is, setting, moment, mid_behind, fit_trail, pass_trail}
 
 -- ## One after another
 

@@ -10,7 +10,7 @@ use Rattle.z_lang.specs.Runs.{ActsRun, Returns, Stops, routine_entered, left_wit
 use Rattle.z_lang.specs.Leads.{Leads, Ends}
 use Rattle.z_lang.specs.Standing.{state_at}
 use Rattle.z_lang.proofs.Trampoline.{bounces, stops}
-use Rattle.z_lang.proofs.Stretches.{leads_then, ends_then}
+use Rattle.z_lang.proofs.Stretches.{ends_then}
 use Rattle.dg_rt.specs.Cells.{with_cell, replaced, Holds}
 use Rattle.dg_rt.specs.Areas.{state}
 use Rattle.dg_rt.specs.Shapes.{Shape}

@@ -1,5 +1,5 @@
 -- The acts that write nodes leave them written.
-use Rattle.std.proofs.Common.{◌≡◌, ◌≢◌, ℕ, suc, ◌+◌, ◌-◌, ◌*◌, ◌<◌, ◌≤◌, List, [], ◌∷◌, ◌++◌, length, Option, Some, None, refl, sym, ap, ◌∙◌, subst, arith, append_assoc}
+use Rattle.std.proofs.Common.{◌≡◌, ℕ, suc, ◌+◌, ◌-◌, ◌*◌, ◌<◌, ◌≤◌, List, [], ◌∷◌, ◌++◌, length, Option, Some, None, refl, sym, ap, ◌∙◌, subst, arith, append_assoc}
 use Rattle.std.specs.List.{slice_get}
 use Rattle.dg_base.specs.declared.program.ClosureBody.{ClosureBody}
 use Rattle.dg_base.specs.declared.program.CoreProgram.{CoreProgram}
@@ -27,7 +27,7 @@ use Rattle.dg_turn.specs.Terms.{word_act, words_acts, cell_act, captured_of, nod
 use Rattle.dg_turn.proofs.Kept.{KeptBut, kept_then, kept_wider}
 use Rattle.dg_turn.proofs.Steps.{steps_both}
 use Rattle.dg_turn.proofs.Writing.{WordOf, Begun, put_word, put_cell, begun_word}
-use Rattle.dg_turn.proofs.Closures.{ClosureWritten, closure, hold_same}
+use Rattle.dg_turn.proofs.Closures.{closure, hold_same}
 
 -- ## Nodes at their places
 

@@ -1,6 +1,5 @@
 -- What the turns cost is paid for.
-use Rattle.std.proofs.Common.{◌≡◌, ℕ, ◌+◌, ◌*◌, ◌/◌, ◌≤◌, Bool, List, [], ◌∷◌, length, Option, Some, None, ap, arith}
-use Rattle.std.specs.List.{slice_get}
+use Rattle.std.proofs.Common.{◌≡◌, ℕ, ◌+◌, ◌*◌, ◌≤◌, Bool, List, [], ◌∷◌, length, ap, arith}
 use Rattle.dg_base.specs.declared.program.CoreProgram.{CoreProgram}
 use Rattle.dg_base.specs.declared.program.Term.{Term, out-Term}
 use Rattle.dg_base.specs.declared.program.Term.TheOpen as term
@@ -13,7 +12,7 @@ use Rattle.dg_mid.specs.declared.code.RuleCode.{RuleCode}
 use Rattle.dg_mid.specs.State.{Place, Call, Calls, Mid, Enters, Runs, Resumes, Fails}
 use Rattle.dg_mid.specs.Step.{Setting}
 use Rattle.dg_mid.specs.Units.{units_of, selects_at, entering, dropped_in, dropped, undone}
-use Rattle.dg_turn.specs.Terms.{captured_of, captures_for, IsNode, AreNodes, capturing, all_capturing}
+use Rattle.dg_turn.specs.Terms.{IsNode, AreNodes, capturing, all_capturing}
 use Rattle.dg_turn.specs.Turns.{entering_most, equal_most}
 use Rattle.dg_turn.specs.Queries.{asking_most}
 use Rattle.dg_turn.specs.Paid.{paid, TurnsArePaid}

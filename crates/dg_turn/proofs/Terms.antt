@@ -1,12 +1,12 @@
 -- Terms are written on the heap: memory stands for the machine with their cells taken, and registers for their values.
-use Rattle.std.proofs.Common.{◌≡◌, ◌≢◌, ℕ, zero, suc, ◌+◌, ◌-◌, ◌*◌, ◌<◌, ◌≤◌, inl, inr, List, [], ◌∷◌, ◌++◌, length, map, refl, sym, ap, ◌∙◌, subst, arith, append_assoc}
-use Rattle.std.specs.Prelude.{nat_lt, if◌then◌else◌}
+use Rattle.std.proofs.Common.{◌≡◌, ◌≢◌, ℕ, zero, suc, ◌+◌, ◌-◌, ◌<◌, ◌≤◌, inl, inr, List, [], ◌∷◌, ◌++◌, length, map, refl, sym, ap, ◌∙◌, subst, arith, append_assoc}
+use Rattle.std.specs.Prelude.{nat_lt}
 use Rattle.std.proofs.lemmas.Bool.{lt-ltb, le-ltb, cond-true, cond-false, cases_lt}
 use Rattle.dg_base.specs.declared.program.CoreProgram.{CoreProgram}
 use Rattle.dg_base.specs.declared.program.Term.{Term, Pair', out-Term}
 use Rattle.dg_base.specs.declared.program.Term.TheOpen as term
 use Rattle.dg_base.specs.Terms.{nodes as nodes_in}
-use Rattle.dg_meaning.specs.Cells.{node_cells, nodes_of, writing, cells as cells_of}
+use Rattle.dg_meaning.specs.Cells.{node_cells, nodes_of, cells as cells_of}
 use Rattle.dg_meaning.specs.Values.{Value, value_of}
 use Rattle.dg_mid.specs.State.{Mid, vars_of}
 use Rattle.dg_mid.specs.Step.{more}

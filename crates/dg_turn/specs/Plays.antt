@@ -1,6 +1,6 @@
 -- A story that is played from one routine to the next: where the player is, and what memory stands for there. Hold it against the Z-machine standard,
 -- section 6 (on calling routines), and dg_mid/specs/State.antt.
-use Rattle.std.specs.Prelude.{◌≡◌, ℕ, zero, suc, ◌+◌, ◌<◌, ◌≤◌, List, [], ◌∷◌, ◌++◌, length, Some}
+use Rattle.std.specs.Prelude.{◌≡◌, ℕ, zero, suc, ◌<◌, ◌≤◌, List, [], ◌∷◌, ◌++◌, length, Some}
 use Rattle.dg_base.specs.declared.run.Ending.{Ending}
 use Rattle.dg_mid.specs.State.{Call, Mid}
 use Rattle.z_model.specs.declared.end.ZEnd.TheVariants as ends

@@ -21,14 +21,14 @@ use Rattle.z_lang.specs.declared.act.Atom.TheVariants as atoms
 use Rattle.z_lang.specs.declared.act.Function.TheVariants as functions
 use Rattle.z_lang.specs.declared.act.Routine.{Routine}
 use Rattle.z_lang.specs.Leads.{Leads}
-use Rattle.dg_rt.specs.declared.numbers.TheConstants.{KEY_OF, FAIL, FAILED}
+use Rattle.dg_rt.specs.declared.numbers.TheConstants.{KEY_OF, FAIL}
 use Rattle.dg_rt.specs.declared.registers.TheConstants.{ARGS, BACK, CUT_TO, MANY, KEY, BEGIN, HEAP}
 use Rattle.dg_rt.specs.Areas.{last_reg}
 use Rattle.dg_rt.specs.RunTime.{routine_of}
 use Rattle.dg_rt.specs.Closings.{closing_most}
 use Rattle.dg_turn.specs.Told.{Telling, FirstIs, RulesAt}
 use Rattle.dg_turn.specs.Lies.{bit_of}
-use Rattle.dg_turn.specs.Plays.{Playing, Represented, Comes, Closes}
+use Rattle.dg_turn.specs.Plays.{Playing, Represented, Closes}
 use Rattle.dg_turn.specs.Terms.{terms_acts, AreNodes, written_in}
 use Rattle.dg_turn.specs.Rules.{LooksAt, BegunTo, behind_first}
 

@@ -19,7 +19,7 @@ use Rattle.z_lang.specs.declared.act.Atom.{Atom}
 use Rattle.z_lang.specs.declared.act.Atom.TheVariants as atoms
 use Rattle.z_lang.specs.declared.act.Function.TheVariants as functions
 use Rattle.z_lang.specs.declared.act.Width.TheVariants as widths
-use Rattle.z_lang.specs.State.{State, Program}
+use Rattle.z_lang.specs.State.{State}
 use Rattle.z_lang.specs.Runs.{ActsRun, ActsOutcome, Stops}
 use Rattle.dg_rt.specs.declared.numbers.TheConstants.{CHARGE, VAR, CAPTURE}
 use Rattle.dg_rt.specs.declared.registers.TheConstants.{TERM, WORD}
