@@ -1,6 +1,7 @@
 -- A failure goes back to a choice of further rules, or ends the run: one turn of the story.
 use Rattle.std.proofs.Common.{◌≡◌, ◌≢◌, ℕ, suc, ◌+◌, ◌-◌, ◌*◌, ◌<◌, ◌≤◌, List, [], ◌∷◌, ◌++◌, length, refl, sym, ap, ◌∙◌, subst, arith, length-append}
 use Rattle.dg_base.specs.declared.run.Ending.TheVariants.{Failed}
+use Rattle.dg_meaning.specs.Values.{Value}
 use Rattle.dg_mid.specs.declared.code.RuleCode.{RuleCode}
 use Rattle.dg_mid.specs.State.{Call, Choice, Mid}
 use Rattle.dg_mid.specs.Step.{first_of, back_at}
@@ -12,7 +13,7 @@ use Rattle.dg_rt.specs.declared.numbers.TheConstants.{FAIL, FAILED}
 use Rattle.dg_rt.specs.declared.choices.TheConstants.{FAIL_ACTS}
 use Rattle.dg_rt.specs.declared.closings.TheConstants.{FAILED_ACTS}
 use Rattle.dg_rt.specs.Areas.{heap_at, trail_at, state}
-use Rattle.dg_rt.specs.Shapes.{Shape, Cell}
+use Rattle.dg_rt.specs.Shapes.{Shape, Cell, Shows}
 use Rattle.dg_rt.specs.Back.{OnTrail, at_place}
 use Rattle.dg_rt.specs.RunTime.{routine_of}
 use Rattle.dg_rt.specs.Choices.{GoesBack}
@@ -20,12 +21,13 @@ use Rattle.dg_rt.proofs.Failing.{fail_works}
 use Rattle.dg_rt.proofs.Closing.{closings_work}
 use Rattle.dg_turn.specs.Told.{Telling}
 use Rattle.dg_turn.specs.Lies.{CellsAre, CallsIn, WayIn, ChoicesIn, MidIn}
-use Rattle.dg_turn.specs.Plays.{Playing, Represented, registers, CallAt}
+use Rattle.dg_turn.specs.Plays.{Playing, Represented, registers, CallAt, Comes}
 use Rattle.dg_turn.specs.Queries.{GoneBack, FailTurns, FailEnds}
+use Rattle.dg_turn.specs.Choices.{TakesAt, BackTurns}
 use Rattle.dg_turn.proofs.Standing.{fail_at, failed_at}
 use Rattle.dg_turn.proofs.Rows.{words_length, registers_same}
 use Rattle.dg_turn.proofs.Returning.{goes_back_in}
-use Rattle.dg_turn.proofs.Moving.{moved, closes_within, closes_then}
+use Rattle.dg_turn.proofs.Moving.{Moved, moved, closes_within, closes_then}
 
 -- arguments that are put back
 args_back : (sh : Shape) (c c' : ℕ → ℕ) → ((k y : ℕ) → Cell sh k y → c (heap_at + k) ≡ y) → (v at : ℕ) (xs : List ℕ) → ((i : ℕ) → i < length xs → c' (v + i) ≡ c (heap_at + (at + i))) → CellsAre sh at xs → registers c' v (length xs) ≡ xs
@@ -37,8 +39,8 @@ args_back sh c c' word v at (x ∷ xs) same cells =
     let rest = args_back sh c c' word (suc v) (suc at) xs (λ i lt. (let a : suc v + i ≡ v + suc i = omega arith in let b : at + suc i ≡ suc at + i = omega arith in ap c' a ∙ same (suc i) (omega arith) ∙ ap (λ (j : ℕ). c (heap_at + j)) b)) cells.1 in
     ap (λ (y : ℕ). y ∷ registers c' (suc v) (length xs)) here ∙ ap (λ (l : List ℕ). x ∷ l) rest
 
-module _ (t : Telling) (plays : Playing t) (output : List ℕ) (m : Mid) (x : Choice) (xs : List Choice) (call : Call) (rules : List RuleCode) (z : ZState)
-    (named : x.state.heap ≡ x.place.height) (few : length call.args ≤ 12) (r : Represented t output (t.p.names.routine FAIL) m z) (h : ChoicesIn t r.sh r.cells r.trail (r.cells 5) (x ∷ xs)) (w : CallsIn t h.saved.sh h.routine h.args h.next (at_place x.place.height) h.many h.key x.state.subst call rules) where
+module _ (t : Telling) (plays : Playing t) (output : List ℕ) (m : Mid) (x : Choice) (xs : List Choice) (z : ZState)
+    (named : x.state.heap ≡ x.place.height) (r : Represented t output (t.p.names.routine FAIL) m z) (h : ChoicesIn t r.sh r.cells r.trail (r.cells 5) (x ∷ xs)) where
   abbrev at : ℕ
   at = x.place.height
 
@@ -80,51 +82,81 @@ module _ (t : Telling) (plays : Playing t) (output : List ℕ) (m : Mid) (x : Ch
       (gone.heap ∙ sym named) (gone.trail ∙ s.trail_len) (gone.mark ∙ (let e : at ≡ h.saved.sh.top = omega arith in ap at_place e))
       (gone.frame ∙ field 2 (suc (suc at)) h.e (omega arith) cs.1.1.0) (gone.choice ∙ field 0 at h.behind (omega arith) cs.0) (gone.inner ∙ field 3 (suc (suc (suc at))) h.l (omega arith) cs.1.1.1.0)
 
-  -- the call in registers
-  call_there : (c' : ℕ → ℕ) → ((k : ℕ) → k ≢ 0 → c' k ≡ gone.cells' k) → CallAt t h.saved.sh c' call
-  call_there c' same =
-      let cs = h.cells_are in
-      let i = w.call_is in
-      let size : length h.args ≡ length call.args = words_length h.saved.sh h.args call.args i.args_are in
-      let ten : suc (suc (suc (suc (suc (suc (suc (suc (suc (suc at))))))))) ≡ at + 10 = omega arith in
-      let row = subst (λ (k : ℕ). CellsAre r.sh k h.args) ten cs.1.1.1.1.1.1.1.1.1.1 in
-      let words : registers gone.cells' 16 (length h.args) ≡ h.args = args_back r.sh r.cells gone.cells' cell_word 16 (at + 10) h.args (λ j lt. gone.args j (omega arith) ∙ (let q : at + (10 + j) ≡ at + 10 + j = omega arith in ap (λ (k : ℕ). r.cells (heap_at + k)) q)) row in
-      let there : registers c' 16 (length call.args) ≡ h.args = registers_same gone.cells' c' 16 (length call.args) (λ j low lt. same j (λ e. (omega arith))) ∙ ap (λ (n : ℕ). registers gone.cells' 16 n) (sym size) ∙ words in
-      let back : c' 8 ≡ h.next = same 8 (λ e. (omega arith)) ∙ gone.back ∙ field 7 (suc (suc (suc (suc (suc (suc (suc at))))))) h.next (omega arith) cs.1.1.1.1.1.1.1.0 in
-      let cut : c' 9 ≡ at_place at = same 9 (λ e. (omega arith)) ∙ gone.cut in
-      let many : c' 10 ≡ h.many = same 10 (λ e. (omega arith)) ∙ gone.many ∙ field 8 (suc (suc (suc (suc (suc (suc (suc (suc at)))))))) h.many (omega arith) cs.1.1.1.1.1.1.1.1.0 in
-      rw (there, back, cut, many) i
-
-  turn : GoneBack t output rules call (first_of x.state.subst call) (r.cells 28) (back_at x xs m) (6 * (m.state.trail - x.state.trail) + 34) z
-  turn =
-      let y = t.p.names.routine w.number in
-      let cs = h.cells_are in
-      let to : r.cells (heap_at + (at + 1)) ≡ y = field 1 (suc at) h.routine (omega arith) cs.1.0 ∙ w.routine_is in
+  -- the routine that is answered comes next
+  to_next : (y : ℕ) → h.routine ≡ y → y < 65536 → Moved t output y gone.cells' h.saved.sh (back_at x xs m) gone.count z
+  to_next y e small =
+      let to : r.cells (heap_at + (at + 1)) ≡ y = field 1 (suc at) h.routine (omega arith) h.cells_are.1.0 ∙ e in
       let runs = subst (λ (i : ℕ). ActsRun t.p 3500 19000 FAIL_ACTS FAIL_ACTS (state r.memory (0 ∷ 0 ∷ 0 ∷ 0 ∷ []) r.typed r.drawn output) (Returns i) (state gone.memory' gone.locals' r.typed r.drawn output) gone.count) to gone.runs in
-      let go = moved t plays output (t.p.names.routine FAIL) m z r (routine_of 4 FAIL_ACTS) (fail_at t.p plays.has) (omega arith) y gone.count gone.memory' gone.locals' gone.cells' h.saved.sh h.saved.trail (back_at x xs m) runs gone.holds (plays.words w.number) mid_there in
+      moved t plays output (t.p.names.routine FAIL) m z r (routine_of 4 FAIL_ACTS) (fail_at t.p plays.has) (omega arith) y gone.count gone.memory' gone.locals' gone.cells' h.saved.sh h.saved.trail (back_at x xs m) runs gone.holds small mid_there
+
+  -- the word of its routine, and what it costs
+  word_small : h.routine < 65536
+  word_small = subst (λ (y : ℕ). y < 65536) (field 1 (suc at) h.routine (omega arith) h.cells_are.1.0) (r.holds.words (heap_at + (at + 1)))
+
+  few_in_all : gone.count + 2 ≤ 6 * (m.state.trail - x.state.trail) + 34
+  few_in_all =
       let few' = gone.few in
       let total = ap length h.back.trail_is in
       let long = length-append h.back.newer h.saved.trail in
       let trail_is = r.mid.state.trail_len in
       let left_is = h.state.trail_len in
+      omega arith
+
+  -- to a block
+  to_block : (block : ℕ) → h.routine ≡ t.at_block block → Comes t output (t.at_block block) (back_at x xs m) (6 * (m.state.trail - x.state.trail) + 34) z
+  to_block block e =
+      let go = to_next (t.at_block block) e (subst (λ (y : ℕ). y < 65536) e word_small) in
+      record { there = go.there; count = gone.count + 2; few = few_in_all; leads = go.leads; rep = go.rep }
+
+  -- to a block that takes a gathering out
+  to_taking : (block : ℕ) (into : Value) → h.routine ≡ t.at_block block → Shows h.saved.sh h.next into → TakesAt t output block into (back_at x xs m) (6 * (m.state.trail - x.state.trail) + 34) z
+  to_taking block into e shows =
+      let go = to_next (t.at_block block) e (subst (λ (y : ℕ). y < 65536) e word_small) in
+      let back : go.rep.cells 8 ≡ h.next = go.cells_are 8 (λ q. (omega arith)) ∙ gone.back ∙ field 7 (suc (suc (suc (suc (suc (suc (suc at))))))) h.next (omega arith) h.cells_are.1.1.1.1.1.1.1.0 in
       record {
-        number = w.number;
-        rules_are = w.rules_are;
-        key = h.key;
-        key_is = w.key_is;
-        cut = let q = w.call_is.cut_is in omega (arith, named);
-        there = go.there;
-        count = gone.count + 2;
-        few = omega arith;
-        leads = go.leads;
-        looks = record {
-          rep = go.rep;
-          call_is = subst (λ (s : Shape). CallAt t s go.rep.cells call) (sym go.shape_is) (call_there go.rep.cells go.cells_are);
-          key_is = go.cells_are 11 (λ e. (omega arith)) ∙ gone.key ∙ field 9 (suc (suc (suc (suc (suc (suc (suc (suc (suc at))))))))) h.key (omega arith) cs.1.1.1.1.1.1.1.1.1.0;
-          found_is = go.cells_are 12 (λ e. (omega arith)) ∙ gone.begin;
-        };
-        last_is = go.cells_are 28 (λ e. (omega arith)) ∙ gone.rest 28 (omega arith) (omega arith);
+        comes = record { there = go.there; count = gone.count + 2; few = few_in_all; leads = go.leads; rep = go.rep };
+        into_is = subst (λ (s : Shape). Shows s (go.rep.cells 8) into) (sym go.shape_is) (subst (λ (y : ℕ). Shows h.saved.sh y into) (sym back) shows);
       }
+
+  module _ (call : Call) (rules : List RuleCode) (few : length call.args ≤ 12) (w : CallsIn t h.saved.sh h.routine h.args h.next (at_place x.place.height) h.many h.key x.state.subst call rules) where
+    -- the call in registers
+    call_there : (c' : ℕ → ℕ) → ((k : ℕ) → k ≢ 0 → c' k ≡ gone.cells' k) → CallAt t h.saved.sh c' call
+    call_there c' same =
+        let cs = h.cells_are in
+        let i = w.call_is in
+        let size : length h.args ≡ length call.args = words_length h.saved.sh h.args call.args i.args_are in
+        let ten : suc (suc (suc (suc (suc (suc (suc (suc (suc (suc at))))))))) ≡ at + 10 = omega arith in
+        let row = subst (λ (k : ℕ). CellsAre r.sh k h.args) ten cs.1.1.1.1.1.1.1.1.1.1 in
+        let words : registers gone.cells' 16 (length h.args) ≡ h.args = args_back r.sh r.cells gone.cells' cell_word 16 (at + 10) h.args (λ j lt. gone.args j (omega arith) ∙ (let q : at + (10 + j) ≡ at + 10 + j = omega arith in ap (λ (k : ℕ). r.cells (heap_at + k)) q)) row in
+        let there : registers c' 16 (length call.args) ≡ h.args = registers_same gone.cells' c' 16 (length call.args) (λ j low lt. same j (λ e. (omega arith))) ∙ ap (λ (n : ℕ). registers gone.cells' 16 n) (sym size) ∙ words in
+        let back : c' 8 ≡ h.next = same 8 (λ e. (omega arith)) ∙ gone.back ∙ field 7 (suc (suc (suc (suc (suc (suc (suc at))))))) h.next (omega arith) cs.1.1.1.1.1.1.1.0 in
+        let cut : c' 9 ≡ at_place at = same 9 (λ e. (omega arith)) ∙ gone.cut in
+        let many : c' 10 ≡ h.many = same 10 (λ e. (omega arith)) ∙ gone.many ∙ field 8 (suc (suc (suc (suc (suc (suc (suc (suc at)))))))) h.many (omega arith) cs.1.1.1.1.1.1.1.1.0 in
+        rw (there, back, cut, many) i
+
+    turn : GoneBack t output rules call (first_of x.state.subst call) (r.cells 28) (back_at x xs m) (6 * (m.state.trail - x.state.trail) + 34) z
+    turn =
+        let y = t.p.names.routine w.number in
+        let cs = h.cells_are in
+        let go = to_next y w.routine_is (plays.words w.number) in
+        record {
+          number = w.number;
+          rules_are = w.rules_are;
+          key = h.key;
+          key_is = w.key_is;
+          cut = let q = w.call_is.cut_is in omega (arith, named);
+          there = go.there;
+          count = gone.count + 2;
+          few = few_in_all;
+          leads = go.leads;
+          looks = record {
+            rep = go.rep;
+            call_is = subst (λ (s : Shape). CallAt t s go.rep.cells call) (sym go.shape_is) (call_there go.rep.cells go.cells_are);
+            key_is = go.cells_are 11 (λ e. (omega arith)) ∙ gone.key ∙ field 9 (suc (suc (suc (suc (suc (suc (suc (suc (suc at))))))))) h.key (omega arith) cs.1.1.1.1.1.1.1.1.1.0;
+            found_is = go.cells_are 12 (λ e. (omega arith)) ∙ gone.begin;
+          };
+          last_is = go.cells_are 28 (λ e. (omega arith)) ∙ gone.rest 28 (omega arith) (omega arith);
+        }
 
 pub fail_turns : FailTurns
 fail_turns t plays output m x xs call rules z e way ordered few r =
@@ -132,7 +164,25 @@ fail_turns t plays output m x xs call rules z e way ordered few r =
     let names : ChoicesNamed m.next_tag m.state.heap (x ∷ xs) = subst (ChoicesNamed m.next_tag m.state.heap) e ordered in
     let w : CallsIn t h.saved.sh h.routine h.args h.next (at_place x.place.height) h.many h.key x.state.subst call rules = subst (WayIn t h.saved.sh h.routine h.args h.next (at_place x.place.height) h.many h.key x.state.subst) way h.way in
     let back : m.state.trail - x.state.trail ≡ undone m.choices m = sym (ap (λ (l : List Choice). undone l m) e) in
-    subst (λ (n : ℕ). GoneBack t output rules call (first_of x.state.subst call) (r.cells 28) (back_at x xs m) (6 * n + 34) z) back (turn t plays output m x xs call rules z names.2 few r h w)
+    subst (λ (n : ℕ). GoneBack t output rules call (first_of x.state.subst call) (r.cells 28) (back_at x xs m) (6 * n + 34) z) back (turn t plays output m x xs z names.2 r h call rules few w)
+
+-- ## Blocks
+
+pub back_turns : BackTurns
+back_turns = record {
+  goes = λ t plays output m x xs block z e way ordered r.
+      let h : ChoicesIn t r.sh r.cells r.trail (r.cells 5) (x ∷ xs) = subst (ChoicesIn t r.sh r.cells r.trail (r.cells 5)) e r.mid.choices in
+      let names : ChoicesNamed m.next_tag m.state.heap (x ∷ xs) = subst (ChoicesNamed m.next_tag m.state.heap) e ordered in
+      let w : h.routine ≡ t.at_block block = subst (WayIn t h.saved.sh h.routine h.args h.next (at_place x.place.height) h.many h.key x.state.subst) way h.way in
+      let back : m.state.trail - x.state.trail ≡ undone m.choices m = sym (ap (λ (l : List Choice). undone l m) e) in
+      subst (λ (n : ℕ). Comes t output (t.at_block block) (back_at x xs m) (6 * n + 34) z) back (to_block t plays output m x xs z names.2 r h block w);
+  takes = λ t plays output m x xs block into z e way ordered r.
+      let h : ChoicesIn t r.sh r.cells r.trail (r.cells 5) (x ∷ xs) = subst (ChoicesIn t r.sh r.cells r.trail (r.cells 5)) e r.mid.choices in
+      let names : ChoicesNamed m.next_tag m.state.heap (x ∷ xs) = subst (ChoicesNamed m.next_tag m.state.heap) e ordered in
+      let w : (h.routine ≡ t.at_block block) × Shows h.saved.sh h.next into = subst (WayIn t h.saved.sh h.routine h.args h.next (at_place x.place.height) h.many h.key x.state.subst) way h.way in
+      let back : m.state.trail - x.state.trail ≡ undone m.choices m = sym (ap (λ (l : List Choice). undone l m) e) in
+      subst (λ (n : ℕ). TakesAt t output block into (back_at x xs m) (6 * n + 34) z) back (to_taking t plays output m x xs z names.2 r h block into w.0 w.1);
+}
 
 -- ## Without a choice
 

@@ -30,5 +30,6 @@ pub mod EqualTurn
 pub mod CommitTurn
 pub mod AskTurn
 pub mod FailTurn
+pub mod BranchTurn
 pub mod Begun
 pub mod Paid

@@ -1,11 +1,11 @@
 -- Where the routines stand that turns call.
 use Rattle.std.proofs.Common.{◌≡◌, Some, refl}
 use Rattle.z_lang.specs.State.{Program}
-use Rattle.dg_rt.specs.declared.numbers.TheConstants.{CHARGE, VAR, ENTER, FAIL, FAILED, CAPTURE, COMMIT, KEY_OF, FOUND, NONE, MATCH, MATCHED}
+use Rattle.dg_rt.specs.declared.numbers.TheConstants.{CHARGE, VAR, ENTER, OPEN, FAIL, FAILED, CAPTURE, COMMIT, KEY_OF, FOUND, NONE, MATCH, MATCHED}
 use Rattle.dg_rt.specs.declared.closings.TheConstants.{FAILED_ACTS}
 use Rattle.dg_rt.specs.declared.heap.TheConstants.{CHARGE_ACTS}
 use Rattle.dg_rt.specs.declared.frames.TheConstants.{VAR_ACTS, CAPTURE_ACTS, ENTER_ACTS}
-use Rattle.dg_rt.specs.declared.choices.TheConstants.{FAIL_ACTS, COMMIT_ACTS}
+use Rattle.dg_rt.specs.declared.choices.TheConstants.{OPEN_ACTS, FAIL_ACTS, COMMIT_ACTS}
 use Rattle.dg_rt.specs.declared.rules.TheConstants.{KEY_OF_ACTS, FOUND_ACTS, NONE_ACTS, MATCH_ACTS, MATCHED_ACTS}
 use Rattle.dg_rt.specs.RunTime.{routine_of, HasRunTime}
 
@@ -21,6 +21,9 @@ module _ (p : Program) (has : HasRunTime p) where
 
   pub enter_at : p.routine_at (p.names.routine ENTER) ≡ Some (routine_of 4 ENTER_ACTS)
   enter_at = has.each 17 (routine_of 4 ENTER_ACTS) refl
+
+  pub open_at : p.routine_at (p.names.routine OPEN) ≡ Some (routine_of 5 OPEN_ACTS)
+  open_at = has.each 19 (routine_of 5 OPEN_ACTS) refl
 
   pub fail_at : p.routine_at (p.names.routine FAIL) ≡ Some (routine_of 4 FAIL_ACTS)
   fail_at = has.each 20 (routine_of 4 FAIL_ACTS) refl

@@ -5,4 +5,5 @@ pub mod Terms
 pub mod Turns
 pub mod Rules
 pub mod Queries
+pub mod Choices
 pub mod Paid

@@ -90,7 +90,8 @@ pub record FoundTurns : Type 0 where
 -- A choice is opened where there is room for it, and the rule that was found is entered; else the heap's limit is met.
 pub record OpensTo (t : Telling) (output : List ℕ) (next : ℕ) (call : Call) (rules : List RuleCode) (last : ℕ) (m : Mid) (most : ℕ)
     (z : ZState) : Type 0 where
-  pub opens : m.state.heap + (10 + length call.args) ≤ 10000 → EntersAt t output next call (inside (Calls call rules) (length call.args) m) most z
+  pub opens : m.state.heap + (10 + length call.args) ≤ 10000 →
+      EntersAt t output next call (inside (Calls call rules) (length call.args) m) most z
   pub meets : 10000 < m.state.heap + (10 + length call.args) → Closes t output last HeapLimit (most + closing_most) z
 
 -- What comes of rules of which these aren't excluded, the first and those behind it: it fails, the only one is entered, or a choice of the others is

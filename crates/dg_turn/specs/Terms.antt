@@ -182,14 +182,16 @@ pub record Wrote (t : Telling) (f w : ℕ) (body rest all : List Act) (sh : Shap
   pub grown : Grown sh sh'
   pub mid : MidIn t sh' cells' trail (more n m)
   pub words : WordsIn sh' (registers cells' (v - 16) (length vs)) vs
-  pub others : (k : ℕ) → k ≢ heap_reg → k ≢ term_reg → k ≢ word_reg → (v ≤ k + 16 → v + length vs ≤ k + 16) → k < heap_at → cells' k ≡ cells k
+  pub others : (k : ℕ) → k ≢ heap_reg → k ≢ term_reg → k ≢ word_reg → (v ≤ k + 16 → v + length vs ≤ k + 16) → k < heap_at →
+      cells' k ≡ cells k
   pub count : ℕ
   pub few : count ≤ most
   pub runs : (o : ActsOutcome) (s' : State) (k : ℕ) → ActsRun t.p f w body rest (state memory' [] typed drawn output) o s' k →
       ActsRun t.p f w body all (state memory [] typed drawn output) o s' (steps count k)
 
 -- Acts met the heap's limit: its closing ends the run, in so many instructions and those of the closing.
-pub record Meets (t : Telling) (f w : ℕ) (body all : List Act) (memory typed output : List ℕ) (drawn : ℕ) (cells : ℕ → ℕ) (most : ℕ) : Type 0 where
+pub record Meets (t : Telling) (f w : ℕ) (body all : List Act) (memory typed output : List ℕ) (drawn : ℕ) (cells : ℕ → ℕ)
+    (most : ℕ) : Type 0 where
   pub memory' : List ℕ
   pub locals' : List ℕ
   pub count : ℕ

@@ -1,4 +1,5 @@
 // What the code of a story does to its memory: each function's clause is a law.
+ghost use Rattle.dg_turn.specs.Choices.{BackTurns, BranchTurns};
 ghost use Rattle.dg_turn.specs.Paid.{TurnsArePaid};
 ghost use Rattle.dg_turn.specs.Queries.{AskBegins, AskTurns, FailBegins, FailEnds, FailTurns};
 ghost use Rattle.dg_turn.specs.Rules.{BeginTurns, FoundTurns, NoneTurns, SelectTurns};
@@ -68,6 +69,16 @@ pub fn fail_begins()
 /// A failure without a choice ends the run.
 pub fn fail_ends()
     ensures { FailEnds }
+{}
+
+/// Opening a choice of a block is a turn, with an inner construct or without.
+pub fn branch_turns()
+    ensures { BranchTurns }
+{}
+
+/// Going back to a choice of a block is a turn.
+pub fn back_turns()
+    ensures { BackTurns }
 {}
 
 /// What the turns cost is paid for.

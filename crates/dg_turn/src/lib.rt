@@ -4,6 +4,7 @@
 mod laws;
 
 pub use laws::{
-    ask_begins, ask_turns, begin_turns, commit_turns, enter_turns, equal_turns, fail_begins,
-    fail_ends, fail_turns, found_turns, none_turns, select_turns, terms_work, turns_are_paid,
+    ask_begins, ask_turns, back_turns, begin_turns, branch_turns, commit_turns, enter_turns,
+    equal_turns, fail_begins, fail_ends, fail_turns, found_turns, none_turns, select_turns,
+    terms_work, turns_are_paid,
 };
