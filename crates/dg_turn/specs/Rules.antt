@@ -96,7 +96,8 @@ pub record OpensTo (t : Telling) (output : List ℕ) (next : ℕ) (call : Call) 
 
 -- What comes of rules of which these aren't excluded, the first and those behind it: it fails, the only one is entered, or a choice of the others is
 -- opened and the first is entered.
-abbrev pub BegunTo : Telling → (output : List ℕ) → Call → List RuleCode → List RuleCode → (last : ℕ) → Mid → (most : ℕ) → ZState → Type 0
+abbrev pub BegunTo : Telling → (output : List ℕ) → Call → List RuleCode → List RuleCode → (last : ℕ) → Mid → (most : ℕ) → ZState →
+    Type 0
 BegunTo t output call [] others last m most z = Comes t output (t.p.names.routine FAIL) m most z
 BegunTo t output call (r ∷ rs) [] last m most z = EntersAt t output (t.at_block r.block) call m most z
 BegunTo t output call (r ∷ rs) (q ∷ qs) last m most z = OpensTo t output (t.at_block r.block) call (q ∷ qs) last m most z
