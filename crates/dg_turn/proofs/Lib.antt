@@ -31,5 +31,6 @@ pub mod CommitTurn
 pub mod AskTurn
 pub mod FailTurn
 pub mod BranchTurn
+pub mod OnceTurn
 pub mod Begun
 pub mod Paid

@@ -1,6 +1,7 @@
 -- A machine stands in memory whose registers have changed.
-use Rattle.std.proofs.Common.{◌≡◌, ◌≢◌, ℕ, ◌+◌, ◌<◌, ◌≤◌, List, sym, ◌∙◌, subst, arith}
-use Rattle.dg_mid.specs.State.{Place, Frame, Mid}
+use Rattle.std.proofs.Common.{◌≡◌, ◌≢◌, ℕ, ◌+◌, ◌<◌, ◌≤◌, List, sym, ap, ◌∙◌, subst, arith}
+use Rattle.dg_unify.specs.Store.{State}
+use Rattle.dg_mid.specs.State.{Place, Frame, Choice, Mid}
 use Rattle.dg_rt.specs.Areas.{heap_at, trail_at}
 use Rattle.dg_rt.specs.Shapes.{Shape}
 use Rattle.dg_rt.proofs.Backs.{grown_none, back_grown, trail_stays}
@@ -45,3 +46,25 @@ mid_same t sh cells cells' trail m same h =
     (subst (λ (x : ℕ). FramesIn t sh x m.frames) (sym (low 4 (λ e. (omega arith)) (omega arith))) h.frames)
     (subst (λ (x : ℕ). InnersIn sh x m.inner) (sym (low 6 (λ e. (omega arith)) (omega arith))) h.inner)
     h
+
+-- Memory stands for a machine with other code, and with other parts that it has no words for.
+pub mid_alike : (t : Telling) (sh : Shape) (cells : ℕ → ℕ) (trail : List ℕ) (m m' : Mid) → m'.state ≡ m.state → m'.frames ≡ m.frames → m'.inner ≡ m.inner → m'.choices ≡ m.choices → MidIn t sh cells trail m → MidIn t sh cells trail m'
+mid_alike t sh cells trail m m' s f i c h =
+    let same : record m' { state = m.state; frames = m.frames; inner = m.inner; choices = m.choices } ≡ m' = parts (sym s) (sym f) (sym i) (sym c) in
+    subst (MidIn t sh cells trail) same (record {
+      heap = h.heap;
+      height = h.height;
+      state = h.state;
+      on_trail = h.on_trail;
+      frames = h.frames;
+      choices = h.choices;
+      hb = h.hb;
+      mark = h.mark;
+      marked = h.marked;
+      under = h.under;
+      inner = h.inner;
+    })
+  where
+    parts : m.state ≡ m'.state → m.frames ≡ m'.frames → m.inner ≡ m'.inner → m.choices ≡ m'.choices → record m' { state = m.state; frames = m.frames; inner = m.inner; choices = m.choices } ≡ m'
+    parts a b d e = ap (λ (x : State). record m' { state = x; frames = m.frames; inner = m.inner; choices = m.choices }) a ∙ ap (λ (x : List Frame). record m' { frames = x; inner = m.inner; choices = m.choices }) b
+        ∙ ap (λ (x : List Place). record m' { inner = x; choices = m.choices }) d ∙ ap (λ (x : List Choice). record m' { choices = x }) e

@@ -146,6 +146,17 @@ pub record EqualTurns : Type 0 where
       2000 < trail_more m.state (equal_unified t.program a b m) →
       Closes t output (e.rep.cells last_reg) TrailLimit (equal_most t.program a b m + closing_most) z
 
+-- ## It goes on
+
+-- The routine of an instruction that only goes on, at a block or at the routine that fails.
+abbrev pub goto_routine : ℕ → Routine
+goto_routine next = routine_of 0 (acts.Return (atoms.Routine next) ∷ [])
+
+-- In one turn it goes on: `does` of a `Goto`, of a `Take` and of a `Back`.
+abbrev pub GotoTurns : Type 0
+GotoTurns = (t : Telling) → Playing t → (output : List ℕ) (x next : ℕ) (m : Mid) (z : ZState) →
+    t.p.routine_at x ≡ Some (goto_routine next) → Represented t output x m z → Comes t output (t.p.names.routine next) m 3 z
+
 -- ## An inner construct is left
 
 -- The routine that leaves it and goes on there.

@@ -1,10 +1,10 @@
 // What the code of a story does to its memory: each function's clause is a law.
-ghost use Rattle.dg_turn.specs.Choices.{BackTurns, BranchTurns};
+ghost use Rattle.dg_turn.specs.Choices.{BackTurns, BranchTurns, OnceTurns};
 ghost use Rattle.dg_turn.specs.Paid.{TurnsArePaid};
 ghost use Rattle.dg_turn.specs.Queries.{AskBegins, AskTurns, FailBegins, FailEnds, FailTurns};
 ghost use Rattle.dg_turn.specs.Rules.{BeginTurns, FoundTurns, NoneTurns, SelectTurns};
 ghost use Rattle.dg_turn.specs.Terms.{TermsWork};
-ghost use Rattle.dg_turn.specs.Turns.{CommitTurns, EnterTurns, EqualTurns};
+ghost use Rattle.dg_turn.specs.Turns.{CommitTurns, EnterTurns, EqualTurns, GotoTurns};
 
 /// Terms are written on the heap, or its limit is met.
 pub fn terms_work()
@@ -19,6 +19,11 @@ pub fn enter_turns()
 /// Unifying two terms is a turn.
 pub fn equal_turns()
     ensures { EqualTurns }
+{}
+
+/// Code that only goes on is a turn.
+pub fn goto_turns()
+    ensures { GotoTurns }
 {}
 
 /// Leaving an inner construct is a turn.
@@ -74,6 +79,11 @@ pub fn fail_ends()
 /// Opening a choice of a block is a turn, with an inner construct or without.
 pub fn branch_turns()
     ensures { BranchTurns }
+{}
+
+/// Beginning an inner construct without a choice is a turn.
+pub fn once_turns()
+    ensures { OnceTurns }
 {}
 
 /// Going back to a choice of a block is a turn.
