@@ -32,5 +32,7 @@ pub mod AskTurn
 pub mod FailTurn
 pub mod BranchTurn
 pub mod OnceTurn
+pub mod AtFrame
+pub mod ReturnTurn
 pub mod Begun
 pub mod Paid

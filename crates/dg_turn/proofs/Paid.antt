@@ -11,7 +11,7 @@ use Rattle.dg_mid.specs.declared.code.Op.TheVariants as op
 use Rattle.dg_mid.specs.declared.code.RuleCode.{RuleCode}
 use Rattle.dg_mid.specs.State.{Place, Call, Calls, Mid, Enters, Runs, Resumes, Fails}
 use Rattle.dg_mid.specs.Step.{Setting}
-use Rattle.dg_mid.specs.Units.{units_of, selects_at, entering, dropped_in, dropped, undone}
+use Rattle.dg_mid.specs.Units.{units_of, selects_at, entering, dropped_in, dropped, dropped_once, undone}
 use Rattle.dg_turn.specs.Terms.{IsNode, AreNodes, capturing, all_capturing}
 use Rattle.dg_turn.specs.Turns.{entering_most, equal_most}
 use Rattle.dg_turn.specs.Queries.{asking_most}
@@ -50,6 +50,9 @@ fail_is_paid g ps m = omega arith
 commit_is_paid : (g : Setting) (ps : List Print) (m : Mid) (place : Place) (places : List Place) (ops : List Op) → m.ops ≡ op.Commit ∷ ops → m.inner ≡ place ∷ places → 4 * dropped place m.choices + 15 ≤ paid g ps (Runs m)
 commit_is_paid g ps m place places ops e i = let k = ap (λ (l : List Op). units_of g ps l m) e in let d = ap (λ (l : List Place). dropped_in l m.choices) i in omega arith
 
+return_is_paid : (g : Setting) (ps : List Print) (m : Mid) (ops : List Op) → m.ops ≡ op.Return ∷ ops → 4 * dropped_once m.frames m.choices + 20 ≤ paid g ps (Runs m)
+return_is_paid g ps m ops e = let k = ap (λ (l : List Op). units_of g ps l m) e in omega arith
+
 pub turns_are_paid : TurnsArePaid
 turns_are_paid = record {
   enter = λ g ps call m vars head ops e nodes few short. enter_is_paid g ps call m vars head ops e nodes few short;
@@ -58,4 +61,5 @@ turns_are_paid = record {
   begin = λ g ps m call rules few. begin_is_paid g ps m call rules few;
   fail = λ g ps m. fail_is_paid g ps m;
   commit = λ g ps m place places ops e i. commit_is_paid g ps m place places ops e i;
+  returned = λ g ps m ops e. return_is_paid g ps m ops e;
 }

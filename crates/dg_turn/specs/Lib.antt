@@ -6,4 +6,5 @@ pub mod Turns
 pub mod Rules
 pub mod Queries
 pub mod Choices
+pub mod Leaving
 pub mod Paid

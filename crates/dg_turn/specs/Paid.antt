@@ -10,7 +10,7 @@ use Rattle.dg_mid.specs.declared.code.Op.TheVariants as op
 use Rattle.dg_mid.specs.declared.code.RuleCode.{RuleCode}
 use Rattle.dg_mid.specs.State.{Place, Call, Calls, Mid, Status, Runs, Enters, Resumes, Fails}
 use Rattle.dg_mid.specs.Step.{Setting}
-use Rattle.dg_mid.specs.Units.{units, selects, dropped, undone}
+use Rattle.dg_mid.specs.Units.{units, selects, dropped, dropped_once, undone}
 use Rattle.dg_turn.specs.Terms.{AreNodes}
 use Rattle.dg_turn.specs.Turns.{entering_most, equal_most}
 use Rattle.dg_turn.specs.Queries.{asking_most}
@@ -20,7 +20,7 @@ abbrev pub paid : Setting → List Print → Status → ℕ
 paid g ps now = 800 * units g ps now + 9000 * selects now
 
 -- The costs of a rule of at most 300 variables and 12 parameters, of an equation, of a query of at most 2,200 rules, of going on with as many, of going
--- back, and of leaving an inner construct, as the turns have them, are paid for.
+-- back, of leaving an inner construct, and of answering a rule, as the turns have them, are paid for.
 pub record TurnsArePaid : Type 0 where
   pub enter : (g : Setting) (ps : List Print) (call : Call) (m : Mid) (vars : ℕ) (head : List Term) (ops : List Op) →
       m.ops ≡ op.Enter vars head ∷ ops → AreNodes g.game.program (nodes_of head) → vars ≤ 300 → length head ≤ 12 →
@@ -35,3 +35,5 @@ pub record TurnsArePaid : Type 0 where
   pub fail : (g : Setting) (ps : List Print) (m : Mid) → 6 * undone m.choices m + 34 ≤ paid g ps (Fails m)
   pub commit : (g : Setting) (ps : List Print) (m : Mid) (place : Place) (places : List Place) (ops : List Op) → m.ops ≡ op.Commit ∷ ops →
       m.inner ≡ place ∷ places → 4 * dropped place m.choices + 15 ≤ paid g ps (Runs m)
+  pub returned : (g : Setting) (ps : List Print) (m : Mid) (ops : List Op) → m.ops ≡ op.Return ∷ ops →
+      4 * dropped_once m.frames m.choices + 20 ≤ paid g ps (Runs m)

@@ -1,5 +1,6 @@
 // What the code of a story does to its memory: each function's clause is a law.
 ghost use Rattle.dg_turn.specs.Choices.{BackTurns, BranchTurns, OnceTurns};
+ghost use Rattle.dg_turn.specs.Leaving.{JustTurns, ReturnTurns};
 ghost use Rattle.dg_turn.specs.Paid.{TurnsArePaid};
 ghost use Rattle.dg_turn.specs.Queries.{AskBegins, AskTurns, FailBegins, FailEnds, FailTurns};
 ghost use Rattle.dg_turn.specs.Rules.{BeginTurns, FoundTurns, NoneTurns, SelectTurns};
@@ -29,6 +30,16 @@ pub fn goto_turns()
 /// Leaving an inner construct is a turn.
 pub fn commit_turns()
     ensures { CommitTurns }
+{}
+
+/// Cutting the choices of the rule at hand is a turn.
+pub fn just_turns()
+    ensures { JustTurns }
+{}
+
+/// Answering a rule is a turn.
+pub fn return_turns()
+    ensures { ReturnTurns }
 {}
 
 /// Rules that an argument excludes are passed over, each in a turn.
