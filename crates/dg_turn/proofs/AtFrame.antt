@@ -1,5 +1,5 @@
 -- The cells of the newest frame are read, choices are cut to its place, and it is left.
-use Rattle.std.proofs.Common.{◌≡◌, ◌≢◌, ℕ, suc, ◌+◌, ◌-◌, ◌*◌, ◌<◌, ◌≤◌, List, [], ◌∷◌, drop, length, None, refl, sym, ap, ◌∙◌, subst, arith}
+use Rattle.std.proofs.Common.{◌≡◌, ◌≢◌, ℕ, suc, ◌+◌, ◌-◌, ◌*◌, ◌<◌, ◌≤◌, List, [], ◌∷◌, drop, None, refl, sym, ap, ◌∙◌, subst, arith}
 use Rattle.dg_mid.specs.State.{Frame, Mid}
 use Rattle.dg_mid.specs.Step.{cut_to}
 use Rattle.dg_mid.specs.Units.{dropped}

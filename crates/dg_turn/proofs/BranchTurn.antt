@@ -1,14 +1,13 @@
 -- A choice of a block is opened: one turn of the story.
-use Rattle.std.proofs.Common.{◌≡◌, ◌≢◌, ℕ, suc, ◌+◌, ◌<◌, ◌≤◌, List, [], ◌∷◌, length, Some, None, refl, sym, ap, ◌∙◌, subst, arith}
+use Rattle.std.proofs.Common.{◌≡◌, ℕ, suc, ◌+◌, ◌<◌, ◌≤◌, List, [], ◌∷◌, length, refl, sym, ap, ◌∙◌, subst, arith}
 use Rattle.dg_base.specs.declared.run.Ending.TheVariants.{HeapLimit}
 use Rattle.dg_mid.specs.State.{Goes, Mid, place_of}
 use Rattle.dg_mid.specs.Step.{inside, within}
 use Rattle.z_model.specs.Run.{ZState}
 use Rattle.z_lang.specs.declared.act.Routine.{Routine}
 use Rattle.z_lang.specs.Runs.{calls, calls_last, returns}
-use Rattle.dg_rt.specs.declared.numbers.TheConstants.{OPEN}
 use Rattle.dg_rt.specs.Cells.{with_cell, replaced}
-use Rattle.dg_rt.specs.Areas.{heap_at, trail_at, state}
+use Rattle.dg_rt.specs.Areas.{trail_at, state}
 use Rattle.dg_rt.specs.Shapes.{Cell}
 use Rattle.dg_rt.specs.Back.{at_place}
 use Rattle.dg_rt.specs.Frames.{RowIs}
@@ -18,7 +17,7 @@ use Rattle.dg_rt.proofs.Cells.{other_cell, same_cell}
 use Rattle.dg_rt.proofs.Following.{puts}
 use Rattle.dg_rt.proofs.Opening.{open_works}
 use Rattle.dg_turn.specs.Told.{Telling}
-use Rattle.dg_turn.specs.Lies.{FramesIn, InnersIn, MidIn}
+use Rattle.dg_turn.specs.Lies.{FramesIn, InnersIn}
 use Rattle.dg_turn.specs.Plays.{Playing, Represented, Comes, Closes}
 use Rattle.dg_turn.specs.Choices.{branch_routine, try_routine, OpensAt, BranchTurns}
 use Rattle.dg_turn.proofs.Standing.{open_at}

@@ -1,5 +1,5 @@
 -- An inner construct without a choice is begun, and code that only goes on: turns of the story.
-use Rattle.std.proofs.Common.{◌≡◌, ◌≢◌, ℕ, suc, ◌+◌, ◌-◌, ◌*◌, ◌%◌, ◌<◌, ◌≤◌, inl, inr, List, [], ◌∷◌, Some, None, refl, sym, ap, ◌∙◌, subst, arith}
+use Rattle.std.proofs.Common.{◌≡◌, ℕ, suc, ◌+◌, ◌*◌, ◌%◌, ◌<◌, ◌≤◌, List, [], ◌∷◌, Some, refl, sym, ap, ◌∙◌, subst, arith}
 use Rattle.dg_base.specs.declared.run.Ending.TheVariants.{HeapLimit}
 use Rattle.dg_mid.specs.State.{Mid, place_of}
 use Rattle.dg_mid.specs.Step.{more, passed, within}
@@ -11,7 +11,7 @@ use Rattle.z_lang.specs.State.{State}
 use Rattle.z_lang.specs.Runs.{done, calls, calls_last, returns}
 use Rattle.dg_rt.specs.Cells.{at_cell, with_cell, replaced, Holds}
 use Rattle.dg_rt.specs.Areas.{heap_at, state}
-use Rattle.dg_rt.specs.Shapes.{Shape, Cell}
+use Rattle.dg_rt.specs.Shapes.{Cell}
 use Rattle.dg_rt.specs.Back.{at_place}
 use Rattle.dg_rt.specs.Charges.{Charged}
 use Rattle.dg_rt.specs.Closings.{closing_most}

@@ -1,30 +1,25 @@
 -- A rule cuts, or is answered: turns of the story.
-use Rattle.std.proofs.Common.{◌≡◌, ◌≢◌, ℕ, suc, ◌+◌, ◌-◌, ◌*◌, ◌%◌, ◌<◌, ◌≤◌, Bool, true, false, List, [], ◌∷◌, drop, length, Some, None, refl, sym, ap, ◌∙◌, subst, arith}
+use Rattle.std.proofs.Common.{◌≡◌, ℕ, suc, ◌+◌, ◌*◌, ◌%◌, ◌<◌, Bool, true, false, List, [], ◌∷◌, drop, length, Some, refl, sym, ap, ◌∙◌, subst, arith}
 use Rattle.std.specs.Prelude.{if◌then◌else◌}
 use Rattle.std.proofs.lemmas.Bool.{eq-eqb, ne_eqb}
-use Rattle.dg_mid.specs.State.{Frame, Choice, Mid}
+use Rattle.dg_mid.specs.State.{Frame, Mid}
 use Rattle.dg_mid.specs.Step.{Setting, cut_to, returned}
 use Rattle.dg_mid.specs.Units.{dropped, dropped_once}
 use Rattle.dg_mid.specs.Heights.{IsNamed}
 use Rattle.z_model.specs.Run.{ZState}
-use Rattle.z_lang.specs.declared.act.Act.{Act}
-use Rattle.z_lang.specs.declared.act.Act.TheVariants as acts
-use Rattle.z_lang.specs.declared.act.Args.TheVariants as args
 use Rattle.z_lang.specs.declared.act.Atom.TheVariants as atoms
 use Rattle.z_lang.specs.declared.act.Comparison.TheVariants as comparisons
 use Rattle.z_lang.specs.declared.act.Function.TheVariants as functions
 use Rattle.z_lang.specs.State.{State}
-use Rattle.z_lang.specs.Runs.{ActsRun, ActsOutcome, Returns, at_label, taken, passed, done, calls, returns, behind_label}
-use Rattle.dg_rt.specs.Cells.{with_cell, replaced, Holds}
+use Rattle.z_lang.specs.Runs.{ActsRun, ActsOutcome, Returns, at_label, taken, passed, done, returns, behind_label}
+use Rattle.dg_rt.specs.Cells.{with_cell, replaced}
 use Rattle.dg_rt.specs.Areas.{heap_at, state}
-use Rattle.dg_rt.specs.Shapes.{Shape, Cell}
-use Rattle.dg_rt.specs.Back.{at_place}
 use Rattle.dg_rt.specs.RunTime.{routine_of}
 use Rattle.dg_rt.proofs.CaptureSteps.{leaves}
 use Rattle.dg_rt.proofs.Cells.{other_cell, same_cell}
-use Rattle.dg_rt.proofs.Following.{IsPut, word as word_is, tested, computes, register, puts}
+use Rattle.dg_rt.proofs.Following.{word as word_is, tested, computes, register, puts}
 use Rattle.dg_turn.specs.Told.{Telling}
-use Rattle.dg_turn.specs.Lies.{bit_of, FramesIn, InnersIn, MidIn}
+use Rattle.dg_turn.specs.Lies.{bit_of, FramesIn, MidIn}
 use Rattle.dg_turn.specs.Plays.{Playing, Represented, Comes}
 use Rattle.dg_turn.specs.Leaving.{just_routine, return_acts, JustTurns, ReturnTurns}
 use Rattle.dg_turn.proofs.Environment.{bit_few}
