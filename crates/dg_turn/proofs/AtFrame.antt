@@ -26,7 +26,7 @@ use Rattle.dg_turn.specs.Leaving.{field_act, leaving_acts}
 use Rattle.dg_turn.proofs.Staying.{mid_with, mid_same}
 use Rattle.dg_turn.proofs.Cutting.{places_of, chained, fallen_is, cut_in}
 
-module _ (t : Telling) (has : HasRunTime t.p) (typed output : List ℕ) (drawn : ℕ) (sh : Shape) (begun : ℕ → ℕ) (trail : List ℕ) (m : Mid) (start : MidIn t sh begun trail m) (f : Frame) (fs : List Frame) (h : FramesIn t sh (begun 4) (f ∷ fs)) where
+module _ (t : Telling) (has : HasRunTime t.p) (ff ww : ℕ) (typed output : List ℕ) (drawn : ℕ) (sh : Shape) (begun : ℕ → ℕ) (trail : List ℕ) (m : Mid) (start : MidIn t sh begun trail m) (f : Frame) (fs : List Frame) (h : FramesIn t sh (begun 4) (f ∷ fs)) where
   abbrev pub now : List ℕ → State
   now memory = state memory [] typed drawn output
 
@@ -47,7 +47,7 @@ module _ (t : Telling) (has : HasRunTime t.p) (typed output : List ℕ) (drawn :
   -- one of them is put into a register
   pub record Reads (body rest : List Act) (v i y : ℕ) (memory : List ℕ) (c : ℕ → ℕ) : Type 0 where
     pub holds : Holds t.p.world.layout (with_cell memory (v - 16) y) (replaced c (v - 16) y)
-    pub runs : (o : ActsOutcome) (s' : State) (k : ℕ) → ActsRun t.p 3500 19000 body rest (now (with_cell memory (v - 16) y)) o s' k → ActsRun t.p 3500 19000 body (field_act v i ∷ rest) (now memory) o s' (suc k)
+    pub runs : (o : ActsOutcome) (s' : State) (k : ℕ) → ActsRun t.p ff ww body rest (now (with_cell memory (v - 16) y)) o s' k → ActsRun t.p ff ww body (field_act v i ∷ rest) (now memory) o s' (suc k)
 
   pub reads : (body rest : List Act) (v i y : ℕ) (memory : List ℕ) (c : ℕ → ℕ) → Framed memory c → 16 ≤ v → v < 240 → i < 6 → Cell sh (at + i) y → Reads body rest v i y memory c
   reads body rest v i y memory c b low lt few cell =
@@ -82,10 +82,10 @@ module _ (t : Telling) (has : HasRunTime t.p) (typed output : List ℕ) (drawn :
     pub mid : MidIn t sh cells' trail (cut_to f.cut m')
     pub count : ℕ
     pub few : count ≤ 4 * dropped f.cut m'.choices + 5
-    pub runs : (o : ActsOutcome) (s' : State) (k : ℕ) → ActsRun t.p 3500 19000 body rest (now memory') o s' k → ActsRun t.p 3500 19000 body all (now memory) o s' (count + k)
+    pub runs : (o : ActsOutcome) (s' : State) (k : ℕ) → ActsRun t.p ff ww body rest (now memory') o s' k → ActsRun t.p ff ww body all (now memory) o s' (count + k)
 
-  pub cuts : (body rest : List Act) (memory : List ℕ) (c : ℕ → ℕ) → Framed memory c → MidIn t sh c trail m → IsNamed m.next_tag m.state.heap m.choices f.cut → CutsTo body rest (field_act 52 2 ∷ acts.Call None (atoms.Routine 19) (args.One (atoms.Var 52)) ∷ rest) memory m
-  cuts body rest memory c b mid is_named =
+  pub cuts : 0 < ff → 1 ≤ ww → (body rest : List Act) (memory : List ℕ) (c : ℕ → ℕ) → Framed memory c → MidIn t sh c trail m → IsNamed m.next_tag m.state.heap m.choices f.cut → CutsTo body rest (field_act 52 2 ∷ acts.Call None (atoms.Routine 19) (args.One (atoms.Var 52)) ∷ rest) memory m
+  cuts some enough body rest memory c b mid is_named =
       let high = has.mapped.room in
       let call_on = acts.Call None (atoms.Routine 19) (args.One (atoms.Var 52)) ∷ rest in
       let to = at_place f.cut.height in
@@ -110,7 +110,7 @@ module _ (t : Telling) (has : HasRunTime t.p) (typed output : List ℕ) (drawn :
         mid = cut_in t sh c1 k.cells' trail m f.cut is_named.agrees k.others mid1 k.chain;
         count = suc (suc k.count);
         few = omega arith;
-        runs = λ o s' n rest'. subst (ActsRun t.p 3500 19000 body (field_act 52 2 ∷ call_on) (now memory) o s') (let sum : suc (suc k.count + n) ≡ suc (suc k.count) + n = omega arith in sum)
+        runs = λ o s' n rest'. subst (ActsRun t.p ff ww body (field_act 52 2 ∷ call_on) (now memory) o s') (let sum : suc (suc k.count + n) ≡ suc (suc k.count) + n = omega arith in sum)
             (q.runs o s' (suc k.count + n) (calls {f' = 0} {w' = 0} {n = k.count} {n' = n} {xs = (to, 0, 0)} {s2 = now k.memory'} refl (rw (register t.p (now memory1) c1 52 b1.holds (omega arith) (omega arith) (omega arith), same_cell c 36 to) refl) (cut_at t.p has) (omega arith) (omega arith) k.runs refl rest'));
       }
 
@@ -122,7 +122,7 @@ module _ (t : Telling) (has : HasRunTime t.p) (typed output : List ℕ) (drawn :
     pub cells' : ℕ → ℕ
     pub holds : Holds t.p.world.layout memory' cells'
     pub mid : MidIn t sh cells' trail (record m' { frames = fs; inner = f.inner })
-    pub runs : ActsRun t.p 3500 19000 body leaving_acts (now memory) (Returns (t.at_block f.next)) (now memory') 4
+    pub runs : ActsRun t.p ff ww body leaving_acts (now memory) (Returns (t.at_block f.next)) (now memory') 4
 
   pub leave : (body : List Act) (memory : List ℕ) (c : ℕ → ℕ) (m' : Mid) → Framed memory c → MidIn t sh c trail m' → Leaves body memory m'
   leave body memory c m' b mid =

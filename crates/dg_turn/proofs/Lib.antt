@@ -34,5 +34,6 @@ pub mod BranchTurn
 pub mod OnceTurn
 pub mod AtFrame
 pub mod ReturnTurn
+pub mod LastTurn
 pub mod Begun
 pub mod Paid

@@ -40,6 +40,9 @@ equal_is_paid g ps m a b ops e nodes = let k = ap (λ (l : List Op). units_of g 
 ask_is_paid : (g : Setting) (ps : List Print) (m : Mid) (pred : ℕ) (ts : List Term) (many : Bool) (next : ℕ) (rules : List RuleCode) (ops : List Op) → m.ops ≡ op.Ask pred ts many next ∷ ops → AreNodes g.game.program (nodes_of ts) → length rules ≤ 2200 → asking_most g.game.program ts m + 4 * length rules + 70 ≤ paid g ps (Runs m)
 ask_is_paid g ps m pred ts many next rules ops e nodes few = let k = ap (λ (l : List Op). units_of g ps l m) e in let s = ap selects_at e in let c = all_few g.game.program (nodes_of ts) nodes in omega arith
 
+last_is_paid : (g : Setting) (ps : List Print) (m : Mid) (pred : ℕ) (ts : List Term) (many : Bool) (rules : List RuleCode) (ops : List Op) → m.ops ≡ op.LastAsk pred ts many ∷ ops → AreNodes g.game.program (nodes_of ts) → length rules ≤ 2200 → asking_most g.game.program ts m + 4 * length rules + 70 ≤ paid g ps (Runs m)
+last_is_paid g ps m pred ts many rules ops e nodes few = let k = ap (λ (l : List Op). units_of g ps l m) e in let s = ap selects_at e in let c = all_few g.game.program (nodes_of ts) nodes in omega arith
+
 begin_is_paid : (g : Setting) (ps : List Print) (m : Mid) (call : Call) (rules : List RuleCode) → length rules ≤ 2200 → 4 * length rules + 70 ≤ paid g ps (Resumes (Calls call rules) m)
 begin_is_paid g ps m call [] few = omega arith
 begin_is_paid g ps m call (r ∷ rs) few = omega arith
@@ -58,6 +61,7 @@ turns_are_paid = record {
   enter = λ g ps call m vars head ops e nodes few short. enter_is_paid g ps call m vars head ops e nodes few short;
   equal = λ g ps m a b ops e nodes. equal_is_paid g ps m a b ops e nodes;
   ask = λ g ps m pred ts many next rules ops e nodes few. ask_is_paid g ps m pred ts many next rules ops e nodes few;
+  last_ask = λ g ps m pred ts many rules ops e nodes few. last_is_paid g ps m pred ts many rules ops e nodes few;
   begin = λ g ps m call rules few. begin_is_paid g ps m call rules few;
   fail = λ g ps m. fail_is_paid g ps m;
   commit = λ g ps m place places ops e i. commit_is_paid g ps m place places ops e i;

@@ -7,4 +7,5 @@ pub mod Rules
 pub mod Queries
 pub mod Choices
 pub mod Leaving
+pub mod LastQueries
 pub mod Paid

@@ -30,6 +30,9 @@ pub record TurnsArePaid : Type 0 where
   pub ask : (g : Setting) (ps : List Print) (m : Mid) (pred : ℕ) (ts : List Term) (many : Bool) (next : ℕ) (rules : List RuleCode) (ops : List Op) →
       m.ops ≡ op.Ask pred ts many next ∷ ops → AreNodes g.game.program (nodes_of ts) → length rules ≤ 2200 →
       asking_most g.game.program ts m + 4 * length rules + 70 ≤ paid g ps (Runs m)
+  pub last_ask : (g : Setting) (ps : List Print) (m : Mid) (pred : ℕ) (ts : List Term) (many : Bool) (rules : List RuleCode) (ops : List Op) →
+      m.ops ≡ op.LastAsk pred ts many ∷ ops → AreNodes g.game.program (nodes_of ts) → length rules ≤ 2200 →
+      asking_most g.game.program ts m + 4 * length rules + 70 ≤ paid g ps (Runs m)
   pub begin : (g : Setting) (ps : List Print) (m : Mid) (call : Call) (rules : List RuleCode) → length rules ≤ 2200 →
       4 * length rules + 70 ≤ paid g ps (Resumes (Calls call rules) m)
   pub fail : (g : Setting) (ps : List Print) (m : Mid) → 6 * undone m.choices m + 34 ≤ paid g ps (Fails m)

@@ -34,11 +34,13 @@ use Rattle.dg_turn.specs.Rules.{LooksAt, BegunTo, behind_first}
 
 -- ## Asking
 
--- Where it goes on behind the query, the place to which its rule cuts, and whether all answers are wanted.
+-- The place to which the rule of a query cuts, and whether all answers are wanted.
+abbrev pub place_acts : Bool → List Act
+place_acts many = acts.Compute CUT_TO functions.Add (atoms.Var HEAP) (atoms.Num 32768) ∷ acts.Copy MANY (atoms.Num (bit_of many)) ∷ []
+
+-- The same, with where it goes on behind the query.
 abbrev pub call_acts : ℕ → Bool → List Act
-call_acts behind many =
-    acts.Copy BACK (atoms.Routine behind) ∷ acts.Compute CUT_TO functions.Add (atoms.Var HEAP) (atoms.Num 32768)
-    ∷ acts.Copy MANY (atoms.Num (bit_of many)) ∷ []
+call_acts behind many = acts.Copy BACK (atoms.Routine behind) ∷ place_acts many
 
 -- The key of the first of some arguments.
 abbrev pub key_acts : List Term → List Act

@@ -1,5 +1,6 @@
 // What the code of a story does to its memory: each function's clause is a law.
 ghost use Rattle.dg_turn.specs.Choices.{BackTurns, BranchTurns, OnceTurns};
+ghost use Rattle.dg_turn.specs.LastQueries.{LastTurns};
 ghost use Rattle.dg_turn.specs.Leaving.{JustTurns, ReturnTurns};
 ghost use Rattle.dg_turn.specs.Paid.{TurnsArePaid};
 ghost use Rattle.dg_turn.specs.Queries.{AskBegins, AskTurns, FailBegins, FailEnds, FailTurns};
@@ -65,6 +66,11 @@ pub fn begin_turns()
 /// Asking a query is a turn.
 pub fn ask_turns()
     ensures { AskTurns }
+{}
+
+/// Asking the last query of a rule is a turn.
+pub fn last_turns()
+    ensures { LastTurns }
 {}
 
 /// A whole query is asked and begun.

@@ -1,0 +1,80 @@
+-- The last query of a rule, as a turn: it goes on where the rule does. Hold it against `asks_last` of dg_mid/specs/Step.antt.
+use Rattle.std.specs.Prelude.{◌≡◌, ℕ, ◌+◌, ◌<◌, ◌≤◌, List, [], ◌∷◌, ◌++◌, length, map, Some, None, Bool, true, false}
+use Rattle.dg_base.specs.declared.program.CoreProgram.{CoreProgram}
+use Rattle.dg_base.specs.declared.program.Term.{Term}
+use Rattle.dg_base.specs.declared.run.Ending.TheVariants.{HeapLimit}
+use Rattle.dg_meaning.specs.Values.{value_of}
+use Rattle.dg_meaning.specs.Cells.{nodes_of, cells}
+use Rattle.dg_mid.specs.State.{Frame, Call, Mid, vars_of}
+use Rattle.dg_mid.specs.Step.{call_of, more, first_of}
+use Rattle.z_model.specs.Run.{ZState}
+use Rattle.z_lang.specs.declared.act.Act.{Act}
+use Rattle.z_lang.specs.declared.act.Act.TheVariants as acts
+use Rattle.z_lang.specs.declared.act.Args.TheVariants as args
+use Rattle.z_lang.specs.declared.act.Atom.TheVariants as atoms
+use Rattle.z_lang.specs.declared.act.Comparison.TheVariants as comparisons
+use Rattle.z_lang.specs.declared.act.Function.TheVariants as functions
+use Rattle.z_lang.specs.declared.act.Routine.{Routine}
+use Rattle.dg_rt.specs.declared.registers.TheConstants.{ARGS, BACK, BEGIN, FRAME, INNER, PARAMETERS}
+use Rattle.dg_rt.specs.Areas.{last_reg}
+use Rattle.dg_rt.specs.RunTime.{routine_of}
+use Rattle.dg_rt.specs.Closings.{closing_most}
+use Rattle.dg_turn.specs.Told.{Telling}
+use Rattle.dg_turn.specs.Plays.{Playing, Represented, Closes}
+use Rattle.dg_turn.specs.Terms.{terms_acts, AreNodes}
+use Rattle.dg_turn.specs.Leaving.{field_act}
+use Rattle.dg_turn.specs.Queries.{place_acts, key_acts, asking_most, AskedAt}
+
+-- What a last query does with the frame at hand, in a routine of its own. Where all answers of its rule are wanted, it goes on where the rule does, and
+-- the frame is left; where one is, it goes on at the routine that answers a rule, and no inner construct is open there.
+abbrev pub tail_acts : ℕ → List Act
+tail_acts end =
+    field_act PARAMETERS 4 ∷ acts.Compute PARAMETERS functions.Mod (atoms.Var PARAMETERS) (atoms.Num 2)
+    ∷ acts.When (record { comparison = comparisons.Equal; first = atoms.Var PARAMETERS; second = atoms.Num 1; answer = true }) 0
+    ∷ acts.Copy BACK (atoms.Routine end) ∷ acts.Copy INNER (atoms.Num 0) ∷ acts.Return (atoms.Num 0)
+    ∷ acts.Label 0 ∷ field_act BACK 1 ∷ field_act INNER 3 ∷ field_act FRAME 0 ∷ acts.Return (atoms.Num 0) ∷ []
+
+-- The routine of a last query with these arguments, whose rules begin at a number; the one above has a number too.
+abbrev pub last_routine : CoreProgram → List Term → ℕ → Bool → ℕ → Routine
+last_routine program ts tail many rules =
+    routine_of 0 (terms_acts program ARGS ts
+    ++ (acts.Call None (atoms.Routine tail) args.Zero
+    ∷ (place_acts many ++ (key_acts ts ++ (acts.Copy BEGIN (atoms.Num 0) ∷ acts.Return (atoms.Routine rules) ∷ [])))))
+
+-- The machine in which it is called, and the block behind it.
+abbrev pub left_at : Bool → Frame → List Frame → Mid → Mid
+left_at true f fs m = record m { frames = fs; inner = f.inner }
+left_at false f fs m = record m { inner = [] }
+
+abbrev pub next_of : Bool → Frame → ℕ
+next_of true f = f.next
+next_of false f = 0
+
+-- The call of a last query.
+abbrev pub last_call : CoreProgram → List Term → Bool → Frame → Mid → Call
+last_call program ts many f m = call_of (map (value_of program (vars_of m.frames)) ts) many (next_of f.many f) (more (cells program ts) m)
+
+-- The player is in front of the routine of a last query, inside a rule.
+pub record LastAsking (t : Telling) (output : List ℕ) (ts : List Term) (many : Bool) (rules : ℕ) (f : Frame) (fs : List Frame) (m : Mid)
+    (z : ZState) : Type 0 where
+  pub x : ℕ
+  pub tail : ℕ
+  pub end : ℕ
+  pub rep : Represented t output x m z
+  pub there : t.p.routine_at x ≡ Some (last_routine t.program ts tail many rules)
+  pub tail_is : t.p.routine_at (t.p.names.routine tail) ≡ Some (routine_of 0 (tail_acts end))
+  pub end_is : t.p.names.routine end ≡ t.at_block 0
+  pub frames : m.frames ≡ f ∷ fs
+  pub short : length ts ≤ 12
+  pub nodes : AreNodes t.program (nodes_of ts)
+
+-- In one turn it is asked, and its rules are looked at next; or the heap's limit is met.
+pub record LastTurns : Type 0 where
+  pub asks : (t : Telling) → Playing t → (output : List ℕ) (ts : List Term) (many : Bool) (rules : ℕ) (f : Frame) (fs : List Frame) (m : Mid)
+      (z : ZState) → (a : LastAsking t output ts many rules f fs m z) → m.state.heap + cells t.program ts ≤ 10000 →
+      let call = last_call t.program ts many f m in
+      AskedAt t output rules call (first_of m.state.subst call) (a.rep.cells last_reg) (left_at f.many f fs (more (cells t.program ts) m))
+      (asking_most t.program ts m) z
+  pub meets : (t : Telling) → Playing t → (output : List ℕ) (ts : List Term) (many : Bool) (rules : ℕ) (f : Frame) (fs : List Frame) (m : Mid)
+      (z : ZState) → (a : LastAsking t output ts many rules f fs m z) → 10000 < m.state.heap + cells t.program ts →
+      Closes t output (a.rep.cells last_reg) HeapLimit (10 + closing_most) z
