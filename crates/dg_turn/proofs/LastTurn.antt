@@ -1,5 +1,5 @@
 -- The last query of a rule is asked: one turn of the story.
-use Rattle.std.proofs.Common.{◌≡◌, ◌≢◌, ℕ, suc, ◌+◌, ◌*◌, ◌%◌, ◌<◌, ◌≤◌, Bool, true, false, List, [], ◌∷◌, ◌++◌, drop, length, map, Option, None, Some, refl, sym, ap, ◌∙◌, subst, arith}
+use Rattle.std.proofs.Common.{◌≡◌, ◌≢◌, ℕ, suc, ◌+◌, ◌*◌, ◌<◌, ◌≤◌, Bool, true, false, List, [], ◌∷◌, ◌++◌, drop, length, map, None, refl, sym, ap, ◌∙◌, subst, arith}
 use Rattle.std.proofs.lemmas.Bool.{eq-eqb, ne_eqb}
 use Rattle.dg_base.specs.declared.program.Term.{Term}
 use Rattle.dg_base.specs.declared.run.Ending.TheVariants.{HeapLimit}
@@ -9,7 +9,7 @@ use Rattle.dg_meaning.specs.Substitutions.{Substitution, links}
 use Rattle.dg_meaning.specs.Values.{Value, value_of}
 use Rattle.dg_unify.specs.Store.{State as State'}
 use Rattle.dg_mid.specs.Actions.{registers_of}
-use Rattle.dg_mid.specs.State.{Frame, Call, Mid, vars_of}
+use Rattle.dg_mid.specs.State.{Frame, Mid, vars_of}
 use Rattle.dg_mid.specs.Step.{more, first_of}
 use Rattle.z_model.specs.Run.{ZState}
 use Rattle.z_lang.specs.declared.act.Act.{Act}
@@ -23,8 +23,8 @@ use Rattle.z_lang.specs.State.{State}
 use Rattle.z_lang.specs.Runs.{ActsRun, ActsOutcome, Returns, taken, passed, done, calls, returns, behind_label}
 use Rattle.dg_rt.specs.inside.Walks.{steps}
 use Rattle.dg_rt.specs.Cells.{with_cell, replaced, Holds}
-use Rattle.dg_rt.specs.Areas.{heap_at, state}
-use Rattle.dg_rt.specs.Shapes.{Shape, Cell}
+use Rattle.dg_rt.specs.Areas.{state}
+use Rattle.dg_rt.specs.Shapes.{Shape}
 use Rattle.dg_rt.specs.RunTime.{HasRunTime}
 use Rattle.dg_rt.specs.Closings.{closing_most}
 use Rattle.dg_rt.proofs.CaptureSteps.{leaves}
@@ -40,7 +40,7 @@ use Rattle.dg_turn.proofs.Environment.{bit_few}
 use Rattle.dg_turn.proofs.Staying.{SameMachine, mid_with, mid_same}
 use Rattle.dg_turn.proofs.Rows.{registers_same, length_map}
 use Rattle.dg_turn.proofs.Terms.{writes_terms, meets_terms}
-use Rattle.dg_turn.proofs.AtFrame.{Framed, cell_word, reads, framed_with}
+use Rattle.dg_turn.proofs.AtFrame.{Framed, reads, framed_with}
 use Rattle.dg_turn.proofs.ReturnTurn.{size_bit}
 use Rattle.dg_turn.proofs.AskTurn.{KeyPut, last, rest_of, keys_of}
 use Rattle.dg_turn.proofs.Moving.{moved, closes}
