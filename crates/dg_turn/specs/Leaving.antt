@@ -25,7 +25,7 @@ field_act v i = acts.Compute v functions.Word (atoms.Num (670 + 2 * i)) (atoms.V
 
 -- ## (just)
 
--- The routine that cuts so, and goes on there.
+-- The routine that cuts to the place that the newest frame keeps, and goes on there.
 abbrev pub just_routine : ℕ → Routine
 just_routine behind =
     routine_of 0 (field_act WORD 2 ∷ acts.Call None (atoms.Routine CUT) (args.One (atoms.Var WORD)) ∷ acts.Return (atoms.Routine behind) ∷ [])

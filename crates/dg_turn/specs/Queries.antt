@@ -54,7 +54,7 @@ asking_routine program ts behind many rules =
     routine_of 0 (terms_acts program ARGS ts
     ++ (call_acts behind many ++ (key_acts ts ++ (acts.Copy BEGIN (atoms.Num 0) ∷ acts.Return (atoms.Routine rules) ∷ []))))
 
--- The call of a query, which goes on at a block, and the machine that asks it.
+-- The call of a query with these terms that goes on at a block, in the machine that asks it.
 abbrev pub asked_call : CoreProgram → List Term → Bool → ℕ → Mid → Call
 asked_call program ts many next m = call_of (map (value_of program (vars_of m.frames)) ts) many next (more (cells program ts) m)
 

@@ -34,7 +34,8 @@ FirstIs (Some v) k = KeyIs v k
 
 -- ## Routines of rules
 
--- It is found, with the number of its parameters in their register: its first routine, its own, and that of the next rule are handed over.
+-- A rule is found: the number of its parameters is put into their register, and the routine that enters it, its own, and that of the next rule are
+-- handed over.
 abbrev pub found_acts : (parameters enter self next : ℕ) → List Act
 found_acts n enter self next =
     acts.Copy PARAMETERS (atoms.Num n)
