@@ -43,7 +43,7 @@ over_and_left first (r ∷ rs) = by_answer (excluded first r.key) (over_and_left
     by_answer true e = omega arith
     by_answer false e = omega arith
 
-module _ (t : Telling) (plays : Playing t) (blocks : (b : ℕ) → t.at_block b ≢ 0) (output : List ℕ) (call : Call) (key : ℕ) (m : Mid) (is_key : FirstIs (first_of m.state.subst call) key) (none : m.gathered ≡ []) (cut : call.cut.height ≡ m.state.heap) where
+module _ (t : Telling) (plays : Playing t) (blocks : (b : ℕ) → t.at_block b ≢ 0) (output : List ℕ) (call : Call) (key : ℕ) (m : Mid) (is_key : FirstIs (first_of m.state.subst call) key) (cut : call.cut.height ≡ m.state.heap) where
   abbrev first : Option Value
   first = first_of m.state.subst call
 
@@ -61,7 +61,7 @@ module _ (t : Telling) (plays : Playing t) (blocks : (b : ℕ) → t.at_block b 
       let both = leads_then t.p.world a s.count z there s.there leads s.leads in
       record {
         opens = λ room.
-            let k = found_turns.opens t plays output q qs s.number call key (t.at_block r.block) m s.there s.rules_are is_key i.fits (blocks r.block) none cut room s.looks in
+            let k = found_turns.opens t plays output q qs s.number call key (t.at_block r.block) m s.there s.rules_are is_key i.fits (blocks r.block) cut room s.looks in
             let few' = k.few in
             record { there = k.there; count = a + s.count + k.count; few = omega arith; leads = leads_then t.p.world (a + s.count) k.count z s.there k.there both k.leads; rep = k.rep; call_is = k.call_is };
         meets = λ over.
@@ -90,5 +90,5 @@ module _ (t : Telling) (plays : Playing t) (blocks : (b : ℕ) → t.at_block b 
       second r rs (selected first rs) (s.count + f.count) last (4 * length rules + 70) z f.there refl (leads_then t.p.world s.count f.count z s.there f.there s.leads f.leads) n' (omega arith)
 
 pub begin_turns : BeginTurns
-begin_turns t plays blocks output rules number call key m z are is_key none cut l =
-    begun t plays blocks output call key m is_key none cut rules (selected (first_of m.state.subst call) rules) (l.rep.cells 28) z refl (select_turns t plays output rules number call (first_of m.state.subst call) key 0 m z are is_key l)
+begin_turns t plays blocks output rules number call key m z are is_key cut l =
+    begun t plays blocks output call key m is_key cut rules (selected (first_of m.state.subst call) rules) (l.rep.cells 28) z refl (select_turns t plays output rules number call (first_of m.state.subst call) key 0 m z are is_key l)

@@ -2,7 +2,6 @@
 use Rattle.std.proofs.Common.{◌≡◌, ℕ, zero, suc, ◌+◌, ◌-◌, ◌*◌, ◌≤◌, List, [], ◌∷◌, length, drop, refl, sym, ap, ◌∙◌, subst, arith}
 use Rattle.dg_base.specs.declared.run.Ending.TheVariants.{HeapLimit}
 use Rattle.dg_meaning.specs.Cells.{cells}
-use Rattle.dg_meaning.specs.World.{Gathering}
 use Rattle.dg_mid.specs.declared.code.RuleCode.{RuleCode}
 use Rattle.dg_mid.specs.Code.{selected}
 use Rattle.dg_mid.specs.State.{Call, Mid, vars_of}
@@ -29,7 +28,7 @@ begun_then t output call (r ∷ rs) (q ∷ qs) last last' m a n most all z there
 }
 
 pub ask_begins : AskBegins
-ask_begins t plays blocks output ts many next number rules m z are none room asking =
+ask_begins t plays blocks output ts many next number rules m z are room asking =
     let size = length_map t.program (vars_of m.frames) ts in
     let call = asked_call t.program ts many next m in
     let first = first_of m.state.subst call in
@@ -37,23 +36,14 @@ ask_begins t plays blocks output ts many next number rules m z are none room ask
     let m' = more (cells t.program ts) m in
     let a = ask_turns.asks t plays output ts many next number m z asking room in
     let rules_are : RulesAt t (length call.args) number rules = subst (λ (n : ℕ). RulesAt t n number rules) (sym size) are in
-    let b = begin_turns t plays blocks output rules number call a.key m' a.there rules_are a.key_is none refl a.looks in
+    let b = begin_turns t plays blocks output rules number call a.key m' a.there rules_are a.key_is refl a.looks in
     begun_then t output call found (behind_first first found) (a.looks.rep.cells 28) (asking.rep.cells 28) m' a.count (asking_most t.program ts m) (4 * length rules + 70) (asking_most t.program ts m + 4 * length rules + 70) z a.there a.last_is a.few (omega arith) a.leads b
 
--- nothing is dropped of nothing
-abbrev nothing : List Gathering
-nothing = []
-
-none_dropped : (n : ℕ) → drop n nothing ≡ nothing
-none_dropped zero = refl
-none_dropped (suc n) = refl
-
 pub fail_begins : FailBegins
-fail_begins t plays blocks output m x xs call rules z e way ordered short none r =
+fail_begins t plays blocks output m x xs call rules z e way ordered short r =
     let first = first_of x.state.subst call in
     let found = selected first rules in
     let m' = back_at x xs m in
     let a = fail_turns t plays output m x xs call rules z e way ordered short r in
-    let still = ap (λ (gs : List Gathering). drop (length gs - x.height) gs) none ∙ none_dropped (0 - x.height) in
-    let b = begin_turns t plays blocks output rules a.number call a.key m' a.there a.rules_are a.key_is still a.cut a.looks in
+    let b = begin_turns t plays blocks output rules a.number call a.key m' a.there a.rules_are a.key_is a.cut a.looks in
     begun_then t output call found (behind_first first found) (a.looks.rep.cells 28) (r.cells 28) m' a.count _ (4 * length rules + 70) _ z a.there a.last_is a.few (omega arith) a.leads b

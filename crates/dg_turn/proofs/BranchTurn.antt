@@ -40,12 +40,9 @@ module _ (t : Telling) (plays : Playing t) (output : List ℕ) (routine : ℕ �
     inside_it : Opened t r.sh opening.cells' r.trail (inside (Goes block) 0 m)
     inside_it =
         let k = opening in
-        let top = r.sh.top in
         let c = r.cells in
         let heap_is = r.mid.state.heap in
-        let nothing : length m.gathered ≡ 0 = ap length o.none in
-        let row = subst (λ (g : ℕ). RowIs k.cells' (top + 0) (c 5 ∷ t.p.names.routine o.alt ∷ c 4 ∷ c 6 ∷ c 7 ∷ c 1 ∷ g ∷ 0 ∷ 0 ∷ 0 ∷ [])) (sym nothing) k.row in
-        opened_in t r.sh c k.cells' r.trail m (Goes block) 0 (t.p.names.routine o.alt) (c 7) 0 0 0 [] r.mid (omega arith) refl o.alt_is (k.heap ∙ omega arith) k.choice k.mark row (λ j n0 n2 n3 n5 mid' far. k.others j n3 n5 n2 (λ low. (let q : trail_at ≤ j = far low in omega arith)))
+        opened_in t r.sh c k.cells' r.trail m (Goes block) 0 (t.p.names.routine o.alt) (c 7) (c 29) 0 0 0 [] r.mid (omega arith) refl o.alt_is (k.heap ∙ omega arith) k.choice k.mark k.row (λ j n0 n2 n3 n5 mid' far. k.others j n3 n5 n2 (λ low. (let q : trail_at ≤ j = far low in omega arith)))
 
 module _ (t : Telling) (plays : Playing t) (output : List ℕ) (block behind : ℕ) (m : Mid) (z : ZState) where
   branch : (o : OpensAt t output branch_routine block behind m z) → m.state.heap + 10 ≤ 10000 → Comes t output (t.p.names.routine behind) (inside (Goes block) 0 m) 30 z

@@ -155,7 +155,7 @@ module _ (t : Telling) (plays : Playing t) (output : List ℕ) (m : Mid) (x : Ch
             key_is = go.cells_are 11 (λ e. (omega arith)) ∙ gone.key ∙ field 9 (suc (suc (suc (suc (suc (suc (suc (suc (suc at))))))))) h.key (omega arith) cs.1.1.1.1.1.1.1.1.1.0;
             found_is = go.cells_are 12 (λ e. (omega arith)) ∙ gone.begin;
           };
-          last_is = go.cells_are 28 (λ e. (omega arith)) ∙ gone.rest 28 (omega arith) (omega arith);
+          last_is = go.cells_are 28 (λ e. (omega arith)) ∙ gone.rest 28 (omega arith) (omega arith) (λ e. (omega arith));
         }
 
 pub fail_turns : FailTurns

@@ -195,8 +195,8 @@ row_front c c' at k (suc n) (suc m) le h = (h.0, row_front c c' (suc at) (suc k)
 
 module _ (t : Telling) (plays : Playing t) (output : List ℕ) (r : RuleCode) (rs : List RuleCode) (number : ℕ) (call : Call) (key found : ℕ) (m : Mid) (z : ZState) (i : RuleAt (λ n. RulesAt t (length call.args) n rs) t (length call.args) number r) (is_key : FirstIs (first_of m.state.subst call) key) (in_ : excluded (first_of m.state.subst call) r.key ≡ false) (l : LooksAt t output number call key found m z) where
   -- A choice is opened.
-  opens : found ≢ 0 → m.gathered ≡ [] → call.cut.height ≡ m.state.heap → m.state.heap + (10 + length call.args) ≤ 10000 → EntersAt t output found call (inside (CallsWay call (r ∷ rs)) (length call.args) m) 50 z
-  opens some none cut room =
+  opens : found ≢ 0 → call.cut.height ≡ m.state.heap → m.state.heap + (10 + length call.args) ≤ 10000 → EntersAt t output found call (inside (CallsWay call (r ∷ rs)) (length call.args) m) 50 z
+  opens some cut room =
       let p = t.p in
       let rep = l.rep in
       let n = length call.args in
@@ -224,10 +224,9 @@ module _ (t : Telling) (plays : Playing t) (output : List ℕ) (r : RuleCode) (r
         call_is = record { args_are = call0.args_are; next_is = call0.next_is; cut_is = ap at_place (sym cut); many_is = call0.many_is };
         key_is = subst (FirstIs (first_of m.state.subst call)) (sym (keep 11 (λ q. (omega arith)) ∙ l.key_is)) is_key;
       } in
-      let nothing : length m.gathered ≡ 0 = ap length none in
-      let words = subst (λ (g : ℕ). RowIs o.cells' (top + 0) (c0 5 ∷ a ∷ c0 4 ∷ c0 6 ∷ c0 7 ∷ c0 1 ∷ g ∷ c0 8 ∷ c0 10 ∷ c0 11 ∷ args)) (sym nothing)
-      (row.0, (row.1.0, (row.1.1.0, (row.1.1.1.0, (row.1.1.1.1.0, (row.1.1.1.1.1.0, (row.1.1.1.1.1.1.0, (row.1.1.1.1.1.1.1.0, (row.1.1.1.1.1.1.1.1.0, (row.1.1.1.1.1.1.1.1.1.0, row_front c0 o.cells' (suc (suc (suc (suc (suc (suc (suc (suc (suc (suc (top + 0))))))))))) 16 n 12 (omega arith) row.1.1.1.1.1.1.1.1.1.1)))))))))) in
-      let d = opened_in t rep.sh c0 o.cells' rep.trail m (CallsWay call (r ∷ rs)) n a (c0 7) (c0 8) (c0 10) (c0 11) args mid1 room (length_registers c0 16 n) way (o.heap ∙ omega arith) o.choice o.mark words (λ k n0 n2 n3 n5 mid' far. o.others k n3 n5 n2 (λ low. (let z' : trail_at ≤ k = far low in omega arith))) in
+      let words : RowIs o.cells' (top + 0) (c0 5 ∷ a ∷ c0 4 ∷ c0 6 ∷ c0 7 ∷ c0 1 ∷ c0 29 ∷ c0 8 ∷ c0 10 ∷ c0 11 ∷ args) =
+        (row.0, (row.1.0, (row.1.1.0, (row.1.1.1.0, (row.1.1.1.1.0, (row.1.1.1.1.1.0, (row.1.1.1.1.1.1.0, (row.1.1.1.1.1.1.1.0, (row.1.1.1.1.1.1.1.1.0, (row.1.1.1.1.1.1.1.1.1.0, row_front c0 o.cells' (suc (suc (suc (suc (suc (suc (suc (suc (suc (suc (top + 0))))))))))) 16 n 12 (omega arith) row.1.1.1.1.1.1.1.1.1.1)))))))))) in
+      let d = opened_in t rep.sh c0 o.cells' rep.trail m (CallsWay call (r ∷ rs)) n a (c0 7) (c0 29) (c0 8) (c0 10) (c0 11) args mid1 room (length_registers c0 16 n) way (o.heap ∙ omega arith) o.choice o.mark words (λ k n0 n2 n3 n5 mid' far. o.others k n3 n5 n2 (λ low. (let z' : trail_at ≤ k = far low in omega arith))) in
       let small : found < 65536 = subst (λ (y : ℕ). y < 65536) l.found_is (rep.holds.words 12) in
       let run = subst (λ (y : ℕ). ActsRun p 3499 18000 FOUND_ACTS FOUND_ACTS (state (with_cell rep.memory 37 n) (e ∷ a ∷ b ∷ 0 ∷ []) rep.typed rep.drawn output) (Returns y) (state o.memory' o.locals' rep.typed rep.drawn output) 32) is_found o.runs in
       let k = answers t plays output r rs number call (first_of m.state.subst call) key found m z i is_key in_ l found 32 o.memory' o.locals' run in
@@ -247,6 +246,6 @@ module _ (t : Telling) (plays : Playing t) (output : List ℕ) (r : RuleCode) (r
 pub found_turns : FoundTurns
 found_turns = record {
   keeps = λ t plays output r rs number call first key m z i is_key in_ l. keeps t plays output r rs number call first key 0 m z i is_key in_ l refl;
-  opens = λ t plays output r rs number call key found m z i is_key in_ some none cut room l. opens t plays output r rs number call key found m z i is_key in_ l some none cut room;
+  opens = λ t plays output r rs number call key found m z i is_key in_ some cut room l. opens t plays output r rs number call key found m z i is_key in_ l some cut room;
   meets = λ t plays output r rs number call first key found m z i is_key in_ some over l. meets t plays output r rs number call first key found m z i is_key in_ l some over;
 }

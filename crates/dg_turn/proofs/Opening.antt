@@ -33,11 +33,11 @@ row_cells sh' top c block i (x ∷ xs) cells le row =
     let next : suc (top + i) ≡ top + suc i = omega arith in
     (record { fixed = one.fixed; is = one.is ∙ row.0 }, subst (λ (k : ℕ). CellsAre sh' k xs) (sym next) (row_cells sh' top c block (suc i) xs cells (omega arith) (subst (λ (k : ℕ). RowIs c k xs) next row.1)))
 
-pub opened_in : (t : Telling) (sh : Shape) (c c' : ℕ → ℕ) (trail : List ℕ) (m : Mid) (way : Way) (n routine stop next many key : ℕ) (args : List ℕ) → MidIn t sh c trail m → m.state.heap + (10 + n) ≤ 10000 → length args ≡ n →
+pub opened_in : (t : Telling) (sh : Shape) (c c' : ℕ → ℕ) (trail : List ℕ) (m : Mid) (way : Way) (n routine stop gather next many key : ℕ) (args : List ℕ) → MidIn t sh c trail m → m.state.heap + (10 + n) ≤ 10000 → length args ≡ n →
     WayIn t sh routine args next (at_place m.state.heap) many key m.state.subst way → c' 3 ≡ sh.top + 10 + n → c' 5 ≡ at_place sh.top → c' 2 ≡ at_place sh.top →
-    RowIs c' (sh.top + 0) (c 5 ∷ routine ∷ c 4 ∷ c 6 ∷ stop ∷ c 1 ∷ length m.gathered ∷ next ∷ many ∷ key ∷ args) →
+    RowIs c' (sh.top + 0) (c 5 ∷ routine ∷ c 4 ∷ c 6 ∷ stop ∷ c 1 ∷ gather ∷ next ∷ many ∷ key ∷ args) →
     ((k : ℕ) → k ≢ 0 → k ≢ 2 → k ≢ 3 → k ≢ 5 → (7 < k → 302 < k) → (heap_at + sh.top ≤ k → trail_at ≤ k) → c' k ≡ c k) → Opened t sh c' trail (inside way n m)
-opened_in t sh c c' trail m way n routine stop next many key args mid room size way_is heap choice mark row others =
+opened_in t sh c c' trail m way n routine stop gather next many key args mid room size way_is heap choice mark row others =
     let s = mid.state in
     let top = s.heap in
     let vars_are = s.vars in
@@ -47,7 +47,7 @@ opened_in t sh c c' trail m way n routine stop next many key args mid room size 
     let s1 = made sh c c' m.state.subst s.shape s.low s.stands s.known (10 + n) 0 fits same free in
     let g = made_grown sh c c' m.state.subst s.shape s.low s.stands s.known (10 + n) 0 fits same free in
     let low : (k : ℕ) → k ≢ 0 → k ≢ 2 → k ≢ 3 → k ≢ 5 → k ≤ 7 → c' k ≡ c k = λ k n0 n2 n3 n5 le. others k n0 n2 n3 n5 (λ q. (omega arith)) (λ q. (omega arith)) in
-    let words = c 5 ∷ routine ∷ c 4 ∷ c 6 ∷ stop ∷ c 1 ∷ length m.gathered ∷ next ∷ many ∷ key ∷ args in
+    let words = c 5 ∷ routine ∷ c 4 ∷ c 6 ∷ stop ∷ c 1 ∷ gather ∷ next ∷ many ∷ key ∷ args in
     let few : sh.top ≤ 10000 = omega arith in
     let mark_here : IsMark sh m.state.vars sh.top = subst (λ (v : ℕ). IsMark sh v sh.top) s.vars (new_mark sh s.low few) in
     let cells_are : CellsAre s1 (sh.top + 0) words = row_cells s1 sh.top c' (10 + n) 0 words (λ j lt. (block_cell sh c c' m.state.subst s.shape s.low s.stands s.known (10 + n) 0 fits same free j lt, tt)) (omega arith) row in
@@ -60,11 +60,12 @@ opened_in t sh c c' trail m way n routine stop next many key args mid room size 
       e = c 4;
       l = c 6;
       stop = stop;
+      gather = gather;
       next = next;
       many = many;
       key = key;
       args = args;
-      cells_are = subst (λ (x : ℕ). CellsAre s1 m.state.heap (c 5 ∷ routine ∷ c 4 ∷ c 6 ∷ stop ∷ x ∷ length m.gathered ∷ next ∷ many ∷ key ∷ args)) mid.height (subst (λ (k : ℕ). CellsAre s1 k words) zero_at cells_are);
+      cells_are = subst (λ (x : ℕ). CellsAre s1 m.state.heap (c 5 ∷ routine ∷ c 4 ∷ c 6 ∷ stop ∷ x ∷ gather ∷ next ∷ many ∷ key ∷ args)) mid.height (subst (λ (k : ℕ). CellsAre s1 k words) zero_at cells_are);
       saved = saved;
       back = record { grown = g; newer = []; trail_is = refl; words = λ k lt. same k lt };
       state = record { shape = s.shape; low = s.low; stands = s.stands; known = s.known; heap = s.heap; vars = s.vars; trail_len = s.trail_len; few = s.few; few_trail = s.few_trail; told = s.told };

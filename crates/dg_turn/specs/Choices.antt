@@ -36,14 +36,13 @@ try_routine alt behind =
     routine_of 0 (acts.Call (Some INNER) (atoms.Routine OPEN) (args.Three (atoms.Routine alt) (atoms.Num 0) (atoms.Num 0))
     ∷ acts.Return (atoms.Routine behind) ∷ [])
 
--- The player is in front of a routine that opens a choice whose other way is a block. Nothing is gathered.
+-- The player is in front of a routine that opens a choice whose other way is a block.
 pub record OpensAt (t : Telling) (output : List ℕ) (routine : ℕ → ℕ → Routine) (block behind : ℕ) (m : Mid) (z : ZState) : Type 0 where
   pub x : ℕ
   pub alt : ℕ
   pub rep : Represented t output x m z
   pub there : t.p.routine_at x ≡ Some (routine alt behind)
   pub alt_is : t.p.names.routine alt ≡ t.at_block block
-  pub none : m.gathered ≡ []
 
 -- In one turn the choice is opened, or the heap's limit is met: `does` of a `Branch` and of a `Try`, and `resumed` of a `Retry`.
 pub record BranchTurns : Type 0 where

@@ -116,7 +116,8 @@ WayIn t sh routine args next cut many key S (Takes b into) = (routine ≡ t.at_b
 WayIn t sh routine args next cut many key S (Calls call rules) = CallsIn t sh routine args next cut many key S call rules
 WayIn t sh routine args next cut many key S (Tries f objects) = ⊥
 
--- A choice lies in ten cells and those of its arguments, from its height on; undoing gives back memory there, which stands for what it restores.
+-- A choice lies in ten cells and those of its arguments, from its height on; undoing gives back memory there, which stands for what it restores. What it
+-- keeps of the stoppable part around and of the newest gathering are any words.
 pub record ChoiceIn (older : Saved → ℕ → Type 0) (t : Telling) (sh : Shape) (cells : ℕ → ℕ) (trail : List ℕ) (word : ℕ)
     (c : Choice) : Type 0 where
   pub word_is : word ≡ at_place c.place.height
@@ -125,12 +126,13 @@ pub record ChoiceIn (older : Saved → ℕ → Type 0) (t : Telling) (sh : Shape
   pub e : ℕ
   pub l : ℕ
   pub stop : ℕ
+  pub gather : ℕ
   pub next : ℕ
   pub many : ℕ
   pub key : ℕ
   pub args : List ℕ
   pub cells_are : CellsAre sh c.place.height
-      (behind ∷ routine ∷ e ∷ l ∷ stop ∷ c.state.trail ∷ c.height ∷ next ∷ many ∷ key ∷ args)
+      (behind ∷ routine ∷ e ∷ l ∷ stop ∷ c.state.trail ∷ gather ∷ next ∷ many ∷ key ∷ args)
   pub saved : Saved
   pub back : GivesBack sh cells trail saved
   pub state : StateIn t saved.sh saved.cells saved.trail c.state

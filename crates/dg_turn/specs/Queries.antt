@@ -98,7 +98,7 @@ pub record AskTurns : Type 0 where
 -- A whole query, whose terms fit the heap: `does` of an `Ask` in dg_mid/specs/Step.antt.
 abbrev pub AskBegins : Type 0
 AskBegins = (t : Telling) → Playing t → ((b : ℕ) → t.at_block b ≢ 0) → (output : List ℕ) (ts : List Term) (many : Bool) (next number : ℕ)
-    (rules : List RuleCode) (m : Mid) (z : ZState) → RulesAt t (length ts) number rules → m.gathered ≡ [] →
+    (rules : List RuleCode) (m : Mid) (z : ZState) → RulesAt t (length ts) number rules →
     m.state.heap + cells t.program ts ≤ 10000 →
     (a : Asking t output ts many next number m z) →
     let call = asked_call t.program ts many next m in
@@ -136,7 +136,7 @@ FailTurns = (t : Telling) → Playing t → (output : List ℕ) (m : Mid) (x : C
 abbrev pub FailBegins : Type 0
 FailBegins = (t : Telling) → Playing t → ((b : ℕ) → t.at_block b ≢ 0) → (output : List ℕ) (m : Mid) (x : Choice) (xs : List Choice)
     (call : Call) (rules : List RuleCode) (z : ZState) → m.choices ≡ x ∷ xs → x.way ≡ Calls call rules → StatusOrdered (Fails m) →
-    length call.args ≤ 12 → m.gathered ≡ [] → (r : Represented t output (t.p.names.routine FAIL) m z) →
+    length call.args ≤ 12 → (r : Represented t output (t.p.names.routine FAIL) m z) →
     let first = first_of x.state.subst call in
     let found = selected first rules in
     BegunTo t output call found (behind_first first found) (r.cells last_reg) (back_at x xs m)

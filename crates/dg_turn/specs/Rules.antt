@@ -68,8 +68,8 @@ pub record NoneTurns : Type 0 where
       LooksAt t output NONE call key 0 m z → Comes t output (t.p.names.routine FAIL) m 4 z
 
 -- A rule that isn't excluded: the first that is found is kept, and the next rule is looked at. Where one was found before, a choice is opened that goes
--- on with this rule, and what was found comes next, or the heap's limit is met: `enters` of dg_mid/specs/Step.antt. Nothing is gathered then, and the
--- call cuts to where it is.
+-- on with this rule, and what was found comes next, or the heap's limit is met: `enters` of dg_mid/specs/Step.antt. The call cuts to
+-- where it is then.
 pub record FoundTurns : Type 0 where
   pub keeps : (t : Telling) → Playing t → (output : List ℕ) (r : RuleCode) (rs : List RuleCode) (number : ℕ) (call : Call) (first : Option Value)
       (key : ℕ) (m : Mid) (z : ZState) → RulesAt t (length call.args) number (r ∷ rs) → FirstIs first key → excluded first r.key ≡ false →
@@ -77,7 +77,7 @@ pub record FoundTurns : Type 0 where
       Selects t output rs call key (t.at_block r.block) (l.rep.cells last_reg) m 10 z
   pub opens : (t : Telling) → Playing t → (output : List ℕ) (r : RuleCode) (rs : List RuleCode) (number : ℕ) (call : Call) (key found : ℕ)
       (m : Mid) (z : ZState) → RulesAt t (length call.args) number (r ∷ rs) → FirstIs (first_of m.state.subst call) key →
-      excluded (first_of m.state.subst call) r.key ≡ false → found ≢ 0 → m.gathered ≡ [] → call.cut.height ≡ m.state.heap →
+      excluded (first_of m.state.subst call) r.key ≡ false → found ≢ 0 → call.cut.height ≡ m.state.heap →
       m.state.heap + (10 + length call.args) ≤ 10000 → LooksAt t output number call key found m z →
       EntersAt t output found call (inside (Calls call (r ∷ rs)) (length call.args) m) 50 z
   pub meets : (t : Telling) → Playing t → (output : List ℕ) (r : RuleCode) (rs : List RuleCode) (number : ℕ) (call : Call) (first : Option Value)
@@ -111,7 +111,7 @@ behind_first first (r ∷ rs) = selected first rs
 abbrev pub BeginTurns : Type 0
 BeginTurns = (t : Telling) → Playing t → ((b : ℕ) → t.at_block b ≢ 0) → (output : List ℕ) (rules : List RuleCode) (number : ℕ) (call : Call)
     (key : ℕ) (m : Mid) (z : ZState) → RulesAt t (length call.args) number rules → FirstIs (first_of m.state.subst call) key →
-    m.gathered ≡ [] → call.cut.height ≡ m.state.heap → (l : LooksAt t output number call key 0 m z) →
+    call.cut.height ≡ m.state.heap → (l : LooksAt t output number call key 0 m z) →
     let first = first_of m.state.subst call in
     let found = selected first rules in
     BegunTo t output call found (behind_first first found) (l.rep.cells last_reg) m (4 * length rules + 70) z
