@@ -1,5 +1,5 @@
 -- A choice of a block is opened: one turn of the story.
-use Rattle.std.proofs.Common.{◌≡◌, ℕ, suc, ◌+◌, ◌<◌, ◌≤◌, List, [], ◌∷◌, length, refl, sym, ap, ◌∙◌, subst, arith}
+use Rattle.std.proofs.Common.{◌≡◌, ℕ, suc, ◌+◌, ◌<◌, ◌≤◌, List, [], ◌∷◌, refl, sym, ap, ◌∙◌, subst, arith}
 use Rattle.dg_base.specs.declared.run.Ending.TheVariants.{HeapLimit}
 use Rattle.dg_mid.specs.State.{Goes, Mid, place_of}
 use Rattle.dg_mid.specs.Step.{inside, within}
@@ -10,7 +10,6 @@ use Rattle.dg_rt.specs.Cells.{with_cell, replaced}
 use Rattle.dg_rt.specs.Areas.{trail_at, state}
 use Rattle.dg_rt.specs.Shapes.{Cell}
 use Rattle.dg_rt.specs.Back.{at_place}
-use Rattle.dg_rt.specs.Frames.{RowIs}
 use Rattle.dg_rt.specs.Closings.{closing_most}
 use Rattle.dg_rt.specs.Choices.{Opens}
 use Rattle.dg_rt.proofs.Cells.{other_cell, same_cell}

@@ -225,7 +225,7 @@ module _ (t : Telling) (plays : Playing t) (output : List ℕ) (r : RuleCode) (r
         key_is = subst (FirstIs (first_of m.state.subst call)) (sym (keep 11 (λ q. (omega arith)) ∙ l.key_is)) is_key;
       } in
       let words : RowIs o.cells' (top + 0) (c0 5 ∷ a ∷ c0 4 ∷ c0 6 ∷ c0 7 ∷ c0 1 ∷ c0 29 ∷ c0 8 ∷ c0 10 ∷ c0 11 ∷ args) =
-        (row.0, (row.1.0, (row.1.1.0, (row.1.1.1.0, (row.1.1.1.1.0, (row.1.1.1.1.1.0, (row.1.1.1.1.1.1.0, (row.1.1.1.1.1.1.1.0, (row.1.1.1.1.1.1.1.1.0, (row.1.1.1.1.1.1.1.1.1.0, row_front c0 o.cells' (suc (suc (suc (suc (suc (suc (suc (suc (suc (suc (top + 0))))))))))) 16 n 12 (omega arith) row.1.1.1.1.1.1.1.1.1.1)))))))))) in
+      (row.0, (row.1.0, (row.1.1.0, (row.1.1.1.0, (row.1.1.1.1.0, (row.1.1.1.1.1.0, (row.1.1.1.1.1.1.0, (row.1.1.1.1.1.1.1.0, (row.1.1.1.1.1.1.1.1.0, (row.1.1.1.1.1.1.1.1.1.0, row_front c0 o.cells' (suc (suc (suc (suc (suc (suc (suc (suc (suc (suc (top + 0))))))))))) 16 n 12 (omega arith) row.1.1.1.1.1.1.1.1.1.1)))))))))) in
       let d = opened_in t rep.sh c0 o.cells' rep.trail m (CallsWay call (r ∷ rs)) n a (c0 7) (c0 29) (c0 8) (c0 10) (c0 11) args mid1 room (length_registers c0 16 n) way (o.heap ∙ omega arith) o.choice o.mark words (λ k n0 n2 n3 n5 mid' far. o.others k n3 n5 n2 (λ low. (let z' : trail_at ≤ k = far low in omega arith))) in
       let small : found < 65536 = subst (λ (y : ℕ). y < 65536) l.found_is (rep.holds.words 12) in
       let run = subst (λ (y : ℕ). ActsRun p 3499 18000 FOUND_ACTS FOUND_ACTS (state (with_cell rep.memory 37 n) (e ∷ a ∷ b ∷ 0 ∷ []) rep.typed rep.drawn output) (Returns y) (state o.memory' o.locals' rep.typed rep.drawn output) 32) is_found o.runs in

@@ -68,8 +68,8 @@ pub record NoneTurns : Type 0 where
       LooksAt t output NONE call key 0 m z → Comes t output (t.p.names.routine FAIL) m 4 z
 
 -- A rule that isn't excluded: the first that is found is kept, and the next rule is looked at. Where one was found before, a choice is opened that goes
--- on with this rule, and what was found comes next, or the heap's limit is met: `enters` of dg_mid/specs/Step.antt. The call cuts to
--- where it is then.
+-- on with this rule, and what was found comes next, or the heap's limit is met: `enters` of dg_mid/specs/Step.antt. The call cuts to where
+-- it is then.
 pub record FoundTurns : Type 0 where
   pub keeps : (t : Telling) → Playing t → (output : List ℕ) (r : RuleCode) (rs : List RuleCode) (number : ℕ) (call : Call) (first : Option Value)
       (key : ℕ) (m : Mid) (z : ZState) → RulesAt t (length call.args) number (r ∷ rs) → FirstIs first key → excluded first r.key ≡ false →
