@@ -22,8 +22,6 @@ mod lasting;
 #[cfg(test)]
 mod playing;
 #[cfg(test)]
-mod prompts;
-#[cfg(test)]
 mod refusals;
 #[cfg(test)]
 mod routines;
