@@ -1,4 +1,4 @@
--- The cells of the newest frame are read, choices are cut to its place, and it is left.
+-- The cells of the newest frame are read, and choices are cut to its place.
 use Rattle.std.proofs.Common.{◌≡◌, ◌≢◌, ℕ, suc, ◌+◌, ◌-◌, ◌*◌, ◌<◌, ◌≤◌, List, [], ◌∷◌, drop, None, refl, sym, ap, ◌∙◌, subst, arith}
 use Rattle.dg_mid.specs.State.{Frame, Mid}
 use Rattle.dg_mid.specs.Step.{cut_to}
@@ -22,7 +22,7 @@ use Rattle.dg_rt.proofs.Following.{word as word_is, computes, register, puts}
 use Rattle.dg_rt.proofs.Standing.{cut_at}
 use Rattle.dg_turn.specs.Told.{Telling}
 use Rattle.dg_turn.specs.Lies.{FramesIn, InnersIn, MidIn}
-use Rattle.dg_turn.specs.Leaving.{field_act, leaving_acts}
+use Rattle.dg_turn.specs.Leaving.{field_act}
 use Rattle.dg_turn.proofs.Staying.{mid_with, mid_same}
 use Rattle.dg_turn.proofs.Cutting.{places_of, chained, fallen_is, cut_in}
 
@@ -112,40 +112,4 @@ module _ (t : Telling) (has : HasRunTime t.p) (ff ww : ℕ) (typed output : List
         few = omega arith;
         runs = λ o s' n rest'. subst (ActsRun t.p ff ww body (field_act 52 2 ∷ call_on) (now memory) o s') (let sum : suc (suc k.count + n) ≡ suc (suc k.count) + n = omega arith in sum)
             (q.runs o s' (suc k.count + n) (calls {f' = 0} {w' = 0} {n = k.count} {n' = n} {xs = (to, 0, 0)} {s2 = now k.memory'} refl (rw (register t.p (now memory1) c1 52 b1.holds (omega arith) (omega arith) (omega arith), same_cell c 36 to) refl) (cut_at t.p has) (omega arith) (omega arith) k.runs refl rest'));
-      }
-
-  -- ## The frame behind
-
-  -- The frame behind is the newest, with the inner constructs there.
-  pub record Leaves (body : List Act) (memory : List ℕ) (m' : Mid) : Type 0 where
-    pub memory' : List ℕ
-    pub cells' : ℕ → ℕ
-    pub holds : Holds t.p.world.layout memory' cells'
-    pub mid : MidIn t sh cells' trail (record m' { frames = fs; inner = f.inner })
-    pub runs : ActsRun t.p ff ww body leaving_acts (now memory) (Returns (t.at_block f.next)) (now memory') 4
-
-  pub leave : (body : List Act) (memory : List ℕ) (c : ℕ → ℕ) (m' : Mid) → Framed memory c → MidIn t sh c trail m' → Leaves body memory m'
-  leave body memory c m' b mid =
-      let high = has.mapped.room in
-      let y = t.at_block f.next in
-      let q1 = reads body (drop 1 leaving_acts) 52 1 y memory c b (omega arith) (omega arith) (omega arith) h.next in
-      let c1 = replaced c 36 y in
-      let b1 = framed_with memory c 36 y b (λ e. (omega arith)) (omega arith) q1.holds in
-      let memory1 = with_cell memory 36 y in
-      let q2 = reads body (drop 2 leaving_acts) 22 3 h.l memory1 c1 b1 (omega arith) (omega arith) (omega arith) h.l_is in
-      let c2 = replaced c1 6 h.l in
-      let b2 = framed_with memory1 c1 6 h.l b1 (λ e. (omega arith)) (omega arith) q2.holds in
-      let memory2 = with_cell memory1 6 h.l in
-      let q3 = reads body (drop 3 leaving_acts) 20 0 h.e memory2 c2 b2 (omega arith) (omega arith) (omega arith) h.e_is in
-      let c3 = replaced c2 4 h.e in
-      let memory3 = with_cell memory2 4 h.e in
-      let word : c3 36 ≡ y = other_cell c2 4 h.e 36 (λ e. (omega arith)) ∙ other_cell c1 6 h.l 36 (λ e. (omega arith)) ∙ same_cell c 36 y in
-      let frames : FramesIn t sh (c3 4) fs = subst (λ (w : ℕ). FramesIn t sh w fs) (sym (same_cell c2 4 h.e)) h.behind_is in
-      let inner : InnersIn sh (c3 6) f.inner = subst (λ (w : ℕ). InnersIn sh w f.inner) (sym (other_cell c2 4 h.e 6 (λ e. (omega arith)) ∙ same_cell c1 6 h.l)) h.inner in
-      record {
-        memory' = memory3;
-        cells' = c3;
-        holds = q3.holds;
-        mid = mid_with t sh c c3 trail m' fs f.inner (λ j n0 n4 n6 far. other_cell c2 4 h.e j n4 ∙ other_cell c1 6 h.l j n6 ∙ other_cell c 36 y j (λ (e : j ≡ 36). (let z' : 302 < j = far (omega arith) in omega arith))) frames inner mid;
-        runs = q1.runs (Returns y) (now memory3) 3 (q2.runs (Returns y) (now memory3) 2 (q3.runs (Returns y) (now memory3) 1 (returns (register t.p (now memory3) c3 52 q3.holds (omega arith) (omega arith) (omega arith) ∙ ap word_is word))));
       }

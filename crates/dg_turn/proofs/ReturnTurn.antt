@@ -1,30 +1,33 @@
 -- A rule cuts, or is answered: turns of the story.
-use Rattle.std.proofs.Common.{◌≡◌, ℕ, suc, ◌+◌, ◌*◌, ◌%◌, ◌<◌, Bool, true, false, List, [], ◌∷◌, drop, length, Some, refl, sym, ap, ◌∙◌, subst, arith}
+use Rattle.std.proofs.Common.{◌≡◌, ◌≢◌, ℕ, ◌+◌, ◌*◌, ◌%◌, ◌<◌, ◌≤◌, Bool, true, false, List, [], ◌∷◌, drop, length, Some, inl, inr, refl, sym, ap, ◌∙◌, subst, arith}
 use Rattle.std.specs.Prelude.{if◌then◌else◌}
-use Rattle.std.proofs.lemmas.Bool.{eq-eqb, ne_eqb}
+use Rattle.std.proofs.lemmas.Bool.{cases_eq}
 use Rattle.dg_mid.specs.State.{Frame, Mid}
 use Rattle.dg_mid.specs.Step.{Setting, cut_to, returned}
 use Rattle.dg_mid.specs.Units.{dropped, dropped_once}
 use Rattle.dg_mid.specs.Heights.{IsNamed}
 use Rattle.z_model.specs.Run.{ZState}
-use Rattle.z_lang.specs.declared.act.Atom.TheVariants as atoms
-use Rattle.z_lang.specs.declared.act.Comparison.TheVariants as comparisons
-use Rattle.z_lang.specs.declared.act.Function.TheVariants as functions
 use Rattle.z_lang.specs.State.{State}
-use Rattle.z_lang.specs.Runs.{ActsRun, ActsOutcome, Returns, at_label, taken, passed, done, returns, behind_label}
-use Rattle.dg_rt.specs.Cells.{with_cell, replaced}
+use Rattle.z_lang.specs.Runs.{ActsRun, Returns, returns}
+use Rattle.dg_rt.specs.declared.numbers.TheConstants.{LEAVE}
+use Rattle.dg_rt.specs.declared.queries.TheConstants.{LEAVE_ACTS}
+use Rattle.dg_rt.specs.Cells.{replaced, bit}
 use Rattle.dg_rt.specs.Areas.{heap_at, state}
+use Rattle.dg_rt.specs.Shapes.{Cell}
+use Rattle.dg_rt.specs.Back.{at_place}
 use Rattle.dg_rt.specs.RunTime.{routine_of}
-use Rattle.dg_rt.proofs.CaptureSteps.{leaves}
+use Rattle.dg_rt.specs.Choices.{Chain}
+use Rattle.dg_rt.specs.Queries.{Leaves}
+use Rattle.dg_rt.proofs.Leaving.{leave_works}
 use Rattle.dg_rt.proofs.Cells.{other_cell, same_cell}
-use Rattle.dg_rt.proofs.Following.{word as word_is, tested, computes, register, puts}
 use Rattle.dg_turn.specs.Told.{Telling}
-use Rattle.dg_turn.specs.Lies.{bit_of, FramesIn, MidIn}
+use Rattle.dg_turn.specs.Lies.{bit_of, FramesIn, InnersIn, MidIn}
 use Rattle.dg_turn.specs.Plays.{Playing, Represented, Comes}
-use Rattle.dg_turn.specs.Leaving.{just_routine, return_acts, JustTurns, ReturnTurns}
-use Rattle.dg_turn.proofs.Environment.{bit_few}
-use Rattle.dg_turn.proofs.Staying.{mid_same, mid_alike}
-use Rattle.dg_turn.proofs.AtFrame.{Framed, cell_word, reads, framed_with, cuts, leave}
+use Rattle.dg_turn.specs.Leaving.{just_routine, JustTurns, ReturnTurns}
+use Rattle.dg_turn.proofs.Standing.{leave_at}
+use Rattle.dg_turn.proofs.Staying.{mid_with, mid_same, mid_alike}
+use Rattle.dg_turn.proofs.Cutting.{places_of, chained, fallen_is, cut_in}
+use Rattle.dg_turn.proofs.AtFrame.{Framed, cuts}
 use Rattle.dg_turn.proofs.Moving.{moves}
 
 pub size_bit : (b : Bool) (n : ℕ) → (2 * n + bit_of b) % 2 ≡ bit_of b
@@ -49,73 +52,101 @@ module _ (t : Telling) (plays : Playing t) (output : List ℕ) (x : ℕ) (m : Mi
       moves t plays output x m z r (just_routine behind) there (omega arith) (t.p.names.routine behind) (k.count + 1) (4 * dropped f.cut m.choices + 10) k.memory' [] k.cells' r.sh r.trail (cut_to f.cut m)
       (k.runs (Returns (t.p.names.routine behind)) (now k.memory') 1 (returns refl)) k.framed.holds (plays.words behind) k.mid (omega arith)
 
-  abbrev size : ℕ
-  size = 2 * length h.own + bit_of f.many
-
-  module _ (g : Setting) (there : t.p.routine_at x ≡ Some (routine_of 0 return_acts)) (is_named : IsNamed m.next_tag m.state.heap m.choices f.cut) where
-    -- the bit of the frame's size is in a register
-    record Tested : Type 0 where
-      memory' : List ℕ
-      cells' : ℕ → ℕ
-      framed : At memory' cells'
-      bit : cells' 37 ≡ bit_of f.many
-      mid : MidIn t r.sh cells' r.trail m
-      runs : (o : ActsOutcome) (s' : State) (k : ℕ) → ActsRun t.p 3500 19000 return_acts (drop 2 return_acts) (now memory') o s' k → ActsRun t.p 3500 19000 return_acts return_acts (now r.memory) o s' (suc (suc k))
-
-    to_test : Tested
-    to_test =
-        let high = plays.has.mapped.room in
-        let below = h.below in
-        let top = r.mid.state.heap in
-        let fits = r.mid.state.few in
-        let few = bit_few f.many in
-        let y = bit_of f.many in
-        let q = reads t plays.has 3500 19000 r.typed output r.drawn r.sh r.cells r.trail m r.mid f fs h return_acts (drop 1 return_acts) 53 4 size r.memory r.cells first (omega arith) (omega arith) (omega arith) h.many in
-        let c1 = replaced r.cells 37 size in
-        let memory1 = with_cell r.memory 37 size in
-        let b1 = framed_with t plays.has 3500 19000 r.typed output r.drawn r.sh r.cells r.trail m r.mid f fs h r.memory r.cells 37 size first (λ e. (omega arith)) (omega arith) q.holds in
-        let put = puts t.p (now memory1) c1 53 y q.holds (omega arith) (omega arith) (omega arith) (omega arith) in
-        let c2 = replaced c1 37 y in
-        let memory2 = with_cell memory1 37 y in
-        record {
-          memory' = memory2;
-          cells' = c2;
-          framed = framed_with t plays.has 3500 19000 r.typed output r.drawn r.sh r.cells r.trail m r.mid f fs h memory1 c1 37 y b1 (λ e. (omega arith)) (omega arith) put.holds;
-          bit = same_cell c1 37 y;
-          mid = mid_same t r.sh r.cells c2 r.trail m (λ j ne far. other_cell c1 37 y j (λ (e : j ≡ 37). (let z' : 302 < j = far (omega arith) in omega arith)) ∙ other_cell r.cells 37 size j (λ (e : j ≡ 37). (let z' : 302 < j = far (omega arith) in omega arith))) r.mid;
-          runs = λ o s' k rest. q.runs o s' (suc k) (done (computes t.p (now memory1) (now memory2) 53 functions.Mod (atoms.Var 53) (atoms.Num 2) size 2 y (register t.p (now memory1) c1 53 q.holds (omega arith) (omega arith) (omega arith) ∙ ap word_is (same_cell r.cells 37 size)) refl (leaves t.p memory1 size 2 (omega arith) (omega arith) (omega arith) ∙ ap word_is (size_bit f.many (length h.own))) put.put_is) rest);
-        }
-
-    small : t.at_block f.next < 65536
-    small = subst (λ (n : ℕ). n < 65536) (cell_word t plays.has 3500 19000 r.typed output r.drawn r.sh r.cells r.trail m r.mid f fs h (h.at + 1) (t.at_block f.next) h.next) (r.holds.words (heap_at + (h.at + 1)))
-
-    by_many : (b : Bool) → f.many ≡ b → Comes t output (t.at_block f.next) (returned g b f fs m) (4 * (if b then 0 else dropped f.cut m.choices) + 20) z
-    unfolding behind_label
-    by_many true e =
-        let high = plays.has.mapped.room in
-        let a = to_test in
-        let one : a.cells' 37 ≡ 1 = a.bit ∙ ap bit_of e in
-        let k = leave t plays.has 3500 19000 r.typed output r.drawn r.sh r.cells r.trail m r.mid f fs h return_acts a.memory' a.cells' m a.framed a.mid in
-        moves t plays output x m z r (routine_of 0 return_acts) there (omega arith) (t.at_block f.next) 7 20 k.memory' [] k.cells' r.sh r.trail (returned g true f fs m)
-        (a.runs (Returns (t.at_block f.next)) (now k.memory') 5 (taken (tested t.p (now a.memory') comparisons.Equal (atoms.Var 53) (atoms.Num 1) true (a.cells' 37) 1 true (register t.p (now a.memory') a.cells' 53 a.framed.holds (omega arith) (omega arith) (omega arith)) refl (eq-eqb (a.cells' 37) 1 one)) refl k.runs))
-        k.holds small (mid_alike t r.sh k.cells' r.trail (record m { frames = fs; inner = f.inner }) (returned g true f fs m) refl refl refl refl k.mid) (omega arith)
-    by_many false e =
-        let high = plays.has.mapped.room in
-        let a = to_test in
-        let none : a.cells' 37 ≡ 0 = a.bit ∙ ap bit_of e in
-        let d = cuts t plays.has 3500 19000 r.typed output r.drawn r.sh r.cells r.trail m r.mid f fs h (omega arith) (omega arith) return_acts (drop 5 return_acts) a.memory' a.cells' a.framed a.mid is_named in
-        let k = leave t plays.has 3500 19000 r.typed output r.drawn r.sh r.cells r.trail m r.mid f fs h return_acts d.memory' d.cells' (cut_to f.cut m) d.framed d.mid in
-        let few = d.few in
-        moves t plays output x m z r (routine_of 0 return_acts) there (omega arith) (t.at_block f.next) (suc (suc (suc (d.count + 4)))) (4 * dropped f.cut m.choices + 20) k.memory' [] k.cells' r.sh r.trail (returned g false f fs m)
-        (a.runs (Returns (t.at_block f.next)) (now k.memory') (suc (d.count + 4)) (passed (tested t.p (now a.memory') comparisons.Equal (atoms.Var 53) (atoms.Num 1) true (a.cells' 37) 1 false (register t.p (now a.memory') a.cells' 53 a.framed.holds (omega arith) (omega arith) (omega arith)) refl (ne_eqb (a.cells' 37) 1 (λ (q : a.cells' 37 ≡ 1). (omega arith))))
-        (d.runs (Returns (t.at_block f.next)) (now k.memory') 4 (at_label k.runs))))
-        k.holds small (mid_alike t r.sh k.cells' r.trail (record (cut_to f.cut m) { frames = fs; inner = f.inner }) (returned g false f fs m) refl refl refl refl k.mid) (omega arith)
-
 pub just_turns : JustTurns
 just_turns t plays output x behind m f fs z there e is_named r = just t plays output x m f fs z r (subst (FramesIn t r.sh (r.cells 4)) e r.mid.frames) behind there is_named
 
+-- ## Answers
+
+bit_is : (b : Bool) → bit_of b ≡ bit b
+bit_is true = refl
+bit_is false = refl
+
+-- the newest of the same choices is the same
+same_newest : (c c' : ℕ → ℕ) (word word' : ℕ) (ks : List ℕ) → Chain c word ks → Chain c' word' ks → word' ≡ word
+same_newest c c' word word' [] h h' = h' ∙ sym h
+same_newest c c' word word' (k ∷ ks) h h' = h'.0 ∙ sym h.0
+
+-- words that differ in three registers at most, by these
+agree_six : (c c' : ℕ → ℕ) (e l : ℕ) → c' 6 ≡ l → ((j : ℕ) → j ≢ 4 → j ≢ 5 → j ≢ 6 → c' j ≡ c j) → (j : ℕ) → j ≢ 4 → j ≢ 5 → c' j ≡ replaced (replaced c 6 l) 4 e j
+agree_six c c' e l six others j n4 n5 = elim (cases_eq j 6) [
+  | inl q ↦ subst (λ (i : ℕ). c' i ≡ replaced (replaced c 6 l) 4 e i) (sym q) (six ∙ sym (same_cell c 6 l) ∙ sym (other_cell (replaced c 6 l) 4 e 6 (λ q'. (omega arith))))
+  | inr n6 ↦ others j n4 n5 n6 ∙ sym (other_cell c 6 l j n6) ∙ sym (other_cell (replaced c 6 l) 4 e j n4)
+]
+
+agree_four : (c c' : ℕ → ℕ) (e l : ℕ) → c' 4 ≡ e → c' 6 ≡ l → ((j : ℕ) → j ≢ 4 → j ≢ 5 → j ≢ 6 → c' j ≡ c j) → (j : ℕ) → j ≢ 5 → c' j ≡ replaced (replaced c 6 l) 4 e j
+agree_four c c' e l four six others j n5 = elim (cases_eq j 4) [
+  | inl q ↦ subst (λ (i : ℕ). c' i ≡ replaced (replaced c 6 l) 4 e i) (sym q) (four ∙ sym (same_cell (replaced c 6 l) 4 e))
+  | inr n4 ↦ agree_six c c' e l six others j n4 n5
+]
+
+agree_five : (c c' : ℕ → ℕ) (e l : ℕ) → c' 5 ≡ c 5 → ((j : ℕ) → j ≢ 5 → c' j ≡ replaced (replaced c 6 l) 4 e j) → (j : ℕ) → c' j ≡ replaced (replaced c 6 l) 4 e j
+agree_five c c' e l five others j = elim (cases_eq j 5) [
+  | inl q ↦ subst (λ (i : ℕ). c' i ≡ replaced (replaced c 6 l) 4 e i) (sym q) (five ∙ sym (other_cell c 6 l 5 (λ q'. (omega arith))) ∙ sym (other_cell (replaced c 6 l) 4 e 5 (λ q'. (omega arith))))
+  | inr n5 ↦ others j n5
+]
+
+module _ (g : Setting) (t : Telling) (plays : Playing t) (output : List ℕ) (m : Mid) (f : Frame) (fs : List Frame) (z : ZState) (is_named : IsNamed m.next_tag m.state.heap m.choices f.cut) (r : Represented t output (t.p.names.routine LEAVE) m z) (h : FramesIn t r.sh (r.cells 4) (f ∷ fs)) where
+  abbrev c : ℕ → ℕ
+  c = r.cells
+
+  abbrev ks : List ℕ
+  ks = places_of m.choices
+
+  at_cell : (k y : ℕ) → Cell r.sh k y → c (heap_at + k) ≡ y
+  at_cell k y cell = let low = cell.fixed.0 in let top = r.mid.state.heap in let fits = r.mid.state.few in r.mid.state.stands.fixed k (omega arith) cell.fixed ∙ cell.is
+
+  chain : Chain c (c 5) ks
+  chain = let top = r.mid.state.heap in let fits = r.mid.state.few in chained t r.sh c r.trail r.mid.hb (omega arith) at_cell (c 5) m.choices r.mid.choices r.mid.under
+
+  left : (b : Bool) → f.many ≡ b → Leaves t.p 3500 19000 r.memory r.typed output r.drawn h.at f.cut.height b c ks
+  left b e =
+      let below = h.below in
+      let top = r.mid.state.heap in
+      let fits = r.mid.state.few in
+      let low = is_named.height in
+      let n = length h.own in
+      let size : c (heap_at + (h.at + 4)) ≡ 2 * n + bit b = at_cell (h.at + 4) (2 * n + bit_of f.many) h.many ∙ ap (λ (i : ℕ). 2 * n + i) (ap bit_of e ∙ bit_is b) in
+      leave_works.leaves t.p plays.has 3500 19000 (omega arith) (omega arith) r.memory r.typed output r.drawn h.at f.cut.height n b c r.holds h.word_is (omega arith) (at_cell (h.at + 2) (at_place f.cut.height) h.cut) (omega arith) size (omega arith) ks chain
+
+  abbrev behind : Mid
+  behind = record m { frames = fs; inner = f.inner }
+
+  -- the frame behind is the newest, with the inner constructs there
+  abbrev c1 : ℕ → ℕ
+  c1 = replaced (replaced c 6 h.l) 4 h.e
+
+  mid1 : MidIn t r.sh c1 r.trail behind
+  mid1 =
+      let a = replaced c 6 h.l in
+      mid_with t r.sh c c1 r.trail m fs f.inner (λ j n0 n4 n6 far. other_cell a 4 h.e j n4 ∙ other_cell c 6 h.l j n6)
+      (subst (λ (w : ℕ). FramesIn t r.sh w fs) (sym (same_cell a 4 h.e)) h.behind_is)
+      (subst (λ (w : ℕ). InnersIn r.sh w f.inner) (sym (other_cell a 4 h.e 6 (λ e. (omega arith)) ∙ same_cell c 6 h.l)) h.inner)
+      r.mid
+
+  agrees : (b : Bool) (k : Leaves t.p 3500 19000 r.memory r.typed output r.drawn h.at f.cut.height b c ks) (j : ℕ) → j ≢ 5 → k.cells' j ≡ c1 j
+  agrees b k = agree_four c k.cells' h.e h.l (k.frame ∙ at_cell (h.at + 0) h.e h.e_is) (k.inner ∙ at_cell (h.at + 3) h.l h.l_is) (λ j n4 n5 n6. k.others j n4 n5 n6)
+
+  comes : (b : Bool) (k : Leaves t.p 3500 19000 r.memory r.typed output r.drawn h.at f.cut.height b c ks) (m' : Mid) (most : ℕ) → MidIn t r.sh k.cells' r.trail m' → k.count + 2 ≤ most → Comes t output (t.at_block f.next) m' most z
+  comes b k m' most mid le =
+      let to : c (heap_at + (h.at + 1)) ≡ t.at_block f.next = at_cell (h.at + 1) (t.at_block f.next) h.next in
+      let small : t.at_block f.next < 65536 = subst (λ (n : ℕ). n < 65536) to (r.holds.words (heap_at + (h.at + 1))) in
+      let runs = subst (λ (i : ℕ). ActsRun t.p 3500 19000 LEAVE_ACTS LEAVE_ACTS (state r.memory (0 ∷ 0 ∷ 0 ∷ 0 ∷ []) r.typed r.drawn output) (Returns i) (state k.memory' k.locals' r.typed r.drawn output) k.count) to k.runs in
+      moves t plays output (t.p.names.routine LEAVE) m z r (routine_of 4 LEAVE_ACTS) (leave_at t.p plays.has) (omega arith) (t.at_block f.next) k.count most k.memory' k.locals' k.cells' r.sh r.trail m' runs k.holds small mid le
+
+  by_many : (b : Bool) → f.many ≡ b → Comes t output (t.at_block f.next) (returned g b f fs m) (4 * (if b then 0 else dropped f.cut m.choices) + 20) z
+  by_many true e =
+      let k = left true e in
+      let few = k.few in
+      let all = agree_five c k.cells' h.e h.l (same_newest c k.cells' (c 5) (k.cells' 5) ks chain k.chain) (agrees true k) in
+      comes true k (returned g true f fs m) 20 (mid_alike t r.sh k.cells' r.trail behind (returned g true f fs m) refl refl refl refl (mid_same t r.sh c1 k.cells' r.trail behind (λ j ne far. all j) mid1)) (omega arith)
+  by_many false e =
+      let k = left false e in
+      let few = k.few in
+      let fallen = fallen_is f.cut m.choices is_named.agrees in
+      comes false k (returned g false f fs m) (4 * dropped f.cut m.choices + 20) (mid_alike t r.sh k.cells' r.trail (cut_to f.cut behind) (returned g false f fs m) refl refl refl refl (cut_in t r.sh c1 k.cells' r.trail behind f.cut is_named.agrees (agrees false k) mid1 k.chain)) (omega arith)
+
 pub return_turns : ReturnTurns
-return_turns g t plays output x m f fs z there e is_named r =
+return_turns g t plays output m f fs z e is_named r =
     let all : (if f.many then 0 else dropped f.cut m.choices) ≡ dropped_once m.frames m.choices = sym (ap (λ (l : List Frame). dropped_once l m.choices) e) in
     subst (λ (n : ℕ). Comes t output (t.at_block f.next) (returned g f.many f fs m) (4 * n + 20) z) all
-    (by_many t plays output x m f fs z r (subst (FramesIn t r.sh (r.cells 4)) e r.mid.frames) g there is_named f.many refl)
+    (by_many g t plays output m f fs z is_named r (subst (FramesIn t r.sh (r.cells 4)) e r.mid.frames) f.many refl)

@@ -1,5 +1,5 @@
 -- Rules that cut or are answered, as turns. Hold it against `returns` and, on (just), `done` of dg_mid/specs/Step.antt.
-use Rattle.std.specs.Prelude.{◌≡◌, ℕ, ◌+◌, ◌*◌, List, [], ◌∷◌, Some, None, true}
+use Rattle.std.specs.Prelude.{◌≡◌, ℕ, ◌+◌, ◌*◌, List, [], ◌∷◌, Some, None}
 use Rattle.dg_mid.specs.State.{Frame, Mid}
 use Rattle.dg_mid.specs.Step.{Setting, cut_to, returned}
 use Rattle.dg_mid.specs.Units.{dropped, dropped_once}
@@ -9,11 +9,10 @@ use Rattle.z_lang.specs.declared.act.Act.{Act}
 use Rattle.z_lang.specs.declared.act.Act.TheVariants as acts
 use Rattle.z_lang.specs.declared.act.Args.TheVariants as args
 use Rattle.z_lang.specs.declared.act.Atom.TheVariants as atoms
-use Rattle.z_lang.specs.declared.act.Comparison.TheVariants as comparisons
 use Rattle.z_lang.specs.declared.act.Function.TheVariants as functions
 use Rattle.z_lang.specs.declared.act.Routine.{Routine}
-use Rattle.dg_rt.specs.declared.numbers.TheConstants.{CUT}
-use Rattle.dg_rt.specs.declared.registers.TheConstants.{FRAME, INNER, WORD, PARAMETERS}
+use Rattle.dg_rt.specs.declared.numbers.TheConstants.{CUT, LEAVE}
+use Rattle.dg_rt.specs.declared.registers.TheConstants.{FRAME, WORD}
 use Rattle.dg_rt.specs.RunTime.{routine_of}
 use Rattle.dg_turn.specs.Told.{Telling}
 use Rattle.dg_turn.specs.Plays.{Playing, Represented, Comes}
@@ -39,20 +38,8 @@ JustTurns = (t : Telling) → Playing t → (output : List ℕ) (x behind : ℕ)
 
 -- ## Answers
 
--- What goes on behind the rule at hand: the routine that its frame names, with the frame behind it and the inner constructs there.
-abbrev pub leaving_acts : List Act
-leaving_acts = field_act WORD 1 ∷ field_act INNER 3 ∷ field_act FRAME 0 ∷ acts.Return (atoms.Var WORD) ∷ []
-
--- The routine behind a rule's last goal: where one answer is wanted it cuts first, and that all are is the last bit of a frame's size.
-abbrev pub return_acts : List Act
-return_acts =
-    field_act PARAMETERS 4 ∷ acts.Compute PARAMETERS functions.Mod (atoms.Var PARAMETERS) (atoms.Num 2)
-    ∷ acts.When (record { comparison = comparisons.Equal; first = atoms.Var PARAMETERS; second = atoms.Num 1; answer = true }) 0
-    ∷ field_act WORD 2 ∷ acts.Call None (atoms.Routine CUT) (args.One (atoms.Var WORD)) ∷ acts.Label 0 ∷ leaving_acts
-
--- In one turn a rule is answered: `returns` of dg_mid/specs/Step.antt.
+-- In one turn a rule is answered, by the routine that every story has for it: `returns` of dg_mid/specs/Step.antt.
 abbrev pub ReturnTurns : Type 0
-ReturnTurns = (g : Setting) (t : Telling) → Playing t → (output : List ℕ) (x : ℕ) (m : Mid) (f : Frame) (fs : List Frame) (z : ZState) →
-    t.p.routine_at x ≡ Some (routine_of 0 return_acts) → m.frames ≡ f ∷ fs → IsNamed m.next_tag m.state.heap m.choices f.cut →
-    Represented t output x m z →
+ReturnTurns = (g : Setting) (t : Telling) → Playing t → (output : List ℕ) (m : Mid) (f : Frame) (fs : List Frame) (z : ZState) →
+    m.frames ≡ f ∷ fs → IsNamed m.next_tag m.state.heap m.choices f.cut → Represented t output (t.p.names.routine LEAVE) m z →
     Comes t output (t.at_block f.next) (returned g f.many f fs m) (4 * dropped_once m.frames m.choices + 20) z
