@@ -1,35 +1,31 @@
 -- An inner construct without a choice is begun, and code that only goes on: turns of the story.
-use Rattle.std.proofs.Common.{◌≡◌, ℕ, suc, ◌+◌, ◌*◌, ◌%◌, ◌<◌, ◌≤◌, List, [], ◌∷◌, Some, refl, sym, ap, ◌∙◌, subst, arith}
+use Rattle.std.proofs.Common.{◌≡◌, ◌≢◌, ℕ, suc, ◌+◌, ◌<◌, ◌≤◌, List, [], ◌∷◌, Some, inl, inr, refl, sym, ap, ◌∙◌, subst, arith}
+use Rattle.std.proofs.lemmas.Bool.{cases_eq}
 use Rattle.dg_base.specs.declared.run.Ending.TheVariants.{HeapLimit}
 use Rattle.dg_mid.specs.State.{Mid, place_of}
 use Rattle.dg_mid.specs.Step.{more, passed, within}
 use Rattle.z_model.specs.Run.{ZState}
-use Rattle.z_lang.specs.declared.act.Atom.TheVariants as atoms
-use Rattle.z_lang.specs.declared.act.Function.TheVariants as functions
-use Rattle.z_lang.specs.declared.act.Width.TheVariants as widths
-use Rattle.z_lang.specs.State.{State}
-use Rattle.z_lang.specs.Runs.{done, calls, calls_last, returns}
-use Rattle.dg_rt.specs.Cells.{at_cell, with_cell, replaced, Holds}
-use Rattle.dg_rt.specs.Areas.{heap_at, state}
+use Rattle.z_lang.specs.Runs.{calls, calls_last, returns}
+use Rattle.dg_rt.specs.Cells.{replaced}
+use Rattle.dg_rt.specs.Areas.{heap_at, trail_at, state}
 use Rattle.dg_rt.specs.Shapes.{Cell}
 use Rattle.dg_rt.specs.Back.{at_place}
-use Rattle.dg_rt.specs.Charges.{Charged}
+use Rattle.dg_rt.specs.Choices.{OpensInner}
 use Rattle.dg_rt.specs.Closings.{closing_most}
-use Rattle.dg_rt.proofs.Cells.{holds_with, writes_cell, other_cell, same_cell}
-use Rattle.dg_rt.proofs.Charging.{charge_works}
-use Rattle.dg_rt.proofs.Following.{word as word_is, computes, writes, register, puts}
-use Rattle.dg_rt.proofs.Locals.{subtracts}
+use Rattle.dg_rt.proofs.Cells.{other_cell, same_cell}
+use Rattle.dg_rt.proofs.InnerOpening.{open_inner_works}
 use Rattle.dg_turn.specs.Told.{Telling}
-use Rattle.dg_turn.specs.Lies.{FramesIn, InnersIn, StateIn, MidIn}
+use Rattle.dg_turn.specs.Lies.{FramesIn, InnersIn, StateIn}
 use Rattle.dg_turn.specs.Plays.{Playing, Represented, Comes, Closes}
 use Rattle.dg_turn.specs.Turns.{goto_routine, GotoTurns}
 use Rattle.dg_turn.specs.Choices.{once_routine, OnceTurns}
-use Rattle.dg_turn.proofs.Standing.{charge_at}
+use Rattle.dg_turn.proofs.Standing.{open_inner_at}
 use Rattle.dg_turn.proofs.Growing.{grown_inner}
 use Rattle.dg_turn.proofs.Staying.{mid_with, mid_alike}
 use Rattle.dg_turn.proofs.Kept.{Beyond}
 use Rattle.dg_turn.proofs.Making.{made, made_grown, made_shape, made_stands, made_low, made_known, block_cell}
 use Rattle.dg_turn.proofs.Grows.{mid_grown}
+use Rattle.dg_turn.proofs.Opening.{Opened}
 use Rattle.dg_turn.proofs.Moving.{moves, closes}
 
 pub goto_turns : GotoTurns
@@ -37,47 +33,33 @@ goto_turns t plays output x next m z there r = moves t plays output x m z r (got
 
 -- ## An inner construct
 
-module _ (t : Telling) (plays : Playing t) (output : List ℕ) (x behind : ℕ) (m : Mid) (z : ZState) (there : t.p.routine_at x ≡ Some (once_routine behind)) (room : m.state.heap + 10 ≤ 10000) (r : Represented t output x m z) where
-  abbrev now : List ℕ → State
-  now memory = state memory [] r.typed r.drawn output
+-- with the register as it was, nothing in front of the block has changed
+beyond_but : (c c' : ℕ → ℕ) (top : ℕ) → top + 10 ≤ 10000 → ((k : ℕ) → k ≢ 3 → k ≢ 6 → (heap_at + top ≤ k → heap_at + (top + 10) ≤ k) → c' k ≡ c k) → Beyond top c (replaced c' 6 (c 6))
+beyond_but c c' top room others k n0 n3 mid far = elim (cases_eq k 6) [
+  | inl q ↦ subst (λ (i : ℕ). replaced c' 6 (c 6) i ≡ c i) (sym q) (same_cell c' 6 (c 6))
+  | inr n6 ↦ other_cell c' 6 (c 6) k n6 ∙ others k n3 n6 (λ low. (let q : trail_at ≤ k = far low in omega arith))
+]
 
+module _ (t : Telling) (plays : Playing t) (output : List ℕ) (x behind : ℕ) (m : Mid) (z : ZState) (there : t.p.routine_at x ≡ Some (once_routine behind)) (room : m.state.heap + 10 ≤ 10000) (r : Represented t output x m z) where
   abbrev top : ℕ
   top = r.sh.top
 
   abbrev c : ℕ → ℕ
   c = r.cells
 
-  taken : Charged t.p 0 0 r.memory r.typed output r.drawn 10 c
-  taken = let heap = r.mid.heap in charge_works.takes t.p plays.has 0 0 r.memory r.typed output r.drawn 10 c r.holds (omega arith)
+  opened : OpensInner t.p 3000 18000 r.memory r.typed output r.drawn c top
+  opened = let heap_is = r.mid.state.heap in open_inner_works.opens t.p plays.has 3000 18000 r.memory r.typed output r.drawn c top r.holds (r.mid.heap ∙ sym heap_is) (omega arith)
 
-  abbrev k3 : ℕ
-  k3 = heap_at + (top + 3)
-
-  -- memory with the fourth cell written
-  abbrev memory2 : List ℕ
-  memory2 = with_cell taken.memory' k3 (c 6)
-
-  abbrev c2 : ℕ → ℕ
-  c2 = replaced taken.cells' k3 (c 6)
-
-  holds2 : Holds t.p.world.layout memory2 c2
-  holds2 = let high = plays.has.mapped.room in let heap_is = r.mid.state.heap in holds_with t.p.world.layout taken.memory' taken.cells' k3 (c 6) taken.holds (omega arith) (r.holds.words 6)
-
-  beyond : Beyond top c c2
-  beyond k n0 n3 mid' far =
-      let heap_is = r.mid.state.heap in
-      other_cell taken.cells' k3 (c 6) k (λ (e : k ≡ k3). (let q : heap_at + 10012 ≤ k = far (omega arith) in omega arith)) ∙ taken.others k n3 (λ (e : k ≡ 14). (let q : 302 < k = mid' (omega arith) in omega arith))
-
-  abbrev named : ℕ
-  named = at_place top
-
-  begun : MidIn t (made r.sh c c2 m.state.subst r.mid.state.shape r.mid.state.low r.mid.state.stands r.mid.state.known 10 0 (let heap_is = r.mid.state.heap in omega arith) (λ k lt. beyond (heap_at + k) (λ e. (omega arith)) (λ e. (omega arith)) (λ q. (omega arith)) (λ q. (omega arith))) (λ j none. absurd (omega arith))) (replaced c2 6 named) r.trail (within (place_of m) (more 10 m))
-  begun =
+  -- memory stands for the machine inside it
+  begun : (k : OpensInner t.p 3000 18000 r.memory r.typed output r.drawn c top) → Opened t r.sh k.cells' r.trail (within (place_of m) (more 10 (passed m)))
+  begun k =
       let s = r.mid.state in
       let heap_is = s.heap in
       let vars_are = s.vars in
+      let c2 = replaced k.cells' 6 (c 6) in
+      let beyond : Beyond top c c2 = beyond_but c k.cells' top (omega arith) (λ j n3 n6 far. k.others j n3 n6 far) in
       let fits : top + 10 + 0 ≤ 10000 = omega arith in
-      let same : (k : ℕ) → k < top → c2 (heap_at + k) ≡ c (heap_at + k) = λ k lt. beyond (heap_at + k) (λ e. (omega arith)) (λ e. (omega arith)) (λ q. (omega arith)) (λ q. (omega arith)) in
+      let same : (j : ℕ) → j < top → c2 (heap_at + j) ≡ c (heap_at + j) = λ j lt. beyond (heap_at + j) (λ e. (omega arith)) (λ e. (omega arith)) (λ q. (omega arith)) (λ q. (omega arith)) in
       let free : (j : ℕ) → j < 0 → c2 (heap_at + (top + 10 + j)) ≡ at_place (top + 10 + j) = λ j none. absurd (omega arith) in
       let s1 = made r.sh c c2 m.state.subst s.shape s.low s.stands s.known 10 0 fits same free in
       let g = made_grown r.sh c c2 m.state.subst s.shape s.low s.stands s.known 10 0 fits same free in
@@ -93,50 +75,37 @@ module _ (t : Telling) (plays : Playing t) (output : List ℕ) (x behind : ℕ) 
         few_trail = s.few_trail;
         told = s.told;
       } in
-      let three : c2 3 ≡ m.state.heap + 10 = other_cell taken.cells' k3 (c 6) 3 (λ e. (omega arith)) ∙ taken.heap ∙ (let h = r.mid.heap in omega arith) in
+      let three : c2 3 ≡ m.state.heap + 10 = other_cell k.cells' 6 (c 6) 3 (λ e. (omega arith)) ∙ k.heap ∙ (let h = r.mid.heap in omega arith) in
       let mid1 = mid_grown t r.sh s1 c c2 r.trail m (more 10 m).state g (λ n old young. absurd (omega arith)) refl refl three beyond state_in r.mid in
-      let c3 = replaced c2 6 named in
       let b = block_cell r.sh c c2 m.state.subst s.shape s.low s.stands s.known 10 0 fits same free 3 (omega arith) in
-      let cell : Cell s1 (top + 3) (c 6) = record { fixed = b.fixed; is = b.is ∙ same_cell taken.cells' k3 (c 6) } in
+      let cell : Cell s1 (top + 3) (c 6) = record { fixed = b.fixed; is = b.is ∙ other_cell k.cells' 6 (c 6) (heap_at + (top + 3)) (λ e. (omega arith)) ∙ k.around } in
       let at3 : top + 3 ≡ m.state.heap + 3 = omega arith in
-      let inner : InnersIn s1 (c3 6) (place_of m ∷ m.inner) = record {
-        word_is = same_cell c2 6 named ∙ ap at_place heap_is;
+      let inner : InnersIn s1 (k.cells' 6) (place_of m ∷ m.inner) = record {
+        word_is = k.inner ∙ ap at_place heap_is;
         below = omega arith;
         l = c 6;
         l_is = subst (λ (i : ℕ). Cell s1 i (c 6)) at3 cell;
         around_is = grown_inner g (c 6) m.inner r.mid.inner;
       } in
-      let frames : FramesIn t s1 (c3 4) m.frames = subst (λ (w : ℕ). FramesIn t s1 w m.frames) (sym (other_cell c2 6 named 4 (λ e. (omega arith)))) mid1.frames in
-      mid_with t s1 c2 c3 r.trail (more 10 m) m.frames (place_of m ∷ m.inner) (λ j n0 n4 n6 far. other_cell c2 6 named j n6) frames inner mid1
+      let frames : FramesIn t s1 (k.cells' 4) m.frames = subst (λ (w : ℕ). FramesIn t s1 w m.frames) (other_cell k.cells' 6 (c 6) 4 (λ e. (omega arith))) mid1.frames in
+      let mid2 = mid_with t s1 c2 k.cells' r.trail (more 10 m) m.frames (place_of m ∷ m.inner) (λ j n0 n4 n6 far. sym (other_cell k.cells' 6 (c 6) j n6)) frames inner mid1 in
+      record { sh' = s1; grown = g; mid = mid_alike t s1 k.cells' r.trail (within (place_of m) (more 10 m)) (within (place_of m) (more 10 (passed m))) refl refl refl refl mid2 }
 
   turn : Comes t output (t.p.names.routine behind) (within (place_of m) (more 10 (passed m))) 20 z
   turn =
-      let high = plays.has.mapped.room in
-      let heap_is = r.mid.state.heap in
-      let heap = r.mid.heap in
-      let term = taken.term in
-      let y = 49152 + top in
-      let term_is : c2 14 ≡ y = other_cell taken.cells' k3 (c 6) 14 (λ e. (omega arith)) ∙ omega arith in
-      let term_before : taken.cells' 14 ≡ y = omega arith in
-      let put = puts t.p (now memory2) c2 22 named holds2 (omega arith) (omega arith) (omega arith) (omega arith) in
-      let at : (33438 + 2 * 3 + 2 * y) % 65536 ≡ at_cell k3 = omega arith in
-      let inner_reg : taken.cells' 6 ≡ c 6 = taken.others 6 (λ e. (omega arith)) (λ e. (omega arith)) in
-      let mid2 = mid_alike t _ (replaced c2 6 named) r.trail (within (place_of m) (more 10 m)) (within (place_of m) (more 10 (passed m))) refl refl refl refl begun in
-      moves t plays output x m z r (once_routine behind) there (omega arith) (t.p.names.routine behind) (suc 5 + 3) 20 (with_cell memory2 6 named) [] (replaced c2 6 named) _ r.trail (within (place_of m) (more 10 (passed m)))
-      (calls {f' = 0} {w' = 0} {n = 5} {n' = 3} {xs = (10, 0, 0)} {s1 = state taken.memory' taken.locals' r.typed r.drawn output} {s2 = now taken.memory'} refl refl (charge_at t.p plays.has) (omega arith) (omega arith) taken.runs refl
-      (done (writes t.p (now taken.memory') widths.Word (atoms.Num (33438 + 2 * 3)) (atoms.Var 30) (atoms.Var 22) (33438 + 2 * 3) y (c 6) memory2 refl (register t.p (now taken.memory') taken.cells' 30 taken.holds (omega arith) (omega arith) (omega arith) ∙ ap word_is term_before) (register t.p (now taken.memory') taken.cells' 22 taken.holds (omega arith) (omega arith) (omega arith) ∙ ap word_is inner_reg) (writes_cell t.p.world.layout taken.memory' taken.cells' (33438 + 2 * 3) y (c 6) k3 taken.holds at (omega arith)))
-      (done (computes t.p (now memory2) (now (with_cell memory2 6 named)) 22 functions.Sub (atoms.Var 30) (atoms.Num 16384) y 16384 named (register t.p (now memory2) c2 30 holds2 (omega arith) (omega arith) (omega arith) ∙ ap word_is term_is) refl (subtracts t.p memory2 y 16384 named (omega arith) (omega arith)) put.put_is)
-      (returns refl))))
-      put.holds (plays.words behind) mid2 (omega arith)
+      let k = opened in
+      let d = begun k in
+      moves t plays output x m z r (once_routine behind) there (omega arith) (t.p.names.routine behind) (suc 9 + 1) 20 k.memory' [] k.cells' d.sh' r.trail (within (place_of m) (more 10 (passed m)))
+      (calls {f' = 3000} {w' = 18000} {n = 9} {n' = 1} {xs = (0, 0, 0)} {s1 = state k.memory' k.locals' r.typed r.drawn output} {s2 = state k.memory' [] r.typed r.drawn output} refl refl (open_inner_at t.p plays.has) (omega arith) (omega arith) k.runs refl (returns refl))
+      k.holds (plays.words behind) d.mid (omega arith)
 
 once_meets : (t : Telling) → Playing t → (output : List ℕ) (x behind : ℕ) (m : Mid) (z : ZState) → t.p.routine_at x ≡ Some (once_routine behind) → 10000 < m.state.heap + 10 → (r : Represented t output x m z) → Closes t output (r.cells 28) HeapLimit (10 + closing_most) z
 once_meets t plays output x behind m z there over r =
     let low = r.mid.state.few in
-    let heap = r.mid.heap in
-    let q = charge_works.meets t.p plays.has 3000 18000 (omega arith) r.memory r.typed output r.drawn 10 r.cells r.holds (omega arith) (omega arith) (omega arith) in
+    let q = open_inner_works.meets t.p plays.has 3000 18000 (omega arith) r.memory r.typed output r.drawn r.cells m.state.heap r.holds r.mid.heap low over in
     let few = q.few in
     closes t plays output x m z r (once_routine behind) there (omega arith) (suc q.count) (10 + closing_most) (r.cells 28) HeapLimit q.memory' []
-    (calls_last {f' = 3000} {w' = 18000} {n = q.count} {xs = (10, 0, 0)} refl refl (charge_at t.p plays.has) (omega arith) (omega arith) q.runs)
+    (calls_last {f' = 3000} {w' = 18000} {n = q.count} {xs = (0, 0, 0)} refl refl (open_inner_at t.p plays.has) (omega arith) (omega arith) q.runs)
     (omega arith)
 
 pub once_turns : OnceTurns

@@ -10,17 +10,15 @@ use Rattle.z_model.specs.Run.{ZState}
 use Rattle.z_lang.specs.declared.act.Act.TheVariants as acts
 use Rattle.z_lang.specs.declared.act.Args.TheVariants as args
 use Rattle.z_lang.specs.declared.act.Atom.TheVariants as atoms
-use Rattle.z_lang.specs.declared.act.Function.TheVariants as functions
 use Rattle.z_lang.specs.declared.act.Routine.{Routine}
-use Rattle.dg_rt.specs.declared.numbers.TheConstants.{CHARGE, OPEN, FAIL}
-use Rattle.dg_rt.specs.declared.registers.TheConstants.{INNER, TERM}
+use Rattle.dg_rt.specs.declared.numbers.TheConstants.{OPEN, FAIL, OPEN_INNER}
+use Rattle.dg_rt.specs.declared.registers.TheConstants.{INNER}
 use Rattle.dg_rt.specs.Areas.{back_reg, last_reg}
 use Rattle.dg_rt.specs.Shapes.{Shows}
 use Rattle.dg_rt.specs.RunTime.{routine_of}
 use Rattle.dg_rt.specs.Closings.{closing_most}
 use Rattle.dg_turn.specs.Told.{Telling}
 use Rattle.dg_turn.specs.Plays.{Playing, Represented, Comes, Closes}
-use Rattle.dg_turn.specs.Terms.{cell_act}
 
 -- ## Opening
 
@@ -59,11 +57,9 @@ pub record BranchTurns : Type 0 where
       (o : OpensAt t output try_routine block behind m z) → 10000 < m.state.heap + 10 →
       Closes t output (o.rep.cells last_reg) HeapLimit (10 + closing_most) z
 
--- The routine that begins an inner construct without a choice: ten cells are taken, of which the fourth keeps the one around it.
+-- The routine that begins an inner construct without a choice, and goes on there.
 abbrev pub once_routine : ℕ → Routine
-once_routine behind =
-    routine_of 0 (acts.Call None (atoms.Routine CHARGE) (args.One (atoms.Num 10)) ∷ cell_act 3 (atoms.Var INNER)
-    ∷ acts.Compute INNER functions.Sub (atoms.Var TERM) (atoms.Num 16384) ∷ acts.Return (atoms.Routine behind) ∷ [])
+once_routine behind = routine_of 0 (acts.Call None (atoms.Routine OPEN_INNER) args.Zero ∷ acts.Return (atoms.Routine behind) ∷ [])
 
 -- In one turn it is begun, or the heap's limit is met: `does` of a `Once`.
 pub record OnceTurns : Type 0 where
