@@ -1,13 +1,13 @@
 -- Where the routines stand that turns call.
 use Rattle.std.proofs.Common.{◌≡◌, Some, refl}
 use Rattle.z_lang.specs.State.{Program}
-use Rattle.dg_rt.specs.declared.numbers.TheConstants.{CHARGE, VAR, ENTER, OPEN, FAIL, FAILED, CAPTURE, COMMIT, KEY_OF, FOUND, NONE, MATCH, MATCHED, LEAVE, OPEN_INNER}
+use Rattle.dg_rt.specs.declared.numbers.TheConstants.{CHARGE, VAR, ENTER, OPEN, FAIL, FAILED, CAPTURE, COMMIT, KEY_OF, FOUND, NONE, MATCH, MATCHED, LEAVE, ASK, TAIL_CALL, OPEN_INNER}
 use Rattle.dg_rt.specs.declared.closings.TheConstants.{FAILED_ACTS}
 use Rattle.dg_rt.specs.declared.heap.TheConstants.{CHARGE_ACTS}
 use Rattle.dg_rt.specs.declared.frames.TheConstants.{VAR_ACTS, CAPTURE_ACTS, ENTER_ACTS}
 use Rattle.dg_rt.specs.declared.choices.TheConstants.{OPEN_ACTS, FAIL_ACTS, COMMIT_ACTS, OPEN_INNER_ACTS}
 use Rattle.dg_rt.specs.declared.rules.TheConstants.{KEY_OF_ACTS, FOUND_ACTS, NONE_ACTS, MATCH_ACTS, MATCHED_ACTS}
-use Rattle.dg_rt.specs.declared.queries.TheConstants.{LEAVE_ACTS}
+use Rattle.dg_rt.specs.declared.queries.TheConstants.{LEAVE_ACTS, ASK_ACTS, TAIL_CALL_ACTS}
 use Rattle.dg_rt.specs.RunTime.{routine_of, HasRunTime}
 
 module _ (p : Program) (has : HasRunTime p) where
@@ -52,6 +52,12 @@ module _ (p : Program) (has : HasRunTime p) where
 
   pub leave_at : p.routine_at (p.names.routine LEAVE) ≡ Some (routine_of 4 LEAVE_ACTS)
   leave_at = has.each 28 (routine_of 4 LEAVE_ACTS) refl
+
+  pub ask_at : p.routine_at (p.names.routine ASK) ≡ Some (routine_of 4 ASK_ACTS)
+  ask_at = has.each 29 (routine_of 4 ASK_ACTS) refl
+
+  pub tail_call_at : p.routine_at (p.names.routine TAIL_CALL) ≡ Some (routine_of 2 TAIL_CALL_ACTS)
+  tail_call_at = has.each 30 (routine_of 2 TAIL_CALL_ACTS) refl
 
   pub open_inner_at : p.routine_at (p.names.routine OPEN_INNER) ≡ Some (routine_of 2 OPEN_INNER_ACTS)
   open_inner_at = has.each 32 (routine_of 2 OPEN_INNER_ACTS) refl

@@ -1,5 +1,5 @@
 -- The last query of a rule, as a turn: it goes on where the rule does. Hold it against `asks_last` of dg_mid/specs/Step.antt.
-use Rattle.std.specs.Prelude.{◌≡◌, ℕ, ◌+◌, ◌<◌, ◌≤◌, List, [], ◌∷◌, ◌++◌, length, map, Some, None, Bool, true, false}
+use Rattle.std.specs.Prelude.{◌≡◌, ℕ, ◌+◌, ◌<◌, ◌≤◌, List, [], ◌∷◌, ◌++◌, length, map, Some, Bool, true, false}
 use Rattle.dg_base.specs.declared.program.CoreProgram.{CoreProgram}
 use Rattle.dg_base.specs.declared.program.Term.{Term}
 use Rattle.dg_base.specs.declared.run.Ending.TheVariants.{HeapLimit}
@@ -8,38 +8,27 @@ use Rattle.dg_meaning.specs.Cells.{nodes_of, cells}
 use Rattle.dg_mid.specs.State.{Frame, Call, Mid, vars_of}
 use Rattle.dg_mid.specs.Step.{call_of, more, first_of}
 use Rattle.z_model.specs.Run.{ZState}
-use Rattle.z_lang.specs.declared.act.Act.{Act}
 use Rattle.z_lang.specs.declared.act.Act.TheVariants as acts
 use Rattle.z_lang.specs.declared.act.Args.TheVariants as args
 use Rattle.z_lang.specs.declared.act.Atom.TheVariants as atoms
-use Rattle.z_lang.specs.declared.act.Comparison.TheVariants as comparisons
-use Rattle.z_lang.specs.declared.act.Function.TheVariants as functions
 use Rattle.z_lang.specs.declared.act.Routine.{Routine}
-use Rattle.dg_rt.specs.declared.registers.TheConstants.{ARGS, BACK, BEGIN, FRAME, INNER, PARAMETERS}
+use Rattle.dg_rt.specs.declared.numbers.TheConstants.{TAIL_CALL}
+use Rattle.dg_rt.specs.declared.registers.TheConstants.{ARGS, WORD}
 use Rattle.dg_rt.specs.Areas.{last_reg}
 use Rattle.dg_rt.specs.RunTime.{routine_of}
 use Rattle.dg_rt.specs.Closings.{closing_most}
 use Rattle.dg_turn.specs.Told.{Telling}
 use Rattle.dg_turn.specs.Plays.{Playing, Represented, Closes}
 use Rattle.dg_turn.specs.Terms.{terms_acts, AreNodes}
-use Rattle.dg_turn.specs.Leaving.{field_act}
-use Rattle.dg_turn.specs.Queries.{place_acts, key_acts, asking_most, AskedAt}
+use Rattle.dg_turn.specs.Queries.{ask_acts, asking_most, AskedAt}
 
--- What a last query does with the frame at hand, in a routine of its own. Where all answers of its rule are wanted, it goes on where the rule does, and
--- the frame is left; where one is, it goes on at the routine that answers a rule, and no inner construct is open there.
-abbrev pub tail_acts : ℕ → List Act
-tail_acts end =
-    field_act PARAMETERS 4 ∷ acts.Compute PARAMETERS functions.Mod (atoms.Var PARAMETERS) (atoms.Num 2)
-    ∷ acts.When (record { comparison = comparisons.Equal; first = atoms.Var PARAMETERS; second = atoms.Num 1; answer = true }) 0
-    ∷ acts.Copy BACK (atoms.Routine end) ∷ acts.Copy INNER (atoms.Num 0) ∷ acts.Return (atoms.Num 0)
-    ∷ acts.Label 0 ∷ field_act BACK 1 ∷ field_act INNER 3 ∷ field_act FRAME 0 ∷ acts.Return (atoms.Num 0) ∷ []
-
--- The routine of a last query with these arguments, whose rules begin at a number; the one above has a number too.
+-- The routine of a last query with these arguments. The routine that every story has for it says what comes behind: where all answers of the rule are
+-- wanted, it is what comes behind the rule, and the frame is left; where one is, it is the routine that answers a rule, which has a number, and no inner
+-- construct is open there.
 abbrev pub last_routine : CoreProgram → List Term → ℕ → Bool → ℕ → Routine
-last_routine program ts tail many rules =
+last_routine program ts end many rules =
     routine_of 0 (terms_acts program ARGS ts
-    ++ (acts.Call None (atoms.Routine tail) args.Zero
-    ∷ (place_acts many ++ (key_acts ts ++ (acts.Copy BEGIN (atoms.Num 0) ∷ acts.Return (atoms.Routine rules) ∷ [])))))
+    ++ (acts.Call (Some WORD) (atoms.Routine TAIL_CALL) (args.One (atoms.Routine end)) ∷ ask_acts (atoms.Var WORD) many ts rules))
 
 -- The machine in which it is called, and the block behind it.
 abbrev pub left_at : Bool → Frame → List Frame → Mid → Mid
@@ -58,11 +47,9 @@ last_call program ts many f m = call_of (map (value_of program (vars_of m.frames
 pub record LastAsking (t : Telling) (output : List ℕ) (ts : List Term) (many : Bool) (rules : ℕ) (f : Frame) (fs : List Frame) (m : Mid)
     (z : ZState) : Type 0 where
   pub x : ℕ
-  pub tail : ℕ
   pub end : ℕ
   pub rep : Represented t output x m z
-  pub there : t.p.routine_at x ≡ Some (last_routine t.program ts tail many rules)
-  pub tail_is : t.p.routine_at (t.p.names.routine tail) ≡ Some (routine_of 0 (tail_acts end))
+  pub there : t.p.routine_at x ≡ Some (last_routine t.program ts end many rules)
   pub end_is : t.p.names.routine end ≡ t.at_block 0
   pub frames : m.frames ≡ f ∷ fs
   pub short : length ts ≤ 12

@@ -1,5 +1,5 @@
 -- Queries that are asked, and going back to their further rules, as turns. Hold it against `does` and `goes_back` of dg_mid/specs/Step.antt.
-use Rattle.std.specs.Prelude.{◌≡◌, ◌≢◌, ℕ, ◌+◌, ◌*◌, ◌<◌, ◌≤◌, List, [], ◌∷◌, ◌++◌, length, map, Option, Some, Bool}
+use Rattle.std.specs.Prelude.{◌≡◌, ◌≢◌, ℕ, ◌+◌, ◌*◌, ◌<◌, ◌≤◌, List, [], ◌∷◌, ◌++◌, length, map, Option, Some, None, Bool}
 use Rattle.dg_base.specs.declared.program.CoreProgram.{CoreProgram}
 use Rattle.dg_base.specs.declared.program.Term.{Term}
 use Rattle.dg_base.specs.declared.run.Ending.TheVariants.{Failed, HeapLimit}
@@ -17,12 +17,12 @@ use Rattle.z_model.specs.Run.{ZState}
 use Rattle.z_lang.specs.declared.act.Act.{Act}
 use Rattle.z_lang.specs.declared.act.Act.TheVariants as acts
 use Rattle.z_lang.specs.declared.act.Args.TheVariants as args
+use Rattle.z_lang.specs.declared.act.Atom.{Atom}
 use Rattle.z_lang.specs.declared.act.Atom.TheVariants as atoms
-use Rattle.z_lang.specs.declared.act.Function.TheVariants as functions
 use Rattle.z_lang.specs.declared.act.Routine.{Routine}
 use Rattle.z_lang.specs.Leads.{Leads}
-use Rattle.dg_rt.specs.declared.numbers.TheConstants.{KEY_OF, FAIL}
-use Rattle.dg_rt.specs.declared.registers.TheConstants.{ARGS, BACK, CUT_TO, MANY, KEY, BEGIN, HEAP}
+use Rattle.dg_rt.specs.declared.numbers.TheConstants.{FAIL, ASK}
+use Rattle.dg_rt.specs.declared.registers.TheConstants.{ARGS}
 use Rattle.dg_rt.specs.Areas.{last_reg}
 use Rattle.dg_rt.specs.RunTime.{routine_of}
 use Rattle.dg_rt.specs.Closings.{closing_most}
@@ -34,25 +34,21 @@ use Rattle.dg_turn.specs.Rules.{LooksAt, BegunTo, behind_first}
 
 -- ## Asking
 
--- The place to which the rule of a query cuts, and whether all answers are wanted.
-abbrev pub place_acts : Bool → List Act
-place_acts many = acts.Compute CUT_TO functions.Add (atoms.Var HEAP) (atoms.Num 32768) ∷ acts.Copy MANY (atoms.Num (bit_of many)) ∷ []
+-- Whether there is a first argument.
+abbrev pub some_of : List Term → ℕ
+some_of [] = 0
+some_of (a ∷ as') = 1
 
--- The same, with where it goes on behind the query.
-abbrev pub call_acts : ℕ → Bool → List Act
-call_acts behind many = acts.Copy BACK (atoms.Routine behind) ∷ place_acts many
+-- What comes behind the arguments of a query: the routine that every story has for it makes the rest of the call, of what comes behind the query and
+-- whether all answers are wanted, with the key of the first argument, and the rules that begin at a number are looked at next.
+abbrev pub ask_acts : Atom → Bool → List Term → ℕ → List Act
+ask_acts behind many ts rules =
+    acts.Call None (atoms.Routine ASK) (args.Three behind (atoms.Num (bit_of many)) (atoms.Num (some_of ts)))
+    ∷ acts.Return (atoms.Routine rules) ∷ []
 
--- The key of the first of some arguments.
-abbrev pub key_acts : List Term → List Act
-key_acts [] = acts.Copy KEY (atoms.Num 32768) ∷ []
-key_acts (a ∷ as') = acts.Call (Some KEY) (atoms.Routine KEY_OF) (args.One (atoms.Var ARGS)) ∷ []
-
--- The routine of a query with these arguments, whose rules begin at a number: the arguments are written into their registers, with what else a call
--- has, and no rule was found yet.
+-- The routine of a query with these arguments: they are written into their registers first.
 abbrev pub asking_routine : CoreProgram → List Term → ℕ → Bool → ℕ → Routine
-asking_routine program ts behind many rules =
-    routine_of 0 (terms_acts program ARGS ts
-    ++ (call_acts behind many ++ (key_acts ts ++ (acts.Copy BEGIN (atoms.Num 0) ∷ acts.Return (atoms.Routine rules) ∷ []))))
+asking_routine program ts behind many rules = routine_of 0 (terms_acts program ARGS ts ++ ask_acts (atoms.Routine behind) many ts rules)
 
 -- The call of a query with these terms that goes on at a block, in the machine that asks it.
 abbrev pub asked_call : CoreProgram → List Term → Bool → ℕ → Mid → Call
