@@ -1,5 +1,5 @@
 -- The cells of the newest frame are read, and choices are cut to its place.
-use Rattle.std.proofs.Common.{◌≡◌, ◌≢◌, ℕ, suc, ◌+◌, ◌-◌, ◌*◌, ◌<◌, ◌≤◌, List, [], ◌∷◌, drop, None, refl, sym, ap, ◌∙◌, subst, arith}
+use Rattle.std.proofs.Common.{◌≡◌, ◌≢◌, ℕ, suc, ◌+◌, ◌-◌, ◌*◌, ◌<◌, ◌≤◌, List, [], ◌∷◌, None, refl, sym, ap, ◌∙◌, subst, arith}
 use Rattle.dg_mid.specs.State.{Frame, Mid}
 use Rattle.dg_mid.specs.Step.{cut_to}
 use Rattle.dg_mid.specs.Units.{dropped}
@@ -10,7 +10,7 @@ use Rattle.z_lang.specs.declared.act.Args.TheVariants as args
 use Rattle.z_lang.specs.declared.act.Atom.TheVariants as atoms
 use Rattle.z_lang.specs.declared.act.Function.TheVariants as functions
 use Rattle.z_lang.specs.State.{State}
-use Rattle.z_lang.specs.Runs.{ActsRun, ActsOutcome, Returns, done, calls, returns}
+use Rattle.z_lang.specs.Runs.{ActsRun, ActsOutcome, done, calls}
 use Rattle.dg_rt.specs.Cells.{with_cell, replaced, Holds}
 use Rattle.dg_rt.specs.Areas.{heap_at, state}
 use Rattle.dg_rt.specs.Shapes.{Shape, Cell}
@@ -21,9 +21,9 @@ use Rattle.dg_rt.proofs.Cutting.{cut_works}
 use Rattle.dg_rt.proofs.Following.{word as word_is, computes, register, puts}
 use Rattle.dg_rt.proofs.Standing.{cut_at}
 use Rattle.dg_turn.specs.Told.{Telling}
-use Rattle.dg_turn.specs.Lies.{FramesIn, InnersIn, MidIn}
+use Rattle.dg_turn.specs.Lies.{FramesIn, MidIn}
 use Rattle.dg_turn.specs.Leaving.{field_act}
-use Rattle.dg_turn.proofs.Staying.{mid_with, mid_same}
+use Rattle.dg_turn.proofs.Staying.{mid_same}
 use Rattle.dg_turn.proofs.Cutting.{places_of, chained, fallen_is, cut_in}
 
 module _ (t : Telling) (has : HasRunTime t.p) (ff ww : ℕ) (typed output : List ℕ) (drawn : ℕ) (sh : Shape) (begun : ℕ → ℕ) (trail : List ℕ) (m : Mid) (start : MidIn t sh begun trail m) (f : Frame) (fs : List Frame) (h : FramesIn t sh (begun 4) (f ∷ fs)) where

@@ -28,7 +28,7 @@ use Rattle.dg_rt.specs.Back.{at_place}
 use Rattle.dg_rt.specs.RunTime.{HasRunTime}
 use Rattle.dg_rt.specs.Closings.{closing_most}
 use Rattle.dg_rt.proofs.Cells.{other_cell, same_cell}
-use Rattle.dg_rt.proofs.Following.{word as word_is, register, puts}
+use Rattle.dg_rt.proofs.Following.{register, puts}
 use Rattle.dg_rt.proofs.TailCalling.{tail_call_works}
 use Rattle.dg_rt.proofs.UnifySteps.{steps_are}
 use Rattle.dg_turn.specs.Told.{Telling, FirstIs}

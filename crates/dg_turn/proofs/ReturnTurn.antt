@@ -1,5 +1,5 @@
 -- A rule cuts, or is answered: turns of the story.
-use Rattle.std.proofs.Common.{◌≡◌, ◌≢◌, ℕ, ◌+◌, ◌*◌, ◌%◌, ◌<◌, ◌≤◌, Bool, true, false, List, [], ◌∷◌, drop, length, Some, inl, inr, refl, sym, ap, ◌∙◌, subst, arith}
+use Rattle.std.proofs.Common.{◌≡◌, ◌≢◌, ℕ, ◌+◌, ◌*◌, ◌<◌, ◌≤◌, Bool, true, false, List, [], ◌∷◌, drop, length, Some, inl, inr, refl, sym, ap, ◌∙◌, subst, arith}
 use Rattle.std.specs.Prelude.{if◌then◌else◌}
 use Rattle.std.proofs.lemmas.Bool.{cases_eq}
 use Rattle.dg_mid.specs.State.{Frame, Mid}
@@ -29,10 +29,6 @@ use Rattle.dg_turn.proofs.Staying.{mid_with, mid_same, mid_alike}
 use Rattle.dg_turn.proofs.Cutting.{places_of, chained, fallen_is, cut_in}
 use Rattle.dg_turn.proofs.AtFrame.{Framed, cuts}
 use Rattle.dg_turn.proofs.Moving.{moves}
-
-pub size_bit : (b : Bool) (n : ℕ) → (2 * n + bit_of b) % 2 ≡ bit_of b
-size_bit true n = omega arith
-size_bit false n = omega arith
 
 module _ (t : Telling) (plays : Playing t) (output : List ℕ) (x : ℕ) (m : Mid) (f : Frame) (fs : List Frame) (z : ZState) (r : Represented t output x m z) (h : FramesIn t r.sh (r.cells 4) (f ∷ fs)) where
   abbrev now : List ℕ → State

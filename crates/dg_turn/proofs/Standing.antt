@@ -1,12 +1,12 @@
 -- Where the routines stand that turns call.
 use Rattle.std.proofs.Common.{◌≡◌, Some, refl}
 use Rattle.z_lang.specs.State.{Program}
-use Rattle.dg_rt.specs.declared.numbers.TheConstants.{CHARGE, VAR, ENTER, OPEN, FAIL, FAILED, CAPTURE, COMMIT, KEY_OF, FOUND, NONE, MATCH, MATCHED, LEAVE, ASK, TAIL_CALL, OPEN_INNER}
+use Rattle.dg_rt.specs.declared.numbers.TheConstants.{CHARGE, VAR, ENTER, OPEN, FAIL, FAILED, CAPTURE, COMMIT, FOUND, NONE, MATCH, MATCHED, LEAVE, ASK, TAIL_CALL, OPEN_INNER}
 use Rattle.dg_rt.specs.declared.closings.TheConstants.{FAILED_ACTS}
 use Rattle.dg_rt.specs.declared.heap.TheConstants.{CHARGE_ACTS}
 use Rattle.dg_rt.specs.declared.frames.TheConstants.{VAR_ACTS, CAPTURE_ACTS, ENTER_ACTS}
 use Rattle.dg_rt.specs.declared.choices.TheConstants.{OPEN_ACTS, FAIL_ACTS, COMMIT_ACTS, OPEN_INNER_ACTS}
-use Rattle.dg_rt.specs.declared.rules.TheConstants.{KEY_OF_ACTS, FOUND_ACTS, NONE_ACTS, MATCH_ACTS, MATCHED_ACTS}
+use Rattle.dg_rt.specs.declared.rules.TheConstants.{FOUND_ACTS, NONE_ACTS, MATCH_ACTS, MATCHED_ACTS}
 use Rattle.dg_rt.specs.declared.queries.TheConstants.{LEAVE_ACTS, ASK_ACTS, TAIL_CALL_ACTS}
 use Rattle.dg_rt.specs.RunTime.{routine_of, HasRunTime}
 
@@ -34,9 +34,6 @@ module _ (p : Program) (has : HasRunTime p) where
 
   pub commit_at : p.routine_at (p.names.routine COMMIT) ≡ Some (routine_of 1 COMMIT_ACTS)
   commit_at = has.each 22 (routine_of 1 COMMIT_ACTS) refl
-
-  pub key_of_at : p.routine_at (p.names.routine KEY_OF) ≡ Some (routine_of 4 KEY_OF_ACTS)
-  key_of_at = has.each 23 (routine_of 4 KEY_OF_ACTS) refl
 
   pub found_at : p.routine_at (p.names.routine FOUND) ≡ Some (routine_of 4 FOUND_ACTS)
   found_at = has.each 24 (routine_of 4 FOUND_ACTS) refl
