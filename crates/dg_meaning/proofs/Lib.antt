@@ -1,3 +1,4 @@
+pub mod HoldingFew
 pub mod Walks
 pub mod LookUps
 pub mod Solving

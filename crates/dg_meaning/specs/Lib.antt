@@ -1,4 +1,5 @@
 pub mod Sets
+pub mod Few
 pub mod Values
 pub mod Substitutions
 pub mod Unify

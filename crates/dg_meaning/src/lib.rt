@@ -1,9 +1,12 @@
 //! What a program means: its values and their unification, the search, the text that it prints, its limits, and what an interpreter may write.
 #![tactic(auto)]
 
-ghost use Rattle.std.specs.Prelude.{ℕ, ◌≡◌, ◌+◌, List, Option};
+ghost use Rattle.std.specs.Prelude.{ℕ, ◌≡◌, ◌+◌, ◌≤◌, List, Option};
+ghost use Rattle.dg_base.specs.Sound.{IsSound};
+ghost use Rattle.dg_base.specs.declared.program.CoreProgram.{CoreProgram};
 ghost use Rattle.dg_base.specs.declared.run.Limits.{Limits};
 ghost use Rattle.dg_base.specs.declared.run.Outcome.{Outcome};
+ghost use Rattle.dg_meaning.specs.Few.{AllAskFew, AllHoldFew};
 ghost use Rattle.dg_meaning.specs.Substitutions.{Substitution};
 ghost use Rattle.dg_meaning.specs.inside.Substitutions.{IsSubstitution};
 ghost use Rattle.dg_meaning.specs.Unify.{Equations};
@@ -83,4 +86,9 @@ pub fn spellings_unify()
 /// A rule that the first argument of a query excludes would not have matched.
 pub fn excluded_rules_clash()
     ensures { ExcludedRulesClash }
+{}
+
+/// The goals of a sound program hold few terms where its queries of predicates have few arguments: no other goal holds more than three.
+pub fn goals_hold_few()
+    ensures { (program : CoreProgram) → IsSound program → (n : ℕ) → 3 ≤ n → AllAskFew n program → AllHoldFew n program }
 {}

@@ -13,6 +13,7 @@ use Rattle.dg_base.specs.declared.program.Term.{Term}
 use Rattle.dg_base.specs.declared.run.Ending.{Ending}
 use Rattle.dg_base.specs.declared.run.Ending.TheVariants as ending
 use Rattle.dg_meaning.specs.Cells.{cells}
+use Rattle.dg_meaning.specs.Few.{AllHoldFew}
 use Rattle.dg_meaning.specs.Moves.{selects as selects_so}
 use Rattle.dg_meaning.specs.Path.{Act, Goes as GoesAct, Tests, Unifies, Ends, Fails as FailsNow, Stops, Effect, Acts, Offers}
 use Rattle.dg_meaning.specs.Substitutions.{walk, resolved}
@@ -25,7 +26,7 @@ use Rattle.dg_mid.specs.declared.code.Gathered.{Gathered}
 use Rattle.dg_mid.specs.declared.code.Gathered.TheVariants as gathered
 use Rattle.dg_mid.specs.declared.code.RuleCode.{RuleCode}
 use Rattle.dg_mid.specs.Actions.{goal_of, terms_of, asked_at, act_at, found_at, world_of, lasting_in}
-use Rattle.dg_mid.specs.Calls.{FirstFits, StatusFits, AllHoldFew}
+use Rattle.dg_mid.specs.Calls.{FirstFits, StatusFits}
 use Rattle.dg_mid.specs.Code.{block_at, rules_at, selected}
 use Rattle.dg_mid.specs.Codes.{End, Commits, Refuses, Backs, Leaves, Keeps, Finishes, found_goals, found_end, Stands, jumps, returns, commits, refuses, backs, leaves, keeps, finishes, acts, ask, last_ask, query, last_query, holds, objects, only, either, selects, once, negates, branch, exhausts, shields, collects, accumulates, forever, Others, last_list, more_lists, Branches, no_branch, a_branch, Codes}
 use Rattle.dg_mid.specs.declared.code.Code.{Code}

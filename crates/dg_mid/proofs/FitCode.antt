@@ -7,6 +7,7 @@ use Rattle.dg_base.specs.declared.program.Goal.{Goal, out-Goal}
 use Rattle.dg_base.specs.declared.program.Pred.{Pred}
 use Rattle.dg_base.specs.declared.program.Rule.{Rule}
 use Rattle.dg_base.specs.declared.program.Term.{Term}
+use Rattle.dg_meaning.specs.Few.{HoldsFew}
 use Rattle.dg_meaning.specs.Moves.{rules_of}
 use Rattle.dg_meaning.specs.Values.{Value}
 use Rattle.dg_meaning.specs.World.{Game}
@@ -15,7 +16,7 @@ use Rattle.dg_mid.specs.declared.code.Op.TheVariants as op
 use Rattle.dg_mid.specs.declared.code.Gathered.{Gathered}
 use Rattle.dg_mid.specs.declared.code.RuleCode.{RuleCode}
 use Rattle.dg_mid.specs.declared.code.Code.{Code}
-use Rattle.dg_mid.specs.Calls.{HoldsFew, EntersWith, AllEnterWith, WayFits, ChoicesFit}
+use Rattle.dg_mid.specs.Calls.{EntersWith, AllEnterWith, WayFits, ChoicesFit}
 use Rattle.dg_mid.specs.Code.{block_at, excluded, selected}
 use Rattle.dg_mid.specs.Codes.{End, Returns, Commits, Refuses, Backs, Leaves, Keeps, Finishes, Stands, Others, RulesStand}
 use Rattle.dg_mid.specs.State.{Frame, Call, Way, Goes, Takes, Calls, Tries, Stop, Choice, Mid, Status, Runs, Enters, Resumes, Fails, Ended}

@@ -11,13 +11,13 @@ use Rattle.dg_base.specs.declared.program.Goal.TheVariants as goal
 use Rattle.dg_base.specs.declared.program.Pred.{Pred}
 use Rattle.dg_base.specs.declared.program.Rule.{Rule}
 use Rattle.dg_base.specs.declared.program.Term.{Term}
+use Rattle.dg_meaning.specs.Few.{HoldsFew, AllHoldFew}
 use Rattle.dg_meaning.specs.Moves.{rules_of}
 use Rattle.dg_meaning.specs.Values.{Closure, Value, Values, Node}
 use Rattle.dg_meaning.specs.World.{Game}
 use Rattle.dg_mid.specs.declared.code.Op.{Op}
 use Rattle.dg_mid.specs.declared.code.RuleCode.{RuleCode}
 use Rattle.dg_mid.specs.declared.code.BodyCode.{BodyCode}
-use Rattle.dg_mid.specs.Calls.{HoldsFew, AllHoldFew}
 use Rattle.dg_mid.specs.Code.{block_at, rules_at}
 use Rattle.dg_mid.specs.Codes.{Returns, Stands, returns, BodyStands, Codes}
 use Rattle.dg_mid.specs.declared.code.Code.{Code}

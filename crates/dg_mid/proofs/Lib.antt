@@ -29,7 +29,6 @@ pub mod Deep
 pub mod FitCode
 pub mod FitProgram
 pub mod CallsFit
-pub mod HoldingFew
 pub mod Rest
 pub mod Within
 pub mod SingleCalls

@@ -1,9 +1,9 @@
 -- What holds of all register code. Hold it against the Dialog manual, chapters "Choice points" and "Output", and docs/LANGUAGE.md, "Limits".
 use Rattle.std.specs.Prelude.{ℕ, ◌+◌, ◌*◌, ◌≡◌, ◌≢◌, ◌<◌, ◌≤◌, ◌⊎◌, List, Bool, true, false}
-use Rattle.dg_base.specs.declared.program.CoreProgram.{CoreProgram}
 use Rattle.dg_base.specs.declared.run.Ending.TheVariants.{StepLimit}
 use Rattle.dg_base.specs.declared.run.Limits.{Limits}
 use Rattle.dg_base.specs.Sound.{IsSound}
+use Rattle.dg_meaning.specs.Few.{AllHoldFew}
 use Rattle.dg_meaning.specs.World.{Game}
 use Rattle.dg_meaning.specs.Transcript.{run}
 use Rattle.dg_meaning.specs.Shows.{MayBegin}
@@ -16,7 +16,7 @@ use Rattle.dg_mid.specs.Codes.{Codes}
 use Rattle.dg_mid.specs.Runs.{after, IsAt, ShowsAll, ShowsFaults}
 use Rattle.dg_mid.specs.Heights.{StatusOrdered}
 use Rattle.dg_mid.specs.Trails.{StatusTrailed}
-use Rattle.dg_mid.specs.Calls.{AllAskFew, AllHoldFew, StatusCuts, StatusFits}
+use Rattle.dg_mid.specs.Calls.{StatusCuts, StatusFits}
 use Rattle.dg_mid.specs.Seeking.{BlocksLeave, StatusSeeks}
 use Rattle.dg_mid.specs.Singles.{IsAnswered, choices_in}
 use Rattle.dg_mid.specs.Falling.{left_at}
@@ -51,10 +51,6 @@ CallsCut = (s : Setting) (typed : List ℕ) (k : ℕ) → StatusCuts (after s ty
 -- No run of any code ends with a step limit: that is its caller's.
 abbrev pub NoStepLimit : Type 0
 NoStepLimit = (s : Setting) (typed : List ℕ) (k : ℕ) → (after s typed k).now ≢ Ended StepLimit
-
--- The goals of a sound program hold few terms each where its queries of predicates have few arguments: no other goal holds more than three.
-abbrev pub GoalsHoldFew : Type 0
-GoalsHoldFew = (program : CoreProgram) → IsSound program → (n : ℕ) → 3 ≤ n → AllAskFew n program → AllHoldFew n program
 
 -- In every run of code that stands for a sound program whose goals hold few terms each, calls have as many arguments as the rules that they may enter
 -- have terms in their heads, and no more than that.

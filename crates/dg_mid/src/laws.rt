@@ -1,5 +1,5 @@
 // What holds of all register code.
-ghost use Rattle.dg_mid.specs.Laws.{CallsCut, CallsFit, CodeShows, CodeShowsFaults, CostsItsWork, Falls, GoalsHoldFew, HeightsOrder, LooksItsWork};
+ghost use Rattle.dg_mid.specs.Laws.{CallsCut, CallsFit, CodeShows, CodeShowsFaults, CostsItsWork, Falls, HeightsOrder, LooksItsWork};
 ghost use Rattle.dg_mid.specs.Laws.{MovesOn, NoStepLimit, ObjectsTried, RunsAsSearched, SinglesLeaveNone, TrailsOrder};
 
 /// Every run of code that stands for a program is a run of its search.
@@ -30,11 +30,6 @@ pub fn trails_order_places()
 /// A call that is gone on with cuts to where it is gone on, so an engine needs no place for that in a choice.
 pub fn calls_cut_where_they_go_on()
     ensures { CallsCut }
-{}
-
-/// Goals hold few terms where queries of predicates have few arguments.
-pub fn goals_hold_few()
-    ensures { GoalsHoldFew }
 {}
 
 /// A call has as many arguments as the rules that it may enter have terms in their heads.

@@ -10,9 +10,8 @@ use Rattle.dg_base.specs.declared.program.PlaceKind.{PlaceKind}
 use Rattle.dg_base.specs.declared.program.PlaceKind.TheVariants.{Flag, ObjectFlag, ObjectVar, Parent, Global}
 use Rattle.dg_base.specs.declared.program.Term.{Term}
 use Rattle.dg_base.specs.Goals.{all_goals_of, terms_held, option_terms}
-use Rattle.dg_base.specs.Sound.{IsGoalOf, FitsPlace, FitsProgram, terms_of_kind, closure_vars}
-use Rattle.dg_mid.specs.Calls.{HoldsFew, FormAsksFew, AsksFew}
-use Rattle.dg_mid.specs.Laws.{GoalsHoldFew}
+use Rattle.dg_base.specs.Sound.{IsSound, IsGoalOf, FitsPlace, FitsProgram, terms_of_kind, closure_vars}
+use Rattle.dg_meaning.specs.Few.{HoldsFew, AllHoldFew, FormAsksFew, AsksFew, AllAskFew}
 
 kind_few : (k : PlaceKind) → terms_of_kind k ≤ 2
 kind_few Flag = omega arith
@@ -43,7 +42,7 @@ module _ (program : CoreProgram) (n : ℕ) (three : 3 ≤ n) where
   body_few : (vars : ℕ) (body : List Goal) → All (IsGoalOf program vars) (all_goals_of body) → All (AsksFew n) (all_goals_of body) → All (HoldsFew n) (all_goals_of body)
   body_few vars body are few k d lt = goal_few vars _ (are k d lt) (few k d lt)
 
-pub goals_hold_few : GoalsHoldFew
+pub goals_hold_few : (program : CoreProgram) → IsSound program → (n : ℕ) → 3 ≤ n → AllAskFew n program → AllHoldFew n program
 goals_hold_few program sound n three few = record {
   preds = λ i pred lt j rule lt'.
       let r = get_or (get_or program.preds i pred).rules j rule in
