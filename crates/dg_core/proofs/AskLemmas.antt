@@ -6,7 +6,7 @@ use Rattle.std.specs.Option.{option_map}
 use Rattle.std.specs.Str.{bytes_eq}
 use Rattle.std.specs.Cmp.Lexicographic.{bytes_decides}
 use Rattle.std.proofs.lemmas.Grind.{common_steps}
-use Rattle.std.proofs.lemmas.List.Elements.{All-nil, All-cons, All-append, All-weaker, All-contains, All-from_recursion}
+use Rattle.std.proofs.lemmas.List.Elements.{All-nil, All-cons, All-append, All-head, All-tail, All-weaker, All-contains, All-from_recursion}
 use Rattle.std.proofs.lemmas.List.Quantifiers.{position-Some}
 use Rattle.std.proofs.lemmas.Option.{slice_get-get_or, slice_get-map}
 use Rattle.dg_base.specs.Heads.{name_of}
@@ -84,6 +84,18 @@ pred_in names items n = without_facts (place_names items) (pred_of (outer_scope 
 pred_rules : (names : Named) (items : List Item) (n : List ℕ) → All (HasValues n) (pred_in names items n).rules
 pred_rules names items n = kept n (is_among n (place_names items)) (rules_from (outer_scope names items) none_before n items) (all_rules (outer_scope names items) none_before n items)
 
+-- the heads of every predicate are few where names have few places
+abbrev HeadsFew : ℕ → Pred → Type 0
+HeadsFew n q = All (λ (r : Rule). length r.head ≤ n) q.rules
+
+pub heads_few : (names : Named) (items : List Item) (n : ℕ) (ns : List (List ℕ)) → All (λ (m : List ℕ). values_named m ≤ n) ns → All (HeadsFew n) (map (without_facts (place_names items)) (map (pred_of (outer_scope names items) items) ns))
+heads_few names items n [] h = All-nil (HeadsFew n)
+heads_few names items n (m ∷ ns) h =
+    let few = All-head (λ (k : List ℕ). values_named k ≤ n) m ns h in
+    All-cons (HeadsFew n) (pred_in names items m) (map (without_facts (place_names items)) (map (pred_of (outer_scope names items) items) ns))
+    (All-weaker (HasValues m) (λ (r : Rule). length r.head ≤ n) (λ r e. omega (arith, e, few)) (pred_in names items m).rules (pred_rules names items m))
+    (heads_few names items n ns (All-tail (λ (k : List ℕ). values_named k ≤ n) m ns h))
+
 pred_at : (names : Named) (items : List Item) (n : List ℕ) → Contains names.preds n → length names.preds ≤ 65535 → slice_get (core_of names items).preds (number_in names.preds n) ≡ Some (pred_in names items n)
 pred_at names items n there few =
     slice_get-map (without_facts (place_names items)) (map (pred_of (outer_scope names items) items) names.preds) (number_in names.preds n)
@@ -96,6 +108,15 @@ query_fits names items scope ps there few =
     let args = terms_counted scope ps in
     subst (λ (o : Option Pred). FitsHeads (length (terms_of scope ps)) o) (sym (pred_at names items (name_of ps) there few))
     (All-weaker (HasValues (name_of ps)) (λ (r : Rule). length r.head ≡ length (terms_of scope ps)) (λ r e. e ∙ sym args) (pred_in names items (name_of ps)).rules (pred_rules names items (name_of ps)))
+
+-- a query has as many terms as the name of its predicate has places
+abbrev pub HasPlaces : ℕ → Option Pred → Type 0
+HasPlaces args None = ⊥
+HasPlaces args (Some q) = args ≡ values_named q.name
+
+pub query_named : (names : Named) (items : List Item) (scope : Scope) (ps : Parts) → Contains names.preds (name_of ps) → length names.preds ≤ 65535 → HasPlaces (length (terms_of scope ps)) (slice_get (core_of names items).preds (number_in names.preds (name_of ps)))
+query_named names items scope ps there few =
+    subst (λ (o : Option Pred). HasPlaces (length (terms_of scope ps)) o) (sym (pred_at names items (name_of ps) there few)) (terms_counted scope ps)
 
 nothing : (ts : List Term) → length ts ≡ 0 → ts ≡ []
 nothing [] e = refl

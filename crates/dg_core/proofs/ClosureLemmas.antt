@@ -30,8 +30,8 @@ use Rattle.dg_core.specs.Matches.{Matches}
 use Rattle.dg_core.specs.Places.{place_names}
 use Rattle.dg_core.specs.Rows.{selects_within, Home, row_with, scope_in, captured_in, closures_in_rule, names_of, closure_rows, AreCaught}
 use Rattle.dg_core.specs.Variables.{layouts_in, rule_variables}
-use Rattle.dg_core.proofs.AskLemmas.{small, query_fits, place_fits, parents_fit}
-use Rattle.dg_core.proofs.GoalLemmas.{body_made}
+use Rattle.dg_core.proofs.AskLemmas.{small, query_fits, query_named, place_fits, parents_fit}
+use Rattle.dg_core.proofs.GoalLemmas.{IsByName, body_made}
 use Rattle.dg_core.proofs.HoldLemmas.{Hold, all_front, all_behind}
 use Rattle.dg_core.proofs.MatchLemmas.{rule_matches}
 use Rattle.dg_core.proofs.MemberLemmas.{alone_there}
@@ -183,6 +183,7 @@ ground names items ls all vars first k ms g few h = record {
   objects = λ n there. number_below n names.objects there g.few_objects;
   variables = λ n there. number_below n vars there few;
   preds = λ s qs there. query_fits names items s qs there g.few_preds;
+  named = λ s qs there. query_named names items s qs there g.few_preds;
   places = λ s qs there. place_fits names items s qs g there;
   parents = parents_fit names items;
   closures = λ i c e. numbered_sound (core_of names items) (length vars) c (few_closures names items g) (caught_at (core_of names items).closures all vars first k ms h i c e);
@@ -193,17 +194,23 @@ ground names items ls all vars first k ms g few h = record {
 abbrev pub row_goals : List ClosureBody → List Goal
 row_goals rs = flat_map (λ (r : ClosureBody). all_goals_of r.body) rs
 
+-- the queries of a row have as many terms as the names of their predicates have places
+abbrev pub IsRowByName : Core → ClosureBody → Type 0
+IsRowByName p r = All (IsByName p) (all_goals_of r.body)
+
 pub record AreRowsMade (p : Core) (n m : ℕ) (rs : List ClosureBody) : Type 0 where
   pub sound : All (IsClosureOf p) rs
   pub sited : AreSited n m (row_goals rs)
+  pub named : All (IsRowByName p) rs
 
 rows_none : (p : Core) (n m : ℕ) → n ≤ m → AreRowsMade p n m []
-rows_none p n m e = record { sound = All-nil (IsClosureOf p); sited = sited_none n m e }
+rows_none p n m e = record { sound = All-nil (IsClosureOf p); sited = sited_none n m e; named = All-nil (IsRowByName p) }
 
 rows_join : (p : Core) (n k m : ℕ) (xs ys : List ClosureBody) → AreRowsMade p n k xs → AreRowsMade p k m ys → AreRowsMade p n m (xs ++ ys)
 rows_join p n k m xs ys h j = record {
   sound = All-append (IsClosureOf p) xs ys h.sound j.sound;
   sited = subst (AreSited n m) (sym (flat_map-append (λ (r : ClosureBody). all_goals_of r.body) xs ys)) (sited_join n k m (row_goals xs) (row_goals ys) h.sited j.sited);
+  named = All-append (IsRowByName p) xs ys h.named j.named;
 }
 
 rows_to : (p : Core) (n m k : ℕ) (rs : List ClosureBody) → m ≡ k → AreRowsMade p n m rs → AreRowsMade p n k rs
@@ -271,6 +278,7 @@ one_made names items ls all vars first n k within ms b inner cs g h e =
     record {
       sound = All-cons (IsClosureOf p) r [] (record { few = row.few; parameter = row.parameter; body = subst (λ (v : ℕ). All (IsGoalOf p v) (all_goals_of r.body)) same made.sound }) (All-nil (IsClosureOf p));
       sited = sited_join n m m (all_goals_of r.body) [] made.sited (sited_none m m (omega arith));
+      named = All-cons (IsRowByName p) r [] made.named (All-nil (IsRowByName p));
     }
 
 laid_made : (names : Named) (items : List Item) (ls : List Layout) (all vars : List (List ℕ)) (first n k : ℕ) (ms : Mentions) (cs : Closed) → IsGiven names items → AreKnown names items all vars first k ms cs → n + selects_within cs ≤ (core_of names items).sites → AreRowsMade (core_of names items) n (n + selects_within cs) (laid (home_at names items ls first) all vars n k ms cs)

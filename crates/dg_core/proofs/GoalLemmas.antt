@@ -1,5 +1,6 @@
 -- The goals of a tree that is given are sound.
 use Rattle.std.proofs.Common.{◌≡◌, ◌+◌, ◌<◌, ◌≤◌, ℕ, List, [], ◌∷◌, ◌++◌, Bool, true, false, Option, Some, None, length, position, refl, sym, ◌∙◌, ap, subst, arith}
+use Rattle.std.specs.Prelude.{slice_get}
 use Rattle.std.specs.List.{All, Contains, flat_map}
 use Rattle.std.specs.Str.{bytes_eq}
 use Rattle.std.proofs.lemmas.List.{append-nil}
@@ -26,6 +27,7 @@ use Rattle.dg_core.specs.Bodies.{in_value, in_parts, in_stmt, in_stmts, in_branc
 use Rattle.dg_core.specs.Goals.{Scope, past, place_number, in_16_bits, number_in, term_of, terms_of, built_in_goal, place_goal, query_goal, asked, change_goals, unit, count_selects, stmt_goals, lists, arm_goals}
 use Rattle.dg_core.specs.Goals as lowered
 use Rattle.dg_core.specs.Places.{head_values}
+use Rattle.dg_core.proofs.AskLemmas.{HasPlaces}
 use Rattle.dg_core.proofs.HoldLemmas.{Hold, front, back}
 use Rattle.dg_core.proofs.PlaceLemmas.{there_at}
 use Rattle.dg_core.proofs.SelectLemmas.{selects_join, value_counted, parts_counted, changes_counted, gathering_counted}
@@ -34,37 +36,65 @@ use Rattle.dg_core.proofs.TermLemmas.{IsGround, ground_past, IsKnown, term_sound
 
 -- ---- goals that are sound, with the numbers of their selects
 
+-- a query has as many terms as the name of its predicate has places
+abbrev pub FormNamed : Core → form.Goal-F Goal → Type 0
+FormNamed p (form.Ask pred args many) = HasPlaces (length args) (slice_get p.preds pred)
+FormNamed p layer = Unit {0}
+
+abbrev pub IsByName : Core → Goal → Type 0
+IsByName p g = FormNamed p (out-Goal g)
+
 pub record AreMade (p : Core) (vars n m : ℕ) (gs : List Goal) : Type 0 where
   pub sound : All (IsGoalOf p vars) (all_goals_of gs)
   pub sited : AreSited n m (all_goals_of gs)
+  pub named : All (IsByName p) (all_goals_of gs)
 
 -- the same of lists
 record AreListed (p : Core) (vars n m : ℕ) (ls : List (List Goal)) : Type 0 where
   sound : All (IsGoalOf p vars) (flat_map all_goals_of ls)
   sited : AreSited n m (flat_map all_goals_of ls)
+  named : All (IsByName p) (flat_map all_goals_of ls)
+
+-- a goal that is no select, and a query so
+abbrev IsPlainForm : Core → form.Goal-F Goal → Type 0
+IsPlainForm p (form.Select site mode lists) = ⊥
+IsPlainForm p layer = FormNamed p layer
+
+no_select : (p : Core) (layer : form.Goal-F Goal) → IsPlainForm p layer → NoSelect layer
+no_select p (form.Select site mode lists) h = h
+no_select p layer h = tt
+
+form_named : (p : Core) (layer : form.Goal-F Goal) → IsPlainForm p layer → FormNamed p layer
+form_named p (form.Select site mode lists) h = tt
+form_named p layer h = h
 
 none : (p : Core) (vars : ℕ) → All (IsGoalOf p vars) []
 none p vars = All-nil (IsGoalOf p vars)
+
+none_named : (p : Core) → All (IsByName p) []
+none_named p = All-nil (IsByName p)
 
 no_terms : (p : Core) (vars : ℕ) → All (IsTermOf p vars) []
 no_terms p vars = All-nil (IsTermOf p vars)
 
 pub made_none : (p : Core) (vars n m : ℕ) → n ≤ m → AreMade p vars n m []
-made_none p vars n m e = record { sound = none p vars; sited = sited_none n m e }
+made_none p vars n m e = record { sound = none p vars; sited = sited_none n m e; named = none_named p }
 
 pub made_join : (p : Core) (vars n k m : ℕ) (xs ys : List Goal) → AreMade p vars n k xs → AreMade p vars k m ys → AreMade p vars n m (xs ++ ys)
 made_join p vars n k m xs ys h j = record {
   sound = subst (All (IsGoalOf p vars)) (sym (flat_map-append goals_within xs ys)) (All-append (IsGoalOf p vars) (all_goals_of xs) (all_goals_of ys) h.sound j.sound);
   sited = subst (AreSited n m) (sym (flat_map-append goals_within xs ys)) (sited_join n k m (all_goals_of xs) (all_goals_of ys) h.sited j.sited);
+  named = subst (All (IsByName p)) (sym (flat_map-append goals_within xs ys)) (All-append (IsByName p) (all_goals_of xs) (all_goals_of ys) h.named j.named);
 }
 
 pub made_to : (p : Core) (vars n m k : ℕ) (gs : List Goal) → m ≡ k → AreMade p vars n m gs → AreMade p vars n k gs
 made_to p vars n m k gs e h = subst (λ (i : ℕ). AreMade p vars n i gs) e h
 
-within_made : (p : Core) (vars n m : ℕ) (g : Goal) → All (IsGoalOf p vars) (goals_within g) → AreSited n m (goals_within g) → AreMade p vars n m (g ∷ [])
-within_made p vars n m g h j = record {
+within_made : (p : Core) (vars n m : ℕ) (g : Goal) → All (IsGoalOf p vars) (goals_within g) → AreSited n m (goals_within g) → All (IsByName p) (goals_within g) → AreMade p vars n m (g ∷ [])
+within_made p vars n m g h j k = record {
   sound = All-append (IsGoalOf p vars) (goals_within g) [] h (none p vars);
   sited = sited_join n m m (goals_within g) [] j (sited_none m m (omega arith));
+  named = All-append (IsByName p) (goals_within g) [] k (none_named p);
 }
 
 here : (p : Core) (vars : ℕ) (g : Goal) (layer : form.Goal-F Goal) → out-Goal g ≡ layer → FitsProgram p layer → All (IsTermOf p vars) (terms_held layer) → IsGoalOf p vars g
@@ -73,16 +103,22 @@ here p vars g layer is fits terms = record { fits = subst (FitsProgram p) (sym i
 inner : (g : Goal) (layer : form.Goal-F Goal) → out-Goal g ≡ layer → goals_within g ≡ g ∷ inside layer
 inner g layer is = within_out g ∙ ap (λ (l : form.Goal-F Goal). g ∷ inside l) is
 
-pub goal_made : (p : Core) (vars n m : ℕ) (g : Goal) (layer : form.Goal-F Goal) → out-Goal g ≡ layer → FitsProgram p layer → All (IsTermOf p vars) (terms_held layer) → NoSelect layer → All (IsGoalOf p vars) (inside layer) → AreSited n m (inside layer) → AreMade p vars n m (g ∷ [])
-goal_made p vars n m g layer is fits terms plain sound sited =
+-- a goal of this layer, its number and its query apart
+with_name : (p : Core) (g : Goal) (layer : form.Goal-F Goal) → out-Goal g ≡ layer → FormNamed p layer → All (IsByName p) (inside layer) → All (IsByName p) (goals_within g)
+with_name p g layer is h named =
+    subst (All (IsByName p)) (sym (inner g layer is)) (All-cons (IsByName p) g (inside layer) (subst (FormNamed p) (sym is) h) named)
+
+pub goal_made : (p : Core) (vars n m : ℕ) (g : Goal) (layer : form.Goal-F Goal) → out-Goal g ≡ layer → FitsProgram p layer → All (IsTermOf p vars) (terms_held layer) → IsPlainForm p layer → All (IsGoalOf p vars) (inside layer) → AreSited n m (inside layer) → All (IsByName p) (inside layer) → AreMade p vars n m (g ∷ [])
+goal_made p vars n m g layer is fits terms plain sound sited named =
     within_made p vars n m g
     (subst (All (IsGoalOf p vars)) (sym (inner g layer is)) (All-cons (IsGoalOf p vars) g (inside layer) (here p vars g layer is fits terms) sound))
-    (subst (AreSited n m) (sym (inner g layer is)) (plain_with n m g (inside layer) (subst NoSelect (sym is) plain) sited))
+    (subst (AreSited n m) (sym (inner g layer is)) (plain_with n m g (inside layer) (subst NoSelect (sym is) (no_select p layer plain)) sited))
+    (with_name p g layer is (form_named p layer plain) named)
 
 -- a goal without goals in it
-leaf : (p : Core) (vars n : ℕ) (g : Goal) (layer : form.Goal-F Goal) → out-Goal g ≡ layer → FitsProgram p layer → All (IsTermOf p vars) (terms_held layer) → NoSelect layer → inside layer ≡ [] → AreMade p vars n n (g ∷ [])
+leaf : (p : Core) (vars n : ℕ) (g : Goal) (layer : form.Goal-F Goal) → out-Goal g ≡ layer → FitsProgram p layer → All (IsTermOf p vars) (terms_held layer) → IsPlainForm p layer → inside layer ≡ [] → AreMade p vars n n (g ∷ [])
 leaf p vars n g layer is fits terms plain empty =
-    goal_made p vars n n g layer is fits terms plain (subst (All (IsGoalOf p vars)) (sym empty) (none p vars)) (subst (AreSited n n) (sym empty) (sited_none n n (omega arith)))
+    goal_made p vars n n g layer is fits terms plain (subst (All (IsGoalOf p vars)) (sym empty) (none p vars)) (subst (AreSited n n) (sym empty) (sited_none n n (omega arith))) (subst (All (IsByName p)) (sym empty) (none_named p))
 
 -- ---- queries
 
@@ -117,7 +153,7 @@ built_in_made p vars n s a b c many built_in.Spaces g h j k = leaf p vars n _ (f
 built_in_made p vars n s a b c many built_in.HasParent g h j k = leaf p vars n _ (form.Holds 0 (a ∷ b ∷ []) many) (goal.outs-Holds _ _ _) g.parents (two p vars a b h j) tt refl
 
 place_made : (p : Core) (vars n : ℕ) (s : Scope) (ps : Parts) (many : Bool) (o : Option ℕ) → position (bytes_eq (name_of ps)) s.places ≡ o → IsGround p vars s → Contains s.names.preds (name_of ps) → All (IsTermOf p vars) (terms_of s ps) → AreMade p vars n n (place_goal s ps many o ∷ [])
-place_made p vars n s ps many None e g m k = leaf p vars n _ (form.Ask (number_in s.names.preds (name_of ps)) (terms_of s ps) many) (goal.outs-Ask _ _ _) (g.preds s ps m) k tt refl
+place_made p vars n s ps many None e g m k = leaf p vars n _ (form.Ask (number_in s.names.preds (name_of ps)) (terms_of s ps) many) (goal.outs-Ask _ _ _) (g.preds s ps m) k (g.named s ps m) refl
 place_made p vars n s ps many (Some place) e g m k =
     let number : number_in s.places (name_of ps) ≡ in_16_bits place = ap (λ (o : Option ℕ). in_16_bits (place_number o)) e in
     leaf p vars n _ (form.Holds (in_16_bits place) (terms_of s ps) many) (goal.outs-Holds _ _ _)
@@ -143,24 +179,26 @@ changes_made p vars n s (tree.change ps set cs) g h =
 -- ---- lists
 
 unit_made : (p : Core) (vars n m : ℕ) (ls : List (List Goal)) → AreListed p vars n m ls → AreMade p vars n m (unit ls)
-unit_made p vars n m [] h = record { sound = none p vars; sited = h.sited }
+unit_made p vars n m [] h = record { sound = none p vars; sited = h.sited; named = none_named p }
 unit_made p vars n m (goals ∷ []) h = record {
   sound = subst (All (IsGoalOf p vars)) (append-nil (all_goals_of goals)) h.sound;
   sited = subst (AreSited n m) (append-nil (all_goals_of goals)) h.sited;
+  named = subst (All (IsByName p)) (append-nil (all_goals_of goals)) h.named;
 }
 unit_made p vars n m (goals ∷ more ∷ ls) h =
-    goal_made p vars n m (goal.Either (goals ∷ more ∷ ls)) (form.Either (goals ∷ more ∷ ls)) (goal.outs-Either _) (let some : 1 ≤ length (goals ∷ more ∷ ls) = omega arith in some) (no_terms p vars) tt h.sound h.sited
+    goal_made p vars n m (goal.Either (goals ∷ more ∷ ls)) (form.Either (goals ∷ more ∷ ls)) (goal.outs-Either _) (let some : 1 ≤ length (goals ∷ more ∷ ls) = omega arith in some) (no_terms p vars) tt h.sound h.sited h.named
 
 -- a goal with one list of goals in it
-wrap_made : (p : Core) (vars n m : ℕ) (g : Goal) (layer : form.Goal-F Goal) (goals : List Goal) → out-Goal g ≡ layer → FitsProgram p layer → All (IsTermOf p vars) (terms_held layer) → NoSelect layer → inside layer ≡ all_goals_of goals → AreMade p vars n m goals → AreMade p vars n m (g ∷ [])
+wrap_made : (p : Core) (vars n m : ℕ) (g : Goal) (layer : form.Goal-F Goal) (goals : List Goal) → out-Goal g ≡ layer → FitsProgram p layer → All (IsTermOf p vars) (terms_held layer) → IsPlainForm p layer → inside layer ≡ all_goals_of goals → AreMade p vars n m goals → AreMade p vars n m (g ∷ [])
 wrap_made p vars n m g layer goals is fits terms plain same h =
-    goal_made p vars n m g layer is fits terms plain (subst (All (IsGoalOf p vars)) (sym same) h.sound) (subst (AreSited n m) (sym same) h.sited)
+    goal_made p vars n m g layer is fits terms plain (subst (All (IsGoalOf p vars)) (sym same) h.sound) (subst (AreSited n m) (sym same) h.sited) (subst (All (IsByName p)) (sym same) h.named)
 
 if_made : (p : Core) (vars n k l m : ℕ) (a b c : List Goal) → AreMade p vars n k a → AreMade p vars k l b → AreMade p vars l m c → AreMade p vars n m (goal.If a b c ∷ [])
 if_made p vars n k l m a b c h i j =
     goal_made p vars n m (goal.If a b c) (form.If a b c) (goal.outs-If a b c) tt (no_terms p vars) tt
     (All-append (IsGoalOf p vars) (all_goals_of a ++ all_goals_of b) (all_goals_of c) (All-append (IsGoalOf p vars) (all_goals_of a) (all_goals_of b) h.sound i.sound) j.sound)
     (sited_join n l m (all_goals_of a ++ all_goals_of b) (all_goals_of c) (sited_join n k l (all_goals_of a) (all_goals_of b) h.sited i.sited) j.sited)
+    (All-append (IsByName p) (all_goals_of a ++ all_goals_of b) (all_goals_of c) (All-append (IsByName p) (all_goals_of a) (all_goals_of b) h.named i.named) j.named)
 
 select_made : (p : Core) (vars n m : ℕ) (mode : Mode) (ls : List (List Goal)) → n < p.sites → 1 ≤ length ls → length ls ≤ 500 → AreListed p vars (n + 1) m ls → AreMade p vars n m (goal.Select n mode ls ∷ [])
 select_made p vars n m mode ls below some few h =
@@ -169,6 +207,7 @@ select_made p vars n m mode ls below some few h =
     within_made p vars n m g
     (subst (All (IsGoalOf p vars)) (sym (inner g (form.Select n mode ls) is)) (All-cons (IsGoalOf p vars) g (flat_map all_goals_of ls) (here p vars g (form.Select n mode ls) is (below, some, few) (no_terms p vars)) h.sound))
     (subst (AreSited n m) (sym (inner g (form.Select n mode ls) is)) (select_with n m mode ls g (flat_map all_goals_of ls) is h.sited))
+    (with_name p g (form.Select n mode ls) is tt h.named)
 
 lists_counted : (s : Scope) (n : ℕ) (b : Body) → length (lists s n b) ≡ branches_in b
 lists_counted s n tree.no_branches = refl
@@ -235,7 +274,7 @@ mutual
       (stmts_made p vars (past s (in_stmt x)) k xs (ground_past p vars s (in_stmt x) g) (back (IsKnown s) (of_stmt false x) (of_stmts false xs) h) (omega (arith, all, e))))
 
   lists_made : (p : Core) (vars : ℕ) (s : Scope) (n : ℕ) (b : Body) → IsGround p vars s → Hold (IsKnown s) (of_branches false b) → n + count_selects (of_branches false b) ≤ p.sites → AreListed p vars n (n + count_selects (of_branches false b)) (lists s n b)
-  lists_made p vars s n tree.no_branches g h e = record { sound = none p vars; sited = sited_none n _ (omega arith) }
+  lists_made p vars s n tree.no_branches g h e = record { sound = none p vars; sited = sited_none n _ (omega arith); named = none_named p }
   lists_made p vars s n (tree.branch xs b) g h e =
       let all = selects_join (of_stmts false xs) (of_branches false b) in
       let k = n + count_selects (of_stmts false xs) in
@@ -245,6 +284,7 @@ mutual
       record {
         sound = All-append (IsGoalOf p vars) (all_goals_of (lowered.goals_of s n xs)) (flat_map all_goals_of (lists behind k b)) first.sound others.sound;
         sited = sited_wider n (k + count_selects (of_branches false b)) n _ _ (omega arith) (omega (arith, all)) (sited_join n k (k + count_selects (of_branches false b)) (all_goals_of (lowered.goals_of s n xs)) (flat_map all_goals_of (lists behind k b)) first.sited others.sited);
+        named = All-append (IsByName p) (all_goals_of (lowered.goals_of s n xs)) (flat_map all_goals_of (lists behind k b)) first.named others.named;
       }
 
   arms_made : (p : Core) (vars : ℕ) (s : Scope) (n m : ℕ) (arms : Arms) (other : List Goal) → IsGround p vars s → Hold (IsKnown s) (of_arms false arms) → n + count_selects (of_arms false arms) ≤ p.sites → AreMade p vars (n + count_selects (of_arms false arms)) m other → AreMade p vars n m (arm_goals s n arms other)

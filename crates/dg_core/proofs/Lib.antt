@@ -22,3 +22,4 @@ pub mod GoalLemmas
 pub mod ClosureLemmas
 pub mod StartLemmas
 pub mod SoundLemmas
+pub mod FewLemmas

@@ -42,9 +42,9 @@ use Rattle.dg_core.specs.Goals.{Scope, past, unit, lists, count_selects}
 use Rattle.dg_core.specs.Places.{Placed, is_among, parent_name, place_names, placed_of, declaration_in, declarations, declared_names, changed_in, kind_by, kind_of, values_named, head_values, are_fact, says_nothing, is_no_fact, is_bad_start, declared_behind, first_bad_start}
 use Rattle.dg_core.specs.Rows.{names_of, AreCaught}
 use Rattle.dg_core.specs.Variables.{layouts_in, rule_variables}
-use Rattle.dg_core.proofs.AskLemmas.{query_fits, place_in, place_fits, parents_fit, entry_fits}
+use Rattle.dg_core.proofs.AskLemmas.{query_fits, query_named, place_in, place_fits, parents_fit, entry_fits}
 use Rattle.dg_core.proofs.ClosureLemmas.{known_out, few_closures, IsRuleKnown, IsItemKnown, AreItemsKnown, items_known, ground, row_goals, closures_made}
-use Rattle.dg_core.proofs.GoalLemmas.{AreMade, made_none, made_join, body_made, goal_made}
+use Rattle.dg_core.proofs.GoalLemmas.{IsByName, AreMade, made_none, made_join, body_made, goal_made}
 use Rattle.dg_core.proofs.HoldLemmas.{Hold, front, back, from_all, all_front, all_behind}
 use Rattle.dg_core.proofs.MemberLemmas.{first_there, later_there, there_cases, nowhere}
 use Rattle.dg_core.proofs.RowLemmas.{at_most}
@@ -86,44 +86,58 @@ rule_made names items n ps b behind g h e k =
     made_join p (vars_of ps b) n.selects m m (unit (lists t n.selects b)) behind
     (body_made p (vars_of ps b) t n.selects b (ground_past p (vars_of ps b) s (in_parts ps) (rule_ground names items n.closures ps b g h)) (back (IsKnown s) (of_parts false ps) (of_body false b) (known_rule names items n.closures ps b h).1) (below_all names items m e)) k
 
-rule_sound : (names : Named) (items : List Item) (n : Before) (ps : Parts) (b : Body) (behind : List Goal) → IsGiven names items → IsRuleKnown names items n.closures ps b → n.selects + count_selects (of_body false b) ≤ all_selects items → AreMade (core_of names items) (vars_of ps b) (n.selects + count_selects (of_body false b)) (n.selects + count_selects (of_body false b)) behind → IsRuleOf (core_of names items) (rule_of (outer_scope names items) n ps b behind)
+-- a rule is sound, and its queries have as many terms as the names of their predicates have places
+abbrev pub IsRuleByName : Core → Rule → Type 0
+IsRuleByName p r = All (IsByName p) (all_goals_of r.body)
+
+abbrev IsRuleMade : Core → Rule → Type 0
+IsRuleMade p r = IsRuleOf p r × IsRuleByName p r
+
+rule_sound : (names : Named) (items : List Item) (n : Before) (ps : Parts) (b : Body) (behind : List Goal) → IsGiven names items → IsRuleKnown names items n.closures ps b → n.selects + count_selects (of_body false b) ≤ all_selects items → AreMade (core_of names items) (vars_of ps b) (n.selects + count_selects (of_body false b)) (n.selects + count_selects (of_body false b)) behind → IsRuleMade (core_of names items) (rule_of (outer_scope names items) n ps b behind)
 rule_sound names items n ps b behind g h e k =
     let s = scope_of (outer_scope names items) n.closures ps b in
-    record {
+    let made = rule_made names items n ps b behind g h e k in
+    let sound : IsRuleOf (core_of names items) (rule_of (outer_scope names items) n ps b behind) = record {
       few = few_vars (length (rule_variables ps b)) (rule_few names items n.closures ps b h);
       head = parts_sound (core_of names items) (vars_of ps b) s false ps (rule_ground names items n.closures ps b g h) (front (IsKnown s) (of_parts false ps) (of_body false b) (known_rule names items n.closures ps b h).1);
-      body = (rule_made names items n ps b behind g h e k).sound;
-    }
+      body = made.sound;
+    } in
+    (sound, made.named)
 
 failing_made : (p : Core) (vars n : ℕ) → AreMade p vars n n failing
 failing_made p vars n =
     made_join p vars n n n (goal.Just ∷ []) (goal.Fail ∷ [])
-    (goal_made p vars n n goal.Just form.Just goal.outs-Just tt (All-nil (IsTermOf p vars)) tt (All-nil (IsGoalOf p vars)) (sited_none n n (omega arith)))
-    (goal_made p vars n n goal.Fail form.Fail goal.outs-Fail tt (All-nil (IsTermOf p vars)) tt (All-nil (IsGoalOf p vars)) (sited_none n n (omega arith)))
+    (goal_made p vars n n goal.Just form.Just goal.outs-Just tt (All-nil (IsTermOf p vars)) tt (All-nil (IsGoalOf p vars)) (sited_none n n (omega arith)) (All-nil (IsByName p)))
+    (goal_made p vars n n goal.Fail form.Fail goal.outs-Fail tt (All-nil (IsTermOf p vars)) tt (All-nil (IsGoalOf p vars)) (sited_none n n (omega arith)) (All-nil (IsByName p)))
 
-given : (p : Core) (same : Bool) (r : Rule) → IsRuleOf p r → All (IsRuleOf p) (if same then r ∷ [] else [])
-given p true r h = All-cons (IsRuleOf p) r [] h (All-nil (IsRuleOf p))
-given p false r h = All-nil (IsRuleOf p)
+given : (p : Core) (same : Bool) (r : Rule) → IsRuleMade p r → All (IsRuleMade p) (if same then r ∷ [] else [])
+given p true r h = All-cons (IsRuleMade p) r [] h (All-nil (IsRuleMade p))
+given p false r h = All-nil (IsRuleMade p)
 
-item_sound : (names : Named) (items : List Item) (n : Before) (name : List ℕ) (said : Said) → IsGiven names items → IsItemKnown names items n.closures said → n.selects + selects_of said ≤ all_selects items → All (IsRuleOf (core_of names items)) (rules_of_item (outer_scope names items) n name said)
-item_sound names items n name (tree.topic w) g h e = All-nil (IsRuleOf (core_of names items))
+item_sound : (names : Named) (items : List Item) (n : Before) (name : List ℕ) (said : Said) → IsGiven names items → IsItemKnown names items n.closures said → n.selects + selects_of said ≤ all_selects items → All (IsRuleMade (core_of names items)) (rules_of_item (outer_scope names items) n name said)
+item_sound names items n name (tree.topic w) g h e = All-nil (IsRuleMade (core_of names items))
 item_sound names items n name (tree.rule ps b) g h e =
     given (core_of names items) (bytes_eq (name_of ps) name) (rule_of (outer_scope names items) n ps b []) (rule_sound names items n ps b [] g h e (made_none (core_of names items) (vars_of ps b) _ _ (omega arith)))
 item_sound names items n name (tree.deny ps b) g h e =
     given (core_of names items) (bytes_eq (name_of ps) name) (rule_of (outer_scope names items) n ps b failing) (rule_sound names items n ps b failing g h e (failing_made (core_of names items) (vars_of ps b) _))
-item_sound names items n name (tree.access ps b) g h e = All-nil (IsRuleOf (core_of names items))
-item_sound names items n name (tree.global_variable ps) g h e = All-nil (IsRuleOf (core_of names items))
+item_sound names items n name (tree.access ps b) g h e = All-nil (IsRuleMade (core_of names items))
+item_sound names items n name (tree.global_variable ps) g h e = All-nil (IsRuleMade (core_of names items))
 
-items_sound : (names : Named) (items : List Item) (n : Before) (name : List ℕ) (is : List Item) → IsGiven names items → AreItemsKnown names items n.closures is → n.selects + all_selects is ≤ all_selects items → All (IsRuleOf (core_of names items)) (rules_from (outer_scope names items) n name is)
-items_sound names items n name [] g h e = All-nil (IsRuleOf (core_of names items))
+items_sound : (names : Named) (items : List Item) (n : Before) (name : List ℕ) (is : List Item) → IsGiven names items → AreItemsKnown names items n.closures is → n.selects + all_selects is ≤ all_selects items → All (IsRuleMade (core_of names items)) (rules_from (outer_scope names items) n name is)
+items_sound names items n name [] g h e = All-nil (IsRuleMade (core_of names items))
 items_sound names items n name (i ∷ is) g h e =
-    All-append (IsRuleOf (core_of names items)) (rules_of_item (outer_scope names items) n name i.said) (rules_from (outer_scope names items) (behind_item n i.said) name is)
+    All-append (IsRuleMade (core_of names items)) (rules_of_item (outer_scope names items) n name i.said) (rules_from (outer_scope names items) (behind_item n i.said) name is)
     (item_sound names items n name i.said g h.0 (omega (arith, e)))
     (items_sound names items (behind_item n i.said) name is g h.1 (omega (arith, e)))
 
-kept : (p : Core) (b : Bool) (rs : List Rule) → All (IsRuleOf p) rs → All (IsRuleOf p) (if b then [] else rs)
-kept p true rs h = All-nil (IsRuleOf p)
-kept p false rs h = h
+kept : (P : Rule → Type 0) (b : Bool) (rs : List Rule) → All P rs → All P (if b then [] else rs)
+kept P true rs h = All-nil P
+kept P false rs h = h
+
+-- the rules of a predicate with this name
+named_sound : (names : Named) (items : List Item) (name : List ℕ) → IsGiven names items → All (IsRuleMade (core_of names items)) (without_facts (place_names items) (pred_of (outer_scope names items) items name)).rules
+named_sound names items name g =
+    kept (IsRuleMade (core_of names items)) _ (rules_from (outer_scope names items) none_before name items) (items_sound names items none_before name items g (items_known names items g) (omega arith))
 
 preds_sound : (names : Named) (items : List Item) (ns : List (List ℕ)) → IsGiven names items → All IsName ns → All (IsPredOf (core_of names items)) (map (without_facts (place_names items)) (map (pred_of (outer_scope names items) items) ns))
 preds_sound names items [] g m = All-nil (IsPredOf (core_of names items))
@@ -131,9 +145,21 @@ preds_sound names items (n ∷ ns) g m =
     let q = pred_of (outer_scope names items) items n in
     let here : IsPredOf (core_of names items) (without_facts (place_names items) q) = record {
       name = All-head IsName n ns m;
-      rules = kept (core_of names items) _ q.rules (items_sound names items none_before n items g (items_known names items g) (omega arith));
+      rules = All-weaker (IsRuleMade (core_of names items)) (IsRuleOf (core_of names items)) (λ r h. h.0) (without_facts (place_names items) q).rules (named_sound names items n g);
     } in
     All-cons (IsPredOf (core_of names items)) (without_facts (place_names items) q) (map (without_facts (place_names items)) (map (pred_of (outer_scope names items) items) ns)) here (preds_sound names items ns g (All-tail IsName n ns m))
+
+-- the queries of each rule have as many terms as the names of their predicates have places
+abbrev pub IsPredByName : Core → Pred → Type 0
+IsPredByName p q = All (IsRuleByName p) q.rules
+
+pub preds_named : (names : Named) (items : List Item) (ns : List (List ℕ)) → IsGiven names items → All (IsPredByName (core_of names items)) (map (without_facts (place_names items)) (map (pred_of (outer_scope names items) items) ns))
+preds_named names items [] g = All-nil (IsPredByName (core_of names items))
+preds_named names items (n ∷ ns) g =
+    let p = core_of names items in
+    let q = without_facts (place_names items) (pred_of (outer_scope names items) items n) in
+    All-cons (IsPredByName p) q (map (without_facts (place_names items)) (map (pred_of (outer_scope names items) items) ns))
+    (All-weaker (IsRuleMade p) (IsRuleByName p) (λ r h. h.1) q.rules (named_sound names items n g)) (preds_named names items ns g)
 
 -- ---- sites
 
@@ -347,6 +373,7 @@ outside_ground names items g = record {
   objects = λ n there. number_below n names.objects there g.few_objects;
   variables = λ n there. absurd (nowhere n there);
   preds = λ s qs there. query_fits names items s qs there g.few_preds;
+  named = λ s qs there. query_named names items s qs there g.few_preds;
   places = λ s qs there. place_fits names items s qs g there;
   parents = parents_fit names items;
   closures = λ k c e. absurd (let no : None ≡ Some c = e in cc);

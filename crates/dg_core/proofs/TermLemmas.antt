@@ -21,7 +21,7 @@ use Rattle.dg_names.specs.Among.{IsAmong}
 use Rattle.dg_core.specs.Given.{IsFit}
 use Rattle.dg_core.specs.Bodies.{Closed, in_value, in_values}
 use Rattle.dg_core.specs.Goals.{Scope, past, place_number, in_16_bits, number_in, closure_of, term_of, listed, terms_of, arg}
-use Rattle.dg_core.proofs.AskLemmas.{place_if, small}
+use Rattle.dg_core.proofs.AskLemmas.{place_if, small, HasPlaces}
 use Rattle.dg_core.proofs.HoldLemmas.{Hold, front, back}
 
 -- the number of a name among names is that of a place
@@ -38,6 +38,7 @@ pub record IsGround (program : Core) (vars : ℕ) (s : Scope) : Type 0 where
   pub objects : (n : List ℕ) → Contains s.names.objects n → number_in s.names.objects n < length program.objects
   pub variables : (n : List ℕ) → Contains s.variables n → number_in s.variables n < vars
   pub preds : (t : Scope) (ps : Parts) → Contains s.names.preds (name_of ps) → FitsHeads (length (terms_of t ps)) (slice_get program.preds (number_in s.names.preds (name_of ps)))
+  pub named : (t : Scope) (ps : Parts) → Contains s.names.preds (name_of ps) → HasPlaces (length (terms_of t ps)) (slice_get program.preds (number_in s.names.preds (name_of ps)))
   pub places : (t : Scope) (ps : Parts) → Contains s.places (name_of ps) → FitsPlace (length (terms_of t ps)) (slice_get program.places (number_in s.places (name_of ps)))
   pub parents : FitsPlace 2 (slice_get program.places 0)
   pub closures : (k c : ℕ) → slice_get s.closures k ≡ Some c → IsTermOf program vars (term.Closure (in_16_bits c))
@@ -49,6 +50,7 @@ ground_past p vars s cs g = record {
   objects = g.objects;
   variables = g.variables;
   preds = g.preds;
+  named = g.named;
   places = g.places;
   parents = g.parents;
   closures = g.closures;

@@ -5,13 +5,14 @@ ghost use Rattle.dg_base.specs.Mentions.{of_rule, closures};
 ghost use Rattle.dg_base.specs.Sound.{FitsHeads, IsEntry, IsSound};
 ghost use Rattle.dg_base.specs.Tree.{Parts, Body, rule, Item};
 ghost use Rattle.dg_base.specs.declared.mentions.Role.TheVariants as role;
+ghost use Rattle.dg_meaning.specs.Few.{AllAskFew, HeadsAreFew};
 ghost use Rattle.dg_scopes.specs.Few.{HasFewVariables};
 ghost use Rattle.dg_names.specs.Named.{Named};
 ghost use Rattle.dg_core.specs.Core.{core_of, entry_name, core_refusal};
 ghost use Rattle.dg_core.specs.Given.{IsGiven};
 ghost use Rattle.dg_core.specs.Goals.{Scope, number_in, terms_of};
 ghost use Rattle.dg_core.specs.Matches.{ArePlain, Matches};
-ghost use Rattle.dg_core.specs.Places.{placed_of, first_bad_start};
+ghost use Rattle.dg_core.specs.Places.{placed_of, first_bad_start, head_values, values_named};
 ghost use Rattle.dg_core.specs.Rows.{closures_in_rule, names_of, closure_rows, AreCaught, IsSmallRow};
 ghost use Rattle.dg_core.specs.Variables.{rule_variables};
 
@@ -20,6 +21,19 @@ pub fn queries_fit()
     ensures { (names : Named) (items : List Item) (scope : Scope) (ps : Parts) → Contains names.preds (name_of ps) →
         length names.preds ≤ 65535 →
         FitsHeads (length (terms_of scope ps)) (slice_get (core_of names items).preds (number_in names.preds (name_of ps))) }
+{}
+
+/// A head or a query has as many values as its name has places.
+pub fn names_tell_places()
+    ensures { (ps : Parts) → values_named (name_of ps) ≡ length (head_values ps) }
+{}
+
+/// Where the names of predicates have few places, queries of predicates in the core program have few arguments, and heads few terms.
+pub fn core_holds_few()
+    ensures asks { (names : Named) (items : List Item) (n : ℕ) → IsGiven names items → All (λ m. values_named m ≤ n) names.preds →
+        AllAskFew n (core_of names items) }
+    ensures heads { (names : Named) (items : List Item) (n : ℕ) → All (λ m. values_named m ≤ n) names.preds →
+        HeadsAreFew n (core_of names items) }
 {}
 
 /// Where the entry is among the names, it is a predicate without parameters.
