@@ -16,7 +16,8 @@ use Rattle.dg_plain.specs.Items.{plain_items}
 use Rattle.dg_plain.specs.Left.{IsPlain}
 use Rattle.dg_core.specs.Core.{core_of, core_refusal}
 use Rattle.dg_core.specs.Given.{IsGiven}
-use Rattle.dg_core.specs.Places.{placed_of, first_bad_start}
+use Rattle.dg_core.specs.Places.{placed_of, first_bad_start, values_named}
+use Rattle.dg_meaning.specs.Few.{AllAskFew, AllHoldFew, HeadsAreFew}
 use Rattle.dg_access.specs.Answer.{IsRewritten}
 use Rattle.dg_access.specs.Comes.{MentionsArePut}
 use Rattle.dg_access.specs.Expanded.{access_rules, is_misplaced, put_items}
@@ -33,6 +34,7 @@ use Rattle.dg_compile.specs.Source.{refused, given, all_names, with_prelude, Com
 use Rattle.dg_compile.proofs.ComeLemmas.{select_fit, IsKnown, all_come, all_put}
 use Rattle.dg_compile.proofs.DeclareLemmas.{IsDeclared, AreDeclared, KeepsNames, all_declared, heads_plain}
 use Rattle.dg_compile.proofs.FewLemmas.{FirstsAreNames, IsReady, all_ready, things_fit, items_fit, few_closures, closures_append, few_places}
+use Rattle.dg_compile.proofs.NarrowLemmas.{PlacesAreTold, IsNarrow, all_narrow, prelude_narrow}
 use Rattle.dg_compile.proofs.PreludeLemmas.{four_names, prelude_items, prelude_ready, prelude_few, no_closures, prelude_declares, all_mentioned}
 
 -- ---- what is read is given
@@ -56,6 +58,10 @@ pub record Laws : Type 0 where
   pub variables : (is new : List Item) → IsRewritten is (Ok new) → All (λ (i : Item). HasFewVariables i.said) new
   pub closures : (is new : List Item) → IsRewritten is (Ok new) → weight_of closures_at (mentioned new) ≤ 16000
   pub sound : (names : Named) (is : List Item) → IsGiven names is → core_refusal is (first_bad_start (placed_of is) [] is) ≡ None → IsSound (core_of names is)
+  pub places : PlacesAreTold
+  pub asks : (names : Named) (is : List Item) (n : ℕ) → IsGiven names is → All (λ m. values_named m ≤ n) names.preds → AllAskFew n (core_of names is)
+  pub heads : (names : Named) (is : List Item) (n : ℕ) → All (λ m. values_named m ≤ n) names.preds → HeadsAreFew n (core_of names is)
+  pub holds : (p : Core) → IsSound p → (n : ℕ) → 3 ≤ n → AllAskFew n p → AllHoldFew n p
   pub prelude : All IsName prelude_names
 
 -- names that a source has are among those of the program too
@@ -108,6 +114,15 @@ preds_given laws is h =
     which n (inl j) = All-contains IsName (names_of is).preds n h ((laws.firsts (names_in predicate_in (mentioned is))).all n j)
     which n (inr j) = All-contains IsName prelude_names n laws.prelude j
 
+preds_narrow : (laws : Laws) (is : List Item) → All IsSmall (mentioned is) → All IsNarrow (all_names is).preds
+preds_narrow laws is small =
+    let own = names_in predicate_in (mentioned is) in
+    all_if IsNarrow (all_names is).preds (λ n k. which n (Contains-append_cases own prelude_names n ((laws.firsts (own ++ prelude_names)).none_else n k)))
+  where
+    which : (n : List ℕ) → Contains (names_in predicate_in (mentioned is)) n ⊎ Contains prelude_names n → IsNarrow n
+    which n (inl j) = All-contains IsNarrow (names_in predicate_in (mentioned is)) n (all_narrow laws.places (mentioned is) small) j
+    which n (inr j) = All-contains IsNarrow prelude_names n prelude_narrow j
+
 few_given : (laws : Laws) (is : List Item) → length (names_of is).preds ≤ 4000 → length (all_names is).preds ≤ 65534
 few_given laws is few =
     let own = names_in predicate_in (mentioned is) in
@@ -159,11 +174,20 @@ source_given laws source tokens is named new accepted lexed read n w =
 
 -- ---- the program
 
-pub compiled_sound : Laws → (source : List ℕ) (p : Core) → Compiles source (Ok p) → IsSound p
-compiled_sound laws source p (refused r h e) = cc
-compiled_sound laws source p (given ts l (refused r h e)) = cc
-compiled_sound laws source p (given ts l (given is read (refused r h e))) = cc
-compiled_sound laws source p (given ts l (given is read (given n h (refused r k e)))) = cc
-compiled_sound laws source p (given ts l (given is read (given n h (given plain w e)))) =
+-- a program is sound, and its goals and heads hold few terms
+abbrev IsMade : Core → Type 0
+IsMade p = IsSound p × AllHoldFew 12 p × HeadsAreFew 12 p
+
+core_made : (laws : Laws) (names : Named) (is : List Item) → IsGiven names is → All IsNarrow names.preds → core_refusal is (first_bad_start (placed_of is) [] is) ≡ None → IsMade (core_of names is)
+core_made laws names is g narrow e =
+    let sound = laws.sound names is g e in
+    (sound, laws.holds (core_of names is) sound 12 (omega arith) (laws.asks names is 12 g narrow), laws.heads names is 12 narrow)
+
+pub compiled_made : Laws → (source : List ℕ) (p : Core) → Compiles source (Ok p) → IsMade p
+compiled_made laws source p (refused r h e) = cc
+compiled_made laws source p (given ts l (refused r h e)) = cc
+compiled_made laws source p (given ts l (given is read (refused r h e))) = cc
+compiled_made laws source p (given ts l (given is read (given n h (refused r k e)))) = cc
+compiled_made laws source p (given ts l (given is read (given n h (given plain w e)))) =
     let g = source_given laws source l.1 is n plain l.0 l.2 (subst (λ s. IsRead s (Ok is)) l.3 read) h w in
-    subst IsSound (sym e.1) (laws.sound (all_names is) (with_prelude plain) g e.0)
+    subst IsMade (sym e.1) (core_made laws (all_names is) (with_prelude plain) g (preds_narrow laws is (laws.small is n h)) e.0)

@@ -4,4 +4,5 @@ pub mod ComeLemmas
 pub mod DeclareLemmas
 pub mod FewLemmas
 pub mod PreludeLemmas
+pub mod NarrowLemmas
 pub mod GivenLemmas

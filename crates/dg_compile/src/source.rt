@@ -8,6 +8,7 @@ ghost use Rattle.dg_base.specs.declared.refusal.Refusal.{Refusal};
 ghost use Rattle.dg_base.specs.Tree.{Item};
 ghost use Rattle.dg_core.specs.Core.{IsLowered};
 ghost use Rattle.dg_access.specs.Answer.{IsRewritten};
+ghost use Rattle.dg_meaning.specs.Few.{AllHoldFew, HeadsAreFew};
 ghost use Rattle.dg_names.specs.Counts.{IsNamed};
 ghost use Rattle.dg_names.specs.Named.{names_of};
 ghost use Rattle.dg_names.specs.State.{names_view};
@@ -70,6 +71,8 @@ fn program_of(alloc: Global, tree: Tree) -> Result<CoreProgram, ReadFault>
 pub fn compile(alloc: Global, source: &[u8]) -> Result<CoreProgram, ReadFault>
     ensures program { Meets (Compiles source.now) result }
     ensures sound { IfOk result IsSound }
+    ensures goals { IfOk result (AllHoldFew 12) }
+    ensures heads { IfOk result (HeadsAreFew 12) }
 {
     programs_are_sound();
     let tokens = match lex(alloc, source) {
@@ -83,9 +86,9 @@ pub fn compile(alloc: Global, source: &[u8]) -> Result<CoreProgram, ReadFault>
     program_of(alloc, tree)
 }
 
-/// The program of a source is sound.
+/// The program of a source is sound, and its goals and heads hold at most twelve terms each.
 pub fn programs_are_sound()
-    ensures { (source : List ℕ) (p : Core) → Compiles source (Ok p) → IsSound p }
+    ensures { (source : List ℕ) (p : Core) → Compiles source (Ok p) → IsSound p × AllHoldFew 12 p × HeadsAreFew 12 p }
 {
     tokens_are_spelled();
     items_are_readable();
@@ -105,6 +108,9 @@ pub fn programs_are_sound()
     dg_access::variables_are_few();
     dg_access::closures_are_few();
     dg_core::core_is_sound();
+    dg_core::names_tell_places();
+    dg_core::core_holds_few();
+    dg_meaning::goals_hold_few();
     dg_prelude::prelude_names_are_printable();
 }
 

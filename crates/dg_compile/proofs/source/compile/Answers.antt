@@ -20,4 +20,10 @@ returns-clause-program c =
     (then_ok (IsRead (map seen c.deref.result.now)) Becomes (tree_view c.in-Ok-read.tree) c.program_of.result c.in-Ok-read.ensures.tree c.program_of.ensures)
 
 pub returns-clause-sound : goal.returns-clause-sound
-returns-clause-sound c = meets_ok (Compiles c.args.source.now) _ c.program_of.result (c.programs_are_sound.ensures c.args.source.now) (returns-clause-program c)
+returns-clause-sound c = meets_ok (Compiles c.args.source.now) _ c.program_of.result (λ p h. (c.programs_are_sound.ensures c.args.source.now p h).0) (returns-clause-program c)
+
+pub returns-clause-goals : goal.returns-clause-goals
+returns-clause-goals c = meets_ok (Compiles c.args.source.now) _ c.program_of.result (λ p h. (c.programs_are_sound.ensures c.args.source.now p h).1) (returns-clause-program c)
+
+pub returns-clause-heads : goal.returns-clause-heads
+returns-clause-heads c = meets_ok (Compiles c.args.source.now) _ c.program_of.result (λ p h. (c.programs_are_sound.ensures c.args.source.now p h).2) (returns-clause-program c)

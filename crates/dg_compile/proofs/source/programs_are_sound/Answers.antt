@@ -1,8 +1,8 @@
-use Rattle.dg_compile.proofs.GivenLemmas.{compiled_sound}
+use Rattle.dg_compile.proofs.GivenLemmas.{compiled_made}
 use Rattle.dg_compile.proofs.source.programs_are_sound.Goals as goal
 
 pub returns : goal.returns
-returns c = compiled_sound (record {
+returns c = compiled_made (record {
   spelled = c.tokens_are_spelled.ensures;
   readable = c.items_are_readable.ensures;
   printable = c.names_are_printable.ensures;
@@ -20,5 +20,9 @@ returns c = compiled_sound (record {
   variables = c.variables_are_few.ensures;
   closures = c.closures_are_few.ensures;
   sound = c.core_is_sound.ensures;
+  places = c.names_tell_places.ensures;
+  asks = c.core_holds_few.ensures.asks;
+  heads = c.core_holds_few.ensures.heads;
+  holds = c.goals_hold_few.ensures;
   prelude = c.prelude_names_are_printable.ensures;
 })
