@@ -39,3 +39,5 @@ mod transcripts;
 mod typing;
 #[cfg(test)]
 mod unifying;
+#[cfg(test)]
+mod worlds;
