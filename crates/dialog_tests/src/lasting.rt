@@ -75,7 +75,8 @@ fn a_heap_holds_so_many_queries(rt: HostRuntime) -> Result<(), Fail> {
     Ok(())
 }
 
-// How many words a list has that is kept from the start, and the only line of its run. A pair and a word are two cells more.
+// How many words a list has that is kept from the start, and the only line of its run. What is kept are the list's words and its pairs, one
+// cell each, of at most 10,000: ten words fit, and 5,000 with their pairs and the empty list behind them are one too many.
 const KEPT: &[(usize, (u8, &str))] = &[(10, (0, "x\n")), (5000, (3, "[Keep limit]\n"))];
 
 #[test]
