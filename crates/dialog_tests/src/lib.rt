@@ -22,6 +22,8 @@ mod lasting;
 #[cfg(test)]
 mod playing;
 #[cfg(test)]
+mod prompts;
+#[cfg(test)]
 mod refusals;
 #[cfg(test)]
 mod routines;
