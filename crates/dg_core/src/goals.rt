@@ -1,5 +1,5 @@
 // From statements to goals.
-ghost use Rattle.std.specs.Prelude.{◌≡◌, ◌+◌, ◌++◌, ◌∷◌, [], false, map, IfOk, OnOk};
+ghost use Rattle.std.specs.Prelude.{◌≡◌, ◌+◌, ◌++◌, ◌∷◌, [], false, map, reverse, IfOk, OnOk};
 ghost use Rattle.dg_base.specs.Mentions.{of_body};
 ghost use Rattle.dg_base.specs.Tree.{changes_of};
 ghost use Rattle.dg_base.specs.TreeView.{stmt_view, value_view, body_view, head_view, change_view};
@@ -88,14 +88,21 @@ fn end_lists(alloc: Global, making: &mut Making<'_>) -> Items<Items<Goal>>
     }
 }
 
+// Adds an item to the last of these lists, where there is one.
+fn add_last<T: Drop>(lists: &mut Items<Items<T>>, item: T) -> Result<(), AllocError>
+    ensures { OnOk result (reverse lists.new ≡ with_more (item ∷ []) (reverse lists.old)) }
+{
+    if let Some(mut last) = lists.pop() {
+        last.push(item)?;
+        lists.push(last)?;
+    }
+    Ok(())
+}
+
 fn add_goal(making: &mut Making<'_>, goal: Goal) -> Result<(), AllocError>
     ensures { OnOk result (made making.new ≡ record (made making.old) { goals = with_more (goal ∷ []) (made making.old).goals }) }
 {
-    if let Some(mut goals) = making.goals.pop() {
-        goals.push(goal)?;
-        making.goals.push(goals)?;
-    }
-    Ok(())
+    add_last(&mut making.goals, goal)
 }
 
 fn add_goals(making: &mut Making<'_>, more: Items<Goal>) -> Result<(), AllocError>
@@ -111,11 +118,7 @@ fn add_goals(making: &mut Making<'_>, more: Items<Goal>) -> Result<(), AllocErro
 fn add_list(making: &mut Making<'_>, list: Items<Goal>) -> Result<(), AllocError>
     ensures { OnOk result (made making.new ≡ record (made making.old) { lists = with_more (list ∷ []) (made making.old).lists }) }
 {
-    if let Some(mut lists) = making.lists.pop() {
-        lists.push(list)?;
-        making.lists.push(lists)?;
-    }
-    Ok(())
+    add_last(&mut making.lists, list)
 }
 
 fn end_branch(alloc: Global, making: &mut Making<'_>) -> Result<(), AllocError>

@@ -33,6 +33,20 @@ fn two(alloc: Global, first: Term, second: Term) -> Result<Items<Term>, AllocErr
     Ok(terms)
 }
 
+// A goal, the terms that it doesn't hold being let go of.
+fn without<T: Drop>(_terms: T, goal: Goal) -> Goal
+    ensures { result ≡ goal }
+{
+    goal
+}
+
+fn has_parent(alloc: Global, a: Term, b: Term, c: Term, many: bool) -> Result<Goal, AllocError>
+    ensures { IfOk result (λ goal. goal ≡ spec.built_in_goal a b c many Builtin.HasParent) }
+{
+    drop(c);
+    Ok(Goal::Holds(0, two(alloc, a, b)?, many))
+}
+
 // The goal of a built-in query with these terms.
 fn built_in_goal(
     alloc: Global,
@@ -45,25 +59,25 @@ fn built_in_goal(
     ensures { IfOk result (λ goal. goal ≡ spec.built_in_goal a b c many builtin) }
 {
     match builtin {
-        Builtin::Equal => Ok(Goal::Equal(a, b)),
+        Builtin::Equal => Ok(without(c, Goal::Equal(a, b))),
         Builtin::Arith(op) => Ok(Goal::Arith(op, a, b, c)),
-        Builtin::Compare(op) => Ok(Goal::Compare(op, a, b)),
+        Builtin::Compare(op) => Ok(without(c, Goal::Compare(op, a, b))),
         Builtin::Random => Ok(Goal::Random(a, b, c)),
-        Builtin::Test(kind) => Ok(Goal::Test(kind, a)),
-        Builtin::Object => Ok(Goal::IsObject(a, many)),
-        Builtin::Fail => Ok(Goal::Fail),
-        Builtin::Just => Ok(Goal::Just),
-        Builtin::Stop => Ok(Goal::Stop),
-        Builtin::Quit => Ok(Goal::Quit),
-        Builtin::RepeatForever => Ok(Goal::Forever),
-        Builtin::Query => Ok(Goal::Query(a, None, many)),
-        Builtin::QueryWith => Ok(Goal::Query(a, Some(b), many)),
-        Builtin::GetInput => Ok(Goal::Input(a)),
-        Builtin::SplitWord => Ok(Goal::SplitWord(a, b)),
-        Builtin::JoinWords => Ok(Goal::JoinWords(a, b)),
-        Builtin::Gap(kind) => Ok(Goal::Gap(kind)),
-        Builtin::Spaces => Ok(Goal::GapN(a)),
-        Builtin::HasParent => Ok(Goal::Holds(0, two(alloc, a, b)?, many)),
+        Builtin::Test(kind) => Ok(without((b, c), Goal::Test(kind, a))),
+        Builtin::Object => Ok(without((b, c), Goal::IsObject(a, many))),
+        Builtin::Fail => Ok(without((a, b, c), Goal::Fail)),
+        Builtin::Just => Ok(without((a, b, c), Goal::Just)),
+        Builtin::Stop => Ok(without((a, b, c), Goal::Stop)),
+        Builtin::Quit => Ok(without((a, b, c), Goal::Quit)),
+        Builtin::RepeatForever => Ok(without((a, b, c), Goal::Forever)),
+        Builtin::Query => Ok(without((b, c), Goal::Query(a, None, many))),
+        Builtin::QueryWith => Ok(without(c, Goal::Query(a, Some(b), many))),
+        Builtin::GetInput => Ok(without((b, c), Goal::Input(a))),
+        Builtin::SplitWord => Ok(without(c, Goal::SplitWord(a, b))),
+        Builtin::JoinWords => Ok(without(c, Goal::JoinWords(a, b))),
+        Builtin::Gap(kind) => Ok(without((a, b, c), Goal::Gap(kind))),
+        Builtin::Spaces => Ok(without((b, c), Goal::GapN(a))),
+        Builtin::HasParent => has_parent(alloc, a, b, c, many),
     }
 }
 
