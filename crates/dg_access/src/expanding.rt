@@ -14,9 +14,10 @@ use crate::place::{Place, Uses};
 use crate::steps::step;
 use crate::weighed::{Weighed, numbered};
 use crate::work::Work;
-use dg_base::{Body, Head, Items, NowChange, Part};
+use dg_base::{Body, Head, Items, NowChange, Part, put};
 use dg_plain::{Built, Close, let_go};
 use std::alloc::{AllocError, Global};
+use std::mem;
 
 /// What weighs more than this has more nodes or more queries than there may be.
 pub const MOST: usize = 2_500_000;
@@ -97,7 +98,7 @@ fn built_of<'a>(
     ensures large { IfOk result (λ all. IfNone all (IsPast (run (around uses.entry) (work.entry ∷ []) (numbered number)))) }
 {
     let mut left = Vec::new(alloc);
-    left.push(work)?;
+    put(&mut left, work)?;
     let mut weighed = numbered(alloc, number);
     match run_all(alloc, uses, left, &mut weighed) {
         Ok(true) => Ok(Some(weighed)),
@@ -119,21 +120,13 @@ pub struct Heads {
 }
 
 // The heads that were built, and the number of the next new name.
-fn built_heads(built: Built) -> Heads
+fn built_heads(alloc: Global, mut built: Built) -> Heads
     ensures heads { result.heads ≡ built.changes }
     ensures number { result.number ≡ built.at }
 {
-    let Built {
-        at: number,
-        values: _values,
-        parts: _parts,
-        stmts: _stmts,
-        branches: _branches,
-        bodies: _bodies,
-        arms: _arms,
-        changes: heads,
-        puts: _puts,
-    } = built;
+    let number = built.at;
+    let heads = mem::replace(&mut built.changes, Vec::new(alloc));
+    let_go(built);
     Heads { heads, number }
 }
 
@@ -156,7 +149,7 @@ pub fn heads_of<'a>(
     let parts = head.parts.as_slice();
     let built = built_of(alloc, uses, 0, Work::Change(at, set, parts))?;
     match built {
-        Some(Weighed { built, tally: _ }) => Ok(Some(built_heads(built))),
+        Some(Weighed { built, tally: _ }) => Ok(Some(built_heads(alloc, built))),
         None => Ok(None),
     }
 }
@@ -180,20 +173,11 @@ pub struct BuiltBody {
 }
 
 // The bodies that were built.
-fn built_bodies(built: Built) -> Vec<Body>
+fn built_bodies(alloc: Global, mut built: Built) -> Vec<Body>
     ensures { result ≡ built.bodies }
 {
-    let Built {
-        at: _number,
-        values: _values,
-        parts: _parts,
-        stmts: _stmts,
-        branches: _branches,
-        bodies,
-        arms: _arms,
-        changes: _changes,
-        puts: _puts,
-    } = built;
+    let bodies = mem::replace(&mut built.bodies, Vec::new(alloc));
+    let_go(built);
     bodies
 }
 
@@ -215,7 +199,7 @@ pub fn body_of<'a>(
     let built = built_of(alloc, uses, number, Work::Body(at, body))?;
     match built {
         Some(Weighed { built, tally }) => {
-            let body = last_body(alloc, built_bodies(built));
+            let body = last_body(alloc, built_bodies(alloc, built));
             Ok(Some(BuiltBody { body, tally }))
         }
         None => Ok(None),
@@ -223,20 +207,11 @@ pub fn body_of<'a>(
 }
 
 // The parts that were built, as a head.
-fn built_head(built: Built) -> Head
+fn built_head(alloc: Global, mut built: Built) -> Head
     ensures { result.parts ≡ built.parts.items }
 {
-    let Built {
-        at: _number,
-        values: _values,
-        parts,
-        stmts: _stmts,
-        branches: _branches,
-        bodies: _bodies,
-        arms: _arms,
-        changes: _changes,
-        puts: _puts,
-    } = built;
+    let parts = mem::replace(&mut built.parts, Vec::new(alloc));
+    let_go(built);
     Head {
         parts: Items::from_vec(parts),
     }
@@ -256,7 +231,7 @@ pub fn head_of<'a>(
 {
     let built = built_of(alloc, uses, 0, Work::Parts(at, head.parts.as_slice()))?;
     match built {
-        Some(Weighed { built, tally: _ }) => Ok(Some(built_head(built))),
+        Some(Weighed { built, tally: _ }) => Ok(Some(built_head(alloc, built))),
         None => Ok(None),
     }
 }

@@ -15,7 +15,7 @@ use crate::place::{
 };
 use crate::weighed::{Weighed, close, put_text, put_value, put_word, take_number};
 use crate::work::Work;
-use dg_base::{Arm, Body, Boxed, Head, Items, Name, NowChange, Part, Stmt, Value};
+use dg_base::{Arm, Body, Boxed, Head, Items, Name, NowChange, Part, Stmt, Value, put};
 use dg_plain::{Asking, Built, Close, Wrap, copied};
 use std::alloc::{AllocError, Global};
 
@@ -23,9 +23,8 @@ use std::alloc::{AllocError, Global};
 fn put_off<'a>(left: &mut Vec<Work<'a>>, close: Close, first: Work<'a>) -> Result<(), AllocError>
     ensures { OnOk result (left.new.items ≡ left.old.items ++ Work.Close close ∷ first.entry ∷ []) }
 {
-    left.push(Work::Close(close))?;
-    left.push(first)?;
-    Ok(())
+    put(left, Work::Close(close))?;
+    put(left, first)
 }
 
 fn put_off_two<'a>(
@@ -36,10 +35,9 @@ fn put_off_two<'a>(
 ) -> Result<(), AllocError>
     ensures { OnOk result (left.new.items ≡ left.old.items ++ Work.Close close ∷ second.entry ∷ first.entry ∷ []) }
 {
-    left.push(Work::Close(close))?;
-    left.push(second)?;
-    left.push(first)?;
-    Ok(())
+    put(left, Work::Close(close))?;
+    put(left, second)?;
+    put(left, first)
 }
 
 // Puts off what is gathered, and what is closed behind it.
@@ -54,11 +52,10 @@ fn put_off_gathering<'a>(
     ensures { OnOk result (left.new.items ≡ left.old.items ++ Work.Close close ∷ Work.Value at.entry into.entry ∷ Work.Body at.entry body.entry
         ∷ Work.Value at.entry value.entry ∷ []) }
 {
-    left.push(Work::Close(close))?;
-    left.push(Work::Value(at, into))?;
-    left.push(Work::Body(at, body))?;
-    left.push(Work::Value(at, value))?;
-    Ok(())
+    put(left, Work::Close(close))?;
+    put(left, Work::Value(at, into))?;
+    put(left, Work::Body(at, body))?;
+    put(left, Work::Value(at, value))
 }
 
 // Puts off the first of a list behind all others, with what is closed behind it.
@@ -70,10 +67,9 @@ fn put_off_first<'a>(
 ) -> Result<(), AllocError>
     ensures { OnOk result (left.new.items ≡ left.old.items ++ others.entry ∷ Work.Close close ∷ first.entry ∷ []) }
 {
-    left.push(others)?;
-    left.push(Work::Close(close))?;
-    left.push(first)?;
-    Ok(())
+    put(left, others)?;
+    put(left, Work::Close(close))?;
+    put(left, first)
 }
 
 fn put_off_both<'a>(
@@ -83,16 +79,14 @@ fn put_off_both<'a>(
 ) -> Result<(), AllocError>
     ensures { OnOk result (left.new.items ≡ left.old.items ++ others.entry ∷ first.entry ∷ []) }
 {
-    left.push(others)?;
-    left.push(first)?;
-    Ok(())
+    put(left, others)?;
+    put(left, first)
 }
 
 fn put_off_one<'a>(left: &mut Vec<Work<'a>>, one: Work<'a>) -> Result<(), AllocError>
     ensures { OnOk result (left.new.items ≡ left.old.items ++ one.entry ∷ []) }
 {
-    left.push(one)?;
-    Ok(())
+    put(left, one)
 }
 
 fn copied_words(alloc: Global, words: &[Name]) -> Result<Items<Name>, AllocError>
@@ -293,7 +287,7 @@ fn look_arms<'a>(
     match arms {
         [] => Ok(()),
         [first, others @ ..] => {
-            left.push(Work::Arms(at, others))?;
+            put(left, Work::Arms(at, others))?;
             put_off_two(
                 left,
                 Close::Arm,
