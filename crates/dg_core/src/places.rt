@@ -112,17 +112,58 @@ fn add_all_changes(
     Ok(())
 }
 
+// Adds the names of the places of a tree, that of parents first.
+fn add_places(
+    alloc: Global,
+    names: &mut IndexSet<Vec<u8>>,
+    items: &[Item],
+) -> Result<(), AllocError>
+    requires { listed names.old ≡ [] }
+    ensures { OnOk result (listed names.new ≡ spec.place_names (map item_view items.now)) }
+{
+    add_name(alloc, names, PARENTS)?;
+    add_all_declared(alloc, names, items)?;
+    add_all_changes(alloc, names, items)
+}
+
+fn named_in(alloc: Global, items: &[Item]) -> Result<IndexSet<Vec<u8>>, AllocError>
+    ensures { IfOk result (λ names. listed names ≡ spec.place_names (map item_view items.now)) }
+{
+    let mut names = IndexSet::new(alloc);
+    match add_places(alloc, &mut names, items) {
+        Ok(()) => Ok(names),
+        Err(fault) => {
+            drop(names);
+            Err(fault)
+        }
+    }
+}
+
+fn declared_in(alloc: Global, items: &[Item]) -> Result<IndexSet<Vec<u8>>, AllocError>
+    ensures { IfOk result (λ names. listed names ≡ spec.declared_names (map item_view items.now)) }
+{
+    let mut names = IndexSet::new(alloc);
+    match add_all_declared(alloc, &mut names, items) {
+        Ok(()) => Ok(names),
+        Err(fault) => {
+            drop(names);
+            Err(fault)
+        }
+    }
+}
+
 /// The places of a tree.
 pub fn places_of(alloc: Global, items: &[Item]) -> Result<Places, AllocError>
     ensures { IfOk result (λ places. places_view places ≡ spec.placed_of (map item_view items.now)) }
 {
-    let mut declared = IndexSet::new(alloc);
-    add_all_declared(alloc, &mut declared, items)?;
-    let mut names = IndexSet::new(alloc);
-    add_name(alloc, &mut names, PARENTS)?;
-    add_all_declared(alloc, &mut names, items)?;
-    add_all_changes(alloc, &mut names, items)?;
-    Ok(Places { names, declared })
+    let declared = declared_in(alloc, items)?;
+    match named_in(alloc, items) {
+        Ok(names) => Ok(Places { names, declared }),
+        Err(fault) => {
+            drop(declared);
+            Err(fault)
+        }
+    }
 }
 
 /// Whether a name is one of these.
