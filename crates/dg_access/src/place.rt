@@ -129,24 +129,27 @@ pub fn is_own_parameter(at: &Place<'_>, name: &[u8]) -> bool
     at.closed && name == PARAMETER
 }
 
-// How often a name stands among these.
-fn times(names: &[&[u8]], name: &[u8]) -> usize
-    ensures { result ≡ times name.now (names_seen names.now) }
+// Whether a name stands among these more than once.
+fn is_repeated(names: &[&[u8]], name: &[u8]) -> bool
+    ensures { result ≡ nat_lt 1 (times name.now (names_seen names.now)) }
 {
-    let mut count = 0;
-    for index in 0..names.len() {
-        if name == names[index] {
+    let mut count: usize = 0;
+    for known in names {
+        if name == *known {
             count += 1;
         }
+        if count > 1 {
+            return true;
+        }
     }
-    count
+    false
 }
 
 /// Whether a variable stands at several places of its rule.
 pub fn is_shared(at: &Place<'_>, name: &[u8]) -> bool
     ensures { (rules : List spec.Access) (mark : ℕ) → result ≡ nat_lt 1 (times name.now (around_in rules mark at.now).place.names) }
 {
-    times(at.names, name) > 1
+    is_repeated(at.names, name)
 }
 
 /// In a closure.
