@@ -349,16 +349,32 @@ fn refusal_of(alloc: Global, tree: &Tree, places: &Places) -> Result<Option<Refu
     }
 }
 
+// The core program of a tree with these names and places, or why it is refused.
+fn lowered_with(
+    alloc: Global,
+    tree: &Tree,
+    names: &Names,
+    places: &Places,
+) -> Result<CoreProgram, ReadFault>
+    requires { places_view places.now ≡ placed_of (tree_view tree.now) }
+    ensures ok { IfOk result (λ core. spec.IsLowered (names_view names.now) (tree_view tree.now) (Ok core)) }
+    ensures refused { IfErr result (IsFault (λ r. spec.IsLowered (names_view names.now) (tree_view tree.now) (Err r))) }
+{
+    match refusal_of(alloc, tree, places)? {
+        Some(refusal) => Err(ReadFault::Refused(refusal)),
+        None => Ok(program_of(alloc, names, places, tree.items.as_slice())?),
+    }
+}
+
 // The core program of a tree with these names, or why it is refused.
 fn lowered(alloc: Global, tree: &Tree, names: &Names) -> Result<CoreProgram, ReadFault>
     ensures ok { IfOk result (λ core. spec.IsLowered (names_view names.now) (tree_view tree.now) (Ok core)) }
     ensures refused { IfErr result (IsFault (λ r. spec.IsLowered (names_view names.now) (tree_view tree.now) (Err r))) }
 {
     let places = places_of(alloc, tree.items.as_slice())?;
-    match refusal_of(alloc, tree, &places)? {
-        Some(refusal) => Err(ReadFault::Refused(refusal)),
-        None => Ok(program_of(alloc, names, &places, tree.items.as_slice())?),
-    }
+    let result = lowered_with(alloc, tree, names, &places);
+    drop(places);
+    result
 }
 
 // A tree without items has no entry.
@@ -380,7 +396,12 @@ pub fn lower(alloc: Global, tree: Tree, names: Names) -> Result<CoreProgram, Rea
     ensures memory { IsErrOf result ReadFault.OutOfMemory → 0 < length (tree_view tree) }
 {
     if tree.items.as_slice().is_empty() {
+        drop(tree);
+        drop(names);
         return Err(no_entry());
     }
-    lowered(alloc, &tree, &names)
+    let result = lowered(alloc, &tree, &names);
+    drop(tree);
+    drop(names);
+    result
 }
