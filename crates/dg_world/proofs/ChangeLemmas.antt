@@ -1,5 +1,5 @@
 -- What each change leads to, and what is read.
-use Rattle.std.proofs.Common.{◌≡◌, ℕ, zero, suc, ◌+◌, ◌-◌, ◌<◌, ◌≤◌, List, [], ◌∷◌, Bool, true, false, Option, Some, None, map, refl, sym, ap, ◌∙◌, subst, arith, ◌⊎◌, length, get_or, length-append}
+use Rattle.std.proofs.Common.{◌≡◌, ℕ, ◌+◌, ◌-◌, ◌<◌, List, [], Bool, true, false, Option, Some, None, refl, sym, ap, ◌∙◌, subst, arith, length, get_or}
 use Rattle.std.specs.Prelude.{not, Result, Ok, Err, if◌then◌else◌}
 use Rattle.std.proofs.Math.ListN.{set}
 use Rattle.std.specs.List.{slice_get, list_any}
@@ -14,16 +14,15 @@ use Rattle.dg_base.specs.declared.program.PlaceKind.TheVariants.{Flag, ObjectFla
 use Rattle.dg_meaning.specs.Values.{Value}
 use Rattle.dg_meaning.specs.TypeTests.{is_fully_bound}
 use Rattle.dg_meaning.specs.ValueCells.{cells_of}
-use Rattle.dg_meaning.specs.Facts.{Fact, value_at, kept_size, Alteration, Sets, Clears, ClearsAll, altered, takes}
+use Rattle.dg_meaning.specs.Facts.{Fact, value_at, Alteration, Sets, Clears, ClearsAll, altered, takes}
 use Rattle.dg_meaning.specs.inside.Objects.{IsFirstSet}
 use Rattle.dg_world.specs.Lists.{Lists, joined}
-use Rattle.dg_world.specs.Tables.{Outline, IsKind, HasValues, HasObjects, Table, simple_value, takes_slot, width_of, slot_in, put_at, emptied, cells_set, stored, stored_from, is_fresh, IsFirstSlot, AreTables}
-use Rattle.dg_world.specs.Worlds.{StandsFor, Means, takes_in, is_taken, Changed, Fits, KeepsList}
+use Rattle.dg_world.specs.Tables.{Outline, IsKind, HasValues, HasObjects, Table, simple_value, takes_slot, width_of, slot_in, put_at, emptied, cells_set, is_fresh, IsFirstSlot, AreTables}
+use Rattle.dg_world.specs.Worlds.{StandsFor, Means, takes_in, is_taken, Changed, KeepsList}
 use Rattle.dg_world.specs.declared.change.Change.{Change}
 use Rattle.dg_world.specs.declared.change.Change.TheVariants as change
 use Rattle.dg_world.specs.declared.change.KeepFull.{KeepFull}
 use Rattle.dg_world.specs.declared.world.World.{World}
-use Rattle.dg_world.proofs.ListsLemmas.{item_within}
 use Rattle.dg_world.proofs.FactsLemmas.{set_there, set_elsewhere, cleared_there, cleared_elsewhere, all_cleared, others_stay, variable_in, some_cell}
 use Rattle.dg_world.proofs.TablesLemmas.{put_stands, emptied_stands, kept_stands, new_size, kept_is, stored_at, either}
 

@@ -1,5 +1,5 @@
 -- What is set behind a change.
-use Rattle.std.proofs.Common.{◌≡◌, ℕ, zero, suc, ◌+◌, List, [], ◌∷◌, ◌++◌, Bool, true, false, cond, Option, Some, None, map, refl, sym, ap, ◌∙◌, arith, inl, inr, length, filter}
+use Rattle.std.proofs.Common.{◌≡◌, ℕ, List, [], ◌∷◌, ◌++◌, Bool, true, false, cond, Some, None, map, refl, sym, ap, ◌∙◌, arith, length, filter}
 use Rattle.std.specs.Prelude.{not, nat_eq, ◌&&◌, ◌||◌}
 use Rattle.std.specs.List.{list_any}
 use Rattle.std.proofs.lemmas.Bool.{eqb-true, eq-eqb, cond-true, cond-false}
@@ -9,7 +9,7 @@ use Rattle.dg_base.specs.declared.cells.Cell.TheVariants as cell
 use Rattle.dg_meaning.specs.Values.{Label, Num, Word, Unknown, Object, Nil, Pair, Closure, Value, Var, Node, Values, NoMore, More}
 use Rattle.dg_meaning.specs.TypeTests.{is_fully_bound, are_fully_bound}
 use Rattle.dg_meaning.specs.ValueCells.{count_of, label_cells, cells_of, cells_of_all}
-use Rattle.dg_meaning.specs.Facts.{Fact, is_at, value_at, Alteration, Sets, Clears, ClearsAll, altered}
+use Rattle.dg_meaning.specs.Facts.{Fact, is_at, value_at, Sets, Clears, ClearsAll, altered}
 use Rattle.dg_world.specs.Tables.{is_fresh}
 
 -- ## Tests of places

@@ -4,3 +4,4 @@ pub mod TablesLemmas
 pub mod ChangeLemmas
 pub mod StartLemmas
 pub mod StartedLemmas
+pub mod Shapes

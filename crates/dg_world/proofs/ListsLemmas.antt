@@ -1,6 +1,6 @@
 -- Lists one after another: where they begin, and what changes when one of them does.
-use Rattle.std.proofs.Common.{◌≡◌, Bool, true, cond, ℕ, zero, suc, ◌+◌, ◌-◌, ◌^◌, ◌<◌, ◌≤◌, List, [], ◌∷◌, ◌++◌, map, refl, sym, ap, ◌∙◌, subst, arith, length, take, drop, get_or, append_assoc, length-append, length-drop}
-use Rattle.std.proofs.lemmas.List.{append-nil, take_at, drop_at, get_or_at, get_or-append-add, map-append}
+use Rattle.std.proofs.Common.{◌≡◌, Bool, true, cond, ℕ, zero, suc, ◌+◌, ◌-◌, ◌<◌, ◌≤◌, List, [], ◌∷◌, ◌++◌, map, refl, sym, ap, ◌∙◌, subst, arith, length, take, drop, get_or, append_assoc, length-append, length-drop}
+use Rattle.std.proofs.lemmas.List.{append-nil, take_at, drop_at, get_or_at, get_or-append-add}
 use Rattle.std.proofs.Math.ListN.{set}
 use Rattle.std.proofs.lemmas.List.{set_split, drop_more, take-append-drop, length-take-le}
 use Rattle.dg_base.specs.declared.cells.Cell.{Cell}

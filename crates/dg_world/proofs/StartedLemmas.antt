@@ -6,9 +6,9 @@ use Rattle.std.specs.Option.{option_map}
 use Rattle.std.proofs.Math.ListN.{set}
 use Rattle.std.proofs.lemmas.Bool.Decides.{leb_tells}
 use Rattle.std.proofs.lemmas.Bool.{cases_eq, eqb-true, eq-eqb, cond-true, cond-false}
-use Rattle.std.proofs.lemmas.List.{length-set, length-replicate, get_or-set_same, get_or-set_other, take-append-drop, take_all, map_more, take-map}
+use Rattle.std.proofs.lemmas.List.{length-set, length-replicate, get_or-set_same, get_or-set_other, take-append-drop, map_more, take-map}
 use Rattle.std.proofs.lemmas.List.Elements.{All-head, All-tail}
-use Rattle.std.proofs.lemmas.Option.{slice_get-map, slice_get_within, slice_get-get_or, get_or_from_slice_get}
+use Rattle.std.proofs.lemmas.Option.{slice_get-map, slice_get_within, get_or_from_slice_get}
 use Rattle.dg_base.specs.declared.cells.Cell.{Cell}
 use Rattle.dg_base.specs.declared.cells.Simple.{Simple}
 use Rattle.dg_base.specs.declared.program.Term.{Term, out-Term, Pair'}
@@ -18,10 +18,9 @@ use Rattle.dg_base.specs.declared.program.Place.{Place}
 use Rattle.dg_base.specs.declared.program.PlaceKind.{PlaceKind}
 use Rattle.dg_base.specs.declared.program.PlaceKind.TheVariants.{Flag, ObjectFlag, ObjectVar, Parent, Global}
 use Rattle.dg_base.specs.Sound.{FitsStart, IsSimple, IsObject, IsNothing}
-use Rattle.dg_meaning.specs.ValueCells.{cells_of}
 use Rattle.dg_meaning.specs.Facts.{Fact, is_at, value_at, kept_size, start_value, starts_from, start_facts}
 use Rattle.dg_world.specs.Lists.{joined}
-use Rattle.dg_world.specs.Tables.{Outline, outline_of, IsKind, Table, simple_value, width_of, slot_in, cells_set, stored, stored_from, AreTables}
+use Rattle.dg_world.specs.Tables.{outline_of, Table, simple_value, width_of, slot_in, cells_set, stored, stored_from, AreTables}
 use Rattle.dg_world.specs.Starts.{HasStarts, slot_of, filled, first_cells, cells_at_start, starting_table, starting_cells}
 use Rattle.dg_world.proofs.ListsLemmas.{joined_append, joined_push}
 use Rattle.dg_world.proofs.TablesLemmas.{kept_is, either}

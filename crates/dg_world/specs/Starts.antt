@@ -10,7 +10,7 @@ use Rattle.dg_base.specs.declared.program.Term.{Term, out-Term}
 use Rattle.dg_base.specs.declared.program.Term.TheOpen as term
 use Rattle.dg_base.specs.declared.program.Place.{Place}
 use Rattle.dg_base.specs.declared.program.PlaceKind.{PlaceKind}
-use Rattle.dg_base.specs.declared.program.PlaceKind.TheVariants.{Flag, ObjectFlag, ObjectVar, Parent, Global}
+use Rattle.dg_base.specs.declared.program.PlaceKind.TheVariants.{Global}
 use Rattle.dg_base.specs.Sound.{FitsStart}
 use Rattle.dg_meaning.specs.ValueCells.{cells_of}
 use Rattle.dg_meaning.specs.Facts.{start_value}

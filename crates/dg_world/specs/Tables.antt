@@ -10,7 +10,7 @@ use Rattle.dg_base.specs.declared.program.PlaceKind.{PlaceKind}
 use Rattle.dg_base.specs.declared.program.PlaceKind.TheVariants.{Flag, ObjectFlag, ObjectVar, Parent, Global}
 use Rattle.dg_meaning.specs.Values.{Num, Word, Object, Nil, Value, leaf}
 use Rattle.dg_meaning.specs.ValueCells.{cells_of}
-use Rattle.dg_meaning.specs.Facts.{Fact, value_at, kept_size, Alteration, Sets, Clears, ClearsAll, takes}
+use Rattle.dg_meaning.specs.Facts.{Fact, value_at, kept_size, takes}
 
 -- What a world is made for: the kinds of its places, how many objects there are, and how many cells it may keep.
 pub record Outline : Type 0 where
@@ -40,6 +40,10 @@ HasObjects o place = IsKind o place ObjectFlag ⊎ HasValues o place
 pub record Table : Type 0 where
   pub kind : PlaceKind
   pub slots : List (Option Simple)
+
+-- How large it is, whatever is set in it: its kind, and how many slots it has.
+abbrev pub shape : Table → PlaceKind × ℕ
+shape table = (table.kind, length table.slots)
 
 -- The value that stands in a slot.
 abbrev pub simple_value : Simple → Value

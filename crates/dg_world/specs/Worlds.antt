@@ -1,13 +1,13 @@
 -- What a world stands for, and what its changes do. Hold it against docs/LANGUAGE.md, "The world".
-use Rattle.std.specs.Prelude.{◌≡◌, ℕ, ◌+◌, ◌-◌, ◌<◌, ◌≤◌, List, [], length, get_or, slice_set, Option, Some, None, Bool, true, false, Result, Ok, Err, slice_get}
+use Rattle.std.specs.Prelude.{◌≡◌, ℕ, ◌+◌, ◌-◌, ◌<◌, ◌≤◌, List, [], length, map, get_or, slice_set, Option, Some, None, Bool, true, false, Result, Ok, Err, slice_get}
 use Rattle.std.specs.List.{list_any}
 use Rattle.dg_base.specs.declared.cells.Cell.{Cell}
 use Rattle.dg_base.specs.declared.program.PlaceKind.{PlaceKind}
-use Rattle.dg_base.specs.declared.program.PlaceKind.TheVariants.{Flag, ObjectFlag, ObjectVar, Parent, Global as GlobalKind}
+use Rattle.dg_base.specs.declared.program.PlaceKind.TheVariants.{Flag, ObjectFlag, Global as GlobalKind}
 use Rattle.dg_meaning.specs.Values.{Value}
 use Rattle.dg_meaning.specs.ValueCells.{cells_of}
 use Rattle.dg_meaning.specs.Facts.{Fact, set, kept_size, Alteration, Sets, Clears, ClearsAll, altered, takes}
-use Rattle.dg_world.specs.Tables.{Outline, IsKind, HasValues, HasObjects, simple_value, is_fresh, AreTables}
+use Rattle.dg_world.specs.Tables.{Outline, IsKind, HasValues, HasObjects, shape, width_of, simple_value, is_fresh, AreTables}
 use Rattle.dg_world.specs.Lists.{joined}
 use Rattle.dg_world.specs.declared.change.Change.{Change}
 use Rattle.dg_world.specs.declared.change.Change.TheVariants as change
@@ -17,6 +17,19 @@ use Rattle.dg_world.specs.declared.world.World.{World}
 -- A world stands for facts.
 abbrev pub StandsFor : World → Outline → List Fact → Type 0
 StandsFor w o facts = AreTables o facts w.tables.items w.area.lists w.area.keep
+
+-- How large a world is, whatever is set in it: each of its places, how many lists are kept, and how many cells it may keep.
+pub record Shape : Type 0 where
+  pub tables : List (PlaceKind × ℕ)
+  pub lists : ℕ
+  pub keep : ℕ
+
+abbrev pub shape_of : World → Shape
+shape_of w = record { tables = map shape w.tables.items; lists = length w.area.lists; keep = w.area.keep }
+
+-- How large each world is that is made so: a slot for each object, or one, or none, and a list for each place.
+abbrev pub shape_in : Outline → Shape
+shape_in o = record { tables = map (λ kind. (kind, width_of kind o.objects)) o.kinds; lists = length o.kinds; keep = o.keep }
 
 -- What a change means, where its place is of a kind of which it speaks and its object is there: a kept value is written out as its cells.
 abbrev pub Means : Outline → Change → Alteration → Type 0

@@ -95,6 +95,24 @@ fn shift_behind(starts: &mut Vec<usize>, index: usize, gone: usize, come: usize)
     shift(&mut starts[index + 1..], gone, come);
 }
 
+// Puts cells in the place of all of a row, in the room that is there.
+fn refill(row: &mut Vec<Cell>, cells: &[Cell])
+    requires room { length cells.now ≤ vec_capacity row.old }
+    ensures items { row.new.items ≡ cells.now }
+    ensures room { vec_capacity row.old ≤ vec_capacity row.new }
+{
+    row.clear();
+    row.extend_from_slice(cells).unwrap();
+}
+
+// Sets each place as in others.
+fn copy(starts: &mut [usize], others: &[usize])
+    requires { length others.now ≡ length starts.old }
+    ensures { starts.new ≡ others.now }
+{
+    starts.copy_from_slice(others);
+}
+
 impl Area {
     /// No lists, with room for so many cells.
     pub fn new(alloc: Global, keep: usize) -> Result<Area, AllocError>
@@ -118,6 +136,16 @@ impl Area {
         self.starts.push(self.cells.len() + cells.len())?;
         self.cells.extend_from_slice(cells).unwrap();
         Ok(())
+    }
+
+    /// Takes the lists of another, which has as many and may hold as much.
+    pub fn set_to(&mut self, other: &Area)
+        requires lists { length other.now.lists ≡ length self.old.lists }
+        requires keep { other.now.keep ≡ self.old.keep }
+        ensures { self.new ≡ other.now }
+    {
+        refill(&mut self.cells, &other.cells);
+        copy(&mut self.starts, &other.starts);
     }
 
     /// How many cells the lists have together.

@@ -1,6 +1,6 @@
 // What is set at a place.
 ghost use Rattle.std.specs.Prelude.{◌≡◌, ℕ, List, None, map, length, replicate, slice_set, slice_index_or, IfOk};
-ghost use Rattle.dg_world.specs.Tables.{width_of, IsFirstSlot};
+ghost use Rattle.dg_world.specs.Tables.{shape, width_of, IsFirstSlot};
 
 use dg_base::{PlaceKind, Simple};
 use std::alloc::{AllocError, Global};
@@ -44,6 +44,14 @@ fn empty(slots: &mut [Option<Simple>])
     }
 }
 
+// Sets each slot as in others.
+fn copy(slots: &mut [Option<Simple>], others: &[Option<Simple>])
+    requires { length others.now ≡ length slots.old }
+    ensures { slots.new ≡ others.now }
+{
+    slots.copy_from_slice(others);
+}
+
 impl Row {
     /// A place at which nothing is set.
     pub fn new(alloc: Global, kind: PlaceKind, objects: u16) -> Result<Row, AllocError>
@@ -77,6 +85,14 @@ impl Row {
         if let Some(slot) = self.slots.get_mut(number as usize) {
             *slot = value;
         }
+    }
+
+    /// Sets each slot as in another, which is of the same kind and has as many.
+    pub fn set_to(&mut self, other: &Row)
+        requires { shape other.now ≡ shape self.old }
+        ensures { self.new ≡ other.now }
+    {
+        copy(&mut self.slots, &other.slots);
     }
 
     /// Clears all slots.

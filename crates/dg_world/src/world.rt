@@ -1,5 +1,5 @@
 // The world: what is set at each place.
-ghost use Rattle.std.specs.Prelude.{◌≡◌, ℕ, ◌<◌, ◌≤◌, List, All, IfOk, Option, Some, None, Ok, is_some, slice_get, option_map, nat_le, if◌then◌else◌};
+ghost use Rattle.std.specs.Prelude.{◌≡◌, ℕ, ◌<◌, ◌≤◌, List, All, IfOk, map, Option, Some, None, Ok, is_some, slice_get, option_map, nat_le, if◌then◌else◌};
 ghost use Rattle.std.specs.Option.{option_copied};
 ghost use Rattle.std.specs.List.{list_any};
 ghost use Rattle.dg_base.specs.declared.program.PlaceKind.{PlaceKind};
@@ -7,7 +7,7 @@ ghost use Rattle.dg_base.specs.declared.program.PlaceKind.TheVariants.{Flag, Obj
 ghost use Rattle.dg_meaning.specs.ValueCells.{cells_of};
 ghost use Rattle.dg_meaning.specs.Facts.{Fact, Alteration, value_at, kept_size, start_facts};
 ghost use Rattle.dg_meaning.specs.inside.Objects.{IsFirstSet};
-ghost use Rattle.dg_world.specs.Tables.{Outline, outline_of, IsKind, HasValues, HasObjects, Table, simple_value, slot_in, put_at, emptied, is_fresh, takes_slot};
+ghost use Rattle.dg_world.specs.Tables.{Outline, outline_of, IsKind, HasValues, HasObjects, Table, shape, simple_value, slot_in, put_at, emptied, is_fresh, takes_slot};
 ghost use Rattle.dg_world.specs.Starts.{HasStarts};
 
 use crate::area::Area;
@@ -38,8 +38,21 @@ fn has_variable(cells: &[Cell]) -> bool
     cells.iter().any(|cell| matches!(cell, Cell::Fresh))
 }
 
+// Sets each of some places as in others.
+fn set_tables(tables: &mut [Row], others: &[Row])
+    requires { map shape others.now ≡ map shape tables.old }
+    ensures { tables.new ≡ others.now }
+{
+    let mut at = 0;
+    'tables: while at < others.len() {
+        let table = &mut tables[at];
+        table.set_to(&others[at]);
+        at += 1;
+    }
+}
+
 impl World {
-    ghost use Rattle.dg_world.specs.Worlds.{StandsFor, Means, Changed, KeepsList};
+    ghost use Rattle.dg_world.specs.Worlds.{StandsFor, shape_of, Means, Changed, KeepsList};
 
     /// The world at the start of a program with these places and so many objects, which may keep so many cells.
     pub fn new(
@@ -81,6 +94,16 @@ impl World {
             room -= cells.len();
         }
         Ok(true)
+    }
+
+    /// Sets all as it is set in another world, which is as large.
+    pub fn set_to(&mut self, other: &World)
+        requires { shape_of other.now ≡ shape_of self.old }
+        ensures stands { (o : Outline) → (facts : List Fact) → StandsFor other.now o facts → StandsFor self.new o facts }
+        ensures shape { shape_of self.new ≡ shape_of self.old }
+    {
+        set_tables(&mut self.tables, &other.tables);
+        self.area.set_to(&other.area);
     }
 
     // What is kept of a place.
@@ -175,6 +198,7 @@ impl World {
     fn keep(&mut self, place: u16, cells: &[Cell]) -> Result<bool, KeepFull>
         ensures kept { KeepsList place cells.now self.old self.new result }
         ensures limit { self.new.area.keep ≡ self.old.area.keep }
+        ensures shape { shape_of self.new ≡ shape_of self.old }
     {
         if has_variable(cells) {
             return Ok(false);
@@ -203,6 +227,7 @@ impl World {
         ensures changed { (o : Outline) → (facts : List Fact) → (a : Alteration) → StandsFor self.old o facts →
             Means o (Change.ObjectVar place object value) a → Changed o facts a self.old self.new (Ok result) }
         ensures limit { self.new.area.keep ≡ self.old.area.keep }
+        ensures shape { shape_of self.new ≡ shape_of self.old }
     {
         if !self.takes(place, value) {
             return false;
@@ -216,6 +241,7 @@ impl World {
         ensures changed { (o : Outline) → (facts : List Fact) → (a : Alteration) → StandsFor self.old o facts →
             Means o (Change.Global place cells.entry) a → Changed o facts a self.old self.new result }
         ensures limit { self.new.area.keep ≡ self.old.area.keep }
+        ensures shape { shape_of self.new ≡ shape_of self.old }
     {
         match cells {
             Some(cells) => self.keep(place, cells),
@@ -231,6 +257,7 @@ impl World {
         ensures changed { (o : Outline) → (facts : List Fact) → (a : Alteration) → StandsFor self.old o facts → Means o change.entry a →
             Changed o facts a self.old self.new result }
         ensures limit { self.new.area.keep ≡ self.old.area.keep }
+        ensures shape { shape_of self.new ≡ shape_of self.old }
     {
         match change {
             Change::Flag(place, on) => self.put(place, 0, flag(on)),

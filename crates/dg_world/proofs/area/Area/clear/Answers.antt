@@ -1,4 +1,4 @@
-use Rattle.std.proofs.Common.{◌≡◌, length, ap, sym, arith, [], ◌≤◌}
+use Rattle.std.proofs.Common.{length, ap, sym, arith, [], ◌≤◌}
 use Rattle.std.proofs.lemmas.List.{set_past}
 use Rattle.dg_world.specs.Lists.{Lists, starts_from}
 use Rattle.dg_world.proofs.ListsLemmas.{length-starts}

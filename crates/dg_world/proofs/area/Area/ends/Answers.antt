@@ -1,6 +1,6 @@
 use Rattle.std.proofs.Common.{ℕ, ◌+◌, arith, ap, get_or, length, ◌∙◌}
 use Rattle.dg_world.specs.Lists.{Lists}
-use Rattle.dg_world.proofs.ListsLemmas.{Parts, parts_at}
+use Rattle.dg_world.proofs.ListsLemmas.{parts_at}
 use Rattle.dg_world.proofs.area.Area.ends.Goals as goal
 
 pub two_at-requires : goal.two_at-requires

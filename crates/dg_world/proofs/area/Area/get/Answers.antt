@@ -1,7 +1,7 @@
 use Rattle.std.proofs.Common.{◌≡◌, ◌+◌, ◌-◌, ◌<◌, ◌++◌, [], arith, ap, sym, get_or, length, length-append, take, drop, ◌∙◌}
 use Rattle.std.proofs.lemmas.List.{take_at, drop_at}
 use Rattle.dg_world.specs.Lists.{Lists, joined}
-use Rattle.dg_world.proofs.ListsLemmas.{Parts, parts_at}
+use Rattle.dg_world.proofs.ListsLemmas.{parts_at}
 use Rattle.dg_world.proofs.area.Area.get.Goals as goal
 
 pub part-requires-clause-within : goal.part-requires-clause-within

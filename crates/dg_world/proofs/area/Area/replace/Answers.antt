@@ -1,7 +1,7 @@
-use Rattle.std.proofs.Common.{◌≡◌, ◌+◌, ◌-◌, ◌++◌, [], ℕ, arith, ap, sym, get_or, length, take, drop, map, ◌∙◌, refl}
+use Rattle.std.proofs.Common.{◌≡◌, ◌-◌, [], arith, ap, get_or, length, ◌∙◌}
 use Rattle.std.proofs.Math.ListN.{set}
 use Rattle.dg_world.specs.Lists.{Lists, joined, starts_from}
-use Rattle.dg_world.proofs.ListsLemmas.{Parts, parts_at, row_length, may_move, moved_starts, moved_row, is_cut, cut_is, changed_length}
+use Rattle.dg_world.proofs.ListsLemmas.{parts_at, row_length, may_move, moved_starts, moved_row, is_cut, cut_is, changed_length}
 use Rattle.dg_world.proofs.area.Area.replace.Goals as goal
 
 pub splice-requires-clause-within : goal.splice-requires-clause-within

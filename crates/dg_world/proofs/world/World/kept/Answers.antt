@@ -1,4 +1,4 @@
-use Rattle.std.proofs.Common.{sym, ap, ◌∙◌, length, eq-eqb}
+use Rattle.std.proofs.Common.{sym, ◌∙◌, length, eq-eqb}
 use Rattle.std.proofs.lemmas.Bool.{eqb-true, false≢true}
 use Rattle.dg_meaning.specs.Facts.{value_at}
 use Rattle.dg_world.proofs.ChangeLemmas.{kept_cells, none_kept, some_kept}

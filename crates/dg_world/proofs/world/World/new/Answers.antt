@@ -1,4 +1,4 @@
-use Rattle.std.proofs.Common.{◌≡◌, ℕ, ◌≤◌, map, refl, sym, ap, ◌∙◌, subst, arith, length, List}
+use Rattle.std.proofs.Common.{ℕ, ◌≤◌, map, refl, sym, ap, ◌∙◌, subst, arith, length, List}
 use Rattle.std.proofs.lemmas.List.{take_all}
 use Rattle.std.proofs.lemmas.Option.{slice_get_read}
 use Rattle.dg_base.specs.declared.cells.Cell.{Cell}
