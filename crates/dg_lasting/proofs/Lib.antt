@@ -5,3 +5,5 @@ pub mod Starting
 pub mod Closing
 pub mod Gathering
 pub mod Finds
+pub mod Beginning
+pub mod Staying

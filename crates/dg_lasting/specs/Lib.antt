@@ -3,3 +3,4 @@ pub mod Subjects
 pub mod Changing
 pub mod Finding
 pub mod Lasting
+pub mod Resting

@@ -6,7 +6,7 @@ ghost use Rattle.dg_meaning.specs.Changes.{sets_if_taken, object_set, object_cha
 ghost use Rattle.dg_base.specs.declared.program.PlaceKind.TheVariants.{Global as GlobalKind};
 ghost use Rattle.dg_unify.specs.Store.{Saved, Holds};
 ghost use Rattle.dg_world.specs.Tables.{Outline, IsKind};
-ghost use Rattle.dg_world.specs.Worlds.{StandsFor};
+ghost use Rattle.dg_world.specs.Worlds.{StandsFor, shape_of};
 ghost use Rattle.dg_lasting.specs.Changing.{IsFront, in_store, all_in_store, IsSlot, Asks, IsOfValues, IsOfObjects, one_change, Became};
 
 use crate::subject::{Subject, subject_of};
@@ -140,6 +140,7 @@ fn keep_value<B: Bindings>(
     ensures became { (o : Outline) → (facts : List Fact) → StandsFor world.old o facts → IsKind o place GlobalKind → length row.old ≡ o.keep →
         Became o facts (sets_if_taken GlobalKind place 0 (in_store (B.meaning store.old) value)) world.old world.new result }
     ensures limit { world.new.area.keep ≡ world.old.area.keep }
+    ensures shape { shape_of world.new ≡ shape_of world.old }
 {
     if !fully_bound(store, value) {
         return Ok(false);
@@ -169,6 +170,7 @@ pub fn change_place<B: Bindings>(
         length row.old ≡ o.keep →
         Became o facts (change_of objects kind place sets (all_in_store (B.meaning store.old) args.now)) world.old world.new result }
     ensures limit { world.new.area.keep ≡ world.old.area.keep }
+    ensures shape { shape_of world.new ≡ shape_of world.old }
 {
     match kind {
         PlaceKind::Flag => world.change(Change::Flag(place, sets)),

@@ -68,7 +68,7 @@ pub fn objects_of(program: &CoreProgram) -> u16
 }
 
 /// The world at the start of a program.
-fn start_world(alloc: Global, program: &CoreProgram, keep: u32) -> Result<World, Lack>
+pub fn start_world(alloc: Global, program: &CoreProgram, keep: u32) -> Result<World, Lack>
     requires sound { IsSound program.now }
     ensures starts { IfOk result (StartsWorld program.now keep) }
     ensures begins { OnOk result (kept_size (kinds_of program.now) (start_facts program.now.places) ≤ keep) }
@@ -87,6 +87,8 @@ fn start_world(alloc: Global, program: &CoreProgram, keep: u32) -> Result<World,
 }
 
 impl<'p> Lasting<'p> {
+    ghost use Rattle.dg_lasting.specs.Resting.{extent_of};
+
     /// What lasts, at the start of a program.
     pub fn new(
         alloc: Global,
@@ -137,6 +139,7 @@ impl<'p> Lasting<'p> {
         ensures others { self.new ≡ record self.old { world = self.new.world; row = self.new.row } }
         ensures row { length self.new.row.items ≡ length self.old.row.items }
         ensures limit { self.new.world.area.keep ≡ self.old.world.area.keep }
+        ensures extent { extent_of self.new ≡ extent_of self.old }
         ensures became { (o : Outline) → (facts : List Fact) → StandsFor self.old.world o facts → IsKind o place kind → o.objects ≡ objects →
             length self.old.row.items ≡ o.keep →
             Became o facts (change_of objects kind place sets (all_in_store (B.meaning store.old) args.now)) self.old.world self.new.world result }
@@ -160,6 +163,7 @@ impl<'p> Lasting<'p> {
         ensures opened { OnOk result (OpensOne self.old self.new) }
         ensures err { OnErr result (self.new ≡ self.old) }
         ensures full { OnErr result (OpensTooMuch self.old) }
+        ensures extent { extent_of self.new ≡ extent_of self.old }
     {
         match self.gathered.open() {
             Ok(_) => Ok(()),
@@ -176,6 +180,7 @@ impl<'p> Lasting<'p> {
         ensures gathered { OnOk result (Gathers (value_at (B.meaning store.old) value) self.old self.new) }
         ensures err { OnErr result (self.new ≡ self.old) }
         ensures full { OnErr result (GathersTooMuch (value_at (B.meaning store.old) value) self.old) }
+        ensures extent { extent_of self.new ≡ extent_of self.old }
     {
         match self.gathered.keep(store, value) {
             Ok(()) => Ok(()),
