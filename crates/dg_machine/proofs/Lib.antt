@@ -47,3 +47,4 @@ pub mod Failing
 pub mod Starts
 pub mod BuiltLemmas
 pub mod Lacking
+pub mod Resting

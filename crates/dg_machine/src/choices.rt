@@ -8,6 +8,7 @@ ghost use Rattle.dg_machine.specs.Built.{IsBuilt};
 ghost use Rattle.dg_machine.specs.Layout.{HasRoom, Holds};
 ghost use Rattle.dg_machine.specs.Standing.{IsThere, GoesOnAt, GoesOn, FailsTo};
 ghost use Rattle.dg_machine.specs.inside.Running.{found_in, found_next};
+ghost use Rattle.dg_lasting.specs.Resting.{extent_of};
 
 use crate::doing::code_at;
 use crate::memory::Memory;
@@ -43,6 +44,7 @@ impl Memory {
         requires there { IsThere code.now self.old way }
         ensures goes_on { GoesOn code.now self.old lasting.old way self.new result lasting.new }
         ensures sites { lasting.new.sites ≡ lasting.old.sites }
+        ensures extent { extent_of lasting.new ≡ extent_of lasting.old }
     {
         match way {
             Way::Calls(call, pred, left) => self.call(code, call, pred, left),
@@ -58,6 +60,7 @@ impl Memory {
         requires some { (code : TheCode) × (l : Limits) × (m : Mid) × Holds code l self.old m }
         ensures fails { (code : TheCode) → FailsTo code self.old lasting.old (found_in result self.new) (found_next result) lasting.new }
         ensures sites { lasting.new.sites ≡ lasting.old.sites }
+        ensures extent { extent_of lasting.new ≡ extent_of lasting.old }
     {
         match self.back() {
             None => None,

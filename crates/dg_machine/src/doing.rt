@@ -22,6 +22,7 @@ ghost use Rattle.dg_machine.specs.Passing.{IsFirst};
 ghost use Rattle.dg_machine.specs.Standing.{DoesOp, DoesMark, CallsRules, EntersWith, Asks, AsksLast, Calculates, EntersBody, IsAsked, QueriesFirst};
 ghost use Rattle.dg_machine.specs.Standing.{comes_to, DoesWith, ThrowsDie, ChangesPlace, LeavesAround};
 ghost use Rattle.dg_machine.specs.Standing.{EntersLastBody, QueriesLast, EntersRule, EntersIn};
+ghost use Rattle.dg_lasting.specs.Resting.{extent_of};
 
 use crate::closures::body_row;
 use crate::memory::Memory;
@@ -236,6 +237,7 @@ impl Memory {
         requires { (u v w : Value) × RefsAt (meaning_of self.old.arena) self.old.args.items (u ∷ v ∷ w ∷ []) }
         ensures thrown { (code : TheCode) → ThrowsDie code self.old lasting.old rest.now self.new result lasting.new }
         ensures sites { lasting.new.sites ≡ lasting.old.sites }
+        ensures extent { extent_of lasting.new ≡ extent_of lasting.old }
     {
         match self.throw_args(lasting) {
             None => Now::Fails,
@@ -261,6 +263,7 @@ impl Memory {
         ensures does { (code : TheCode) → DoesWith tables.now code self.old lasting.old (op.Do (action.Random a.now b.now into.now)) rest.now self.new result
             lasting.new }
         ensures sites { lasting.new.sites ≡ lasting.old.sites }
+        ensures extent { extent_of lasting.new ≡ extent_of lasting.old }
     {
         match self.put_three(tables, a, b, into) {
             Err(_) => Now::Ended(Ending::HeapLimit),
@@ -280,6 +283,7 @@ impl Memory {
         requires { AreRefs (meaning_of self.old.arena) self.old.args.items }
         ensures changes { (code : TheCode) → ChangesPlace tables.now code self.old lasting.old place sets rest.now self.new result lasting.new }
         ensures sites { lasting.new.sites ≡ lasting.old.sites }
+        ensures extent { extent_of lasting.new ≡ extent_of lasting.old }
     {
         let Some(kind) = tables.kind_of(place) else {
             return Now::Fails;
@@ -308,6 +312,7 @@ impl Memory {
         ensures does { (code : TheCode) → DoesWith tables.now code self.old lasting.old (op.Do (action.Now place terms.now sets)) rest.now self.new result
             lasting.new }
         ensures sites { lasting.new.sites ≡ lasting.old.sites }
+        ensures extent { extent_of lasting.new ≡ extent_of lasting.old }
     {
         match self.put_args(tables, terms) {
             Err(_) => Now::Ended(Ending::HeapLimit),

@@ -9,6 +9,7 @@ ghost use Rattle.dg_arena.specs.Held.{meaning_of};
 ghost use Rattle.dg_machine.specs.Refs.{RefsAt};
 ghost use Rattle.dg_machine.specs.Layout.{HasRoom, Holds};
 ghost use Rattle.dg_machine.specs.Standing.{DoesWith, GathersFor, KeepsOne};
+ghost use Rattle.dg_lasting.specs.Resting.{extent_of};
 
 use crate::memory::Memory;
 use crate::now::{Now, Way};
@@ -24,6 +25,7 @@ impl Memory {
         requires args { (v into : Value) × RefsAt (meaning_of self.old.arena) self.old.args.items (v ∷ into ∷ []) }
         ensures gathers { (code : TheCode) → GathersFor code self.old lasting.old alt rest.now self.new result lasting.new }
         ensures sites { lasting.new.sites ≡ lasting.old.sites }
+        ensures extent { extent_of lasting.new ≡ extent_of lasting.old }
     {
         let height = self.arena.heap();
         let value = self.arg(0);
@@ -57,6 +59,7 @@ impl Memory {
         ensures does { (code : TheCode) → DoesWith tables.now code self.old lasting.old (op.Collect term.now into.now alt) rest.now self.new result
             lasting.new }
         ensures sites { lasting.new.sites ≡ lasting.old.sites }
+        ensures extent { extent_of lasting.new ≡ extent_of lasting.old }
     {
         match self.put_both(tables, term, into) {
             Err(_) => Now::Ended(Ending::HeapLimit),
@@ -69,6 +72,7 @@ impl Memory {
         requires some { (code : TheCode) × (l : Limits) × (m : Mid) × Holds code l self.old m }
         ensures keeps { (code : TheCode) → KeepsOne code self.old lasting.old ops.entry self.new result lasting.new }
         ensures sites { lasting.new.sites ≡ lasting.old.sites }
+        ensures extent { extent_of lasting.new ≡ extent_of lasting.old }
     {
         match self.inner_at_hand() {
             None => Now::Fails,

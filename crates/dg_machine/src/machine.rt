@@ -1,15 +1,19 @@
 // The machine: it runs its code from the start.
-ghost use Rattle.std.specs.Prelude.{◌≡◌, ◌≤◌, IfOk, IsErrOf, List, ℕ};
+ghost use Rattle.std.specs.Prelude.{◌≡◌, ◌<◌, ◌≤◌, IfOk, IsErrOf, List, ℕ, length};
 ghost use Rattle.dg_base.specs.Causes.{Rose};
 ghost use Rattle.dg_base.specs.declared.program.CoreProgram.{CoreProgram};
 ghost use Rattle.dg_meaning.specs.Transcript.{line_of};
+ghost use Rattle.dg_base.specs.Streams.{SourceView};
+ghost use Rattle.dg_base.specs.declared.run.Limits.{Limits as TheLimits};
+ghost use Rattle.dg_meaning.specs.Facts.{kinds_of, kept_size, start_facts};
 ghost use Rattle.dg_lasting.specs.Lasting.{StartsLasting};
+ghost use Rattle.dg_lasting.specs.Resting.{extent_of};
 ghost use Rattle.dg_mid.specs.Codes.{Codes};
 ghost use Rattle.dg_mid.specs.Potential.{Tidy};
 ghost use Rattle.dg_machine.specs.Built.{IsBuilt};
 ghost use Rattle.dg_machine.specs.Tables.{IsOf};
 ghost use Rattle.dg_machine.specs.Layout.{Roomy};
-ghost use Rattle.dg_machine.specs.Program.{HasLostText};
+ghost use Rattle.dg_machine.specs.Program.{IsReady, HasLostText};
 ghost use Rattle.dg_meaning.specs.Engines.{game, left_told, HasShown, HasLostInput};
 ghost use Rattle.dg_meaning.specs.inside.Engines.{ForTyped};
 
@@ -19,19 +23,23 @@ use crate::memory::Memory;
 use crate::now::Now;
 use crate::steps::go;
 use crate::tables::Tables;
-use dg_base::{Ending, Fault, Limits, Outcome, Sink, Source};
-use dg_lasting::Lasting;
+use dg_base::{Ending, Fault, Limits, Outcome, Sink, Source, write_all};
+use dg_lasting::{Lasting, Resting};
 use dg_mid::{Code, let_go};
 use dg_spacing::Spacer;
 use std::alloc::{AllocError, Global};
 
-/// Code with the tables of its program, the limits of its runs, and a memory that was taken once.
+/// Code with the tables of its program, the limits of its runs, a memory that was taken once, and what lasts, between runs. Where more
+/// starts kept than may be, nothing lasts.
 #[derive(Drop)]
 pub struct Machine {
     code: Code,
     tables: Tables,
     limits: Limits,
     memory: Memory,
+    resting: Option<Resting>,
+    ghost built: { IsBuilt code },
+    ghost tidy: { Tidy code },
     ghost roomy: { Roomy limits memory },
 }
 
@@ -51,19 +59,39 @@ fn line(ending: Ending) -> &'static [u8]
     }
 }
 
+/// Writes the text of a run that ends before its first goal, since more starts kept than may be.
+fn write_keep<K: Sink>(sink: &mut K) -> Result<Outcome, Fault>
+    ensures shows { (p : CoreProgram) → (dice : List ℕ) → (l : TheLimits) → l.keep < kept_size (kinds_of p) (start_facts p.places) → (i : SourceView) →
+        IfOk result (λ outcome. ForTyped i.left (λ typed. HasShown (game p dice) typed l outcome (left_told i i) (K.view sink.old) (K.view sink.new))) }
+    ensures output { IsErrOf result Fault.Write → (p : CoreProgram) → (dice : List ℕ) → (l : TheLimits) →
+        l.keep < kept_size (kinds_of p) (start_facts p.places) → (i : SourceView) →
+        ForTyped i.left (λ typed. HasLostText (game p dice) typed l i i (K.view sink.old) (K.view sink.new)) }
+    ensures read { IsErrOf result Fault.Read → ⊥ }
+{
+    match write_all(sink, b"[Keep limit]\n") {
+        Ok(()) => Ok(Outcome {
+            ending: Ending::KeepLimit,
+            goals: 0,
+        }),
+        Err(_) => Err(Fault::Write),
+    }
+}
+
 impl Machine {
-    /// A machine for this code, these tables and these limits, which takes all its memory. There is none for code with an instruction that isn't built, or
-    /// with more arguments than a register has room for.
+    /// A machine for this code, these tables and these limits, and with what lasts, which takes all its memory. There is none for code with an
+    /// instruction that isn't built, or with more arguments than a register has room for.
     pub fn new(
         alloc: Global,
         code: Code,
         tables: Tables,
+        resting: Option<Resting>,
         limits: &Limits,
     ) -> Result<Machine, AllocError>
-        ensures built { IfOk result (λ m. IsBuilt m.code) }
+        requires tidy { Tidy code }
         ensures code { IfOk result (λ m. m.code ≡ code) }
         ensures tables { IfOk result (λ m. m.tables ≡ tables) }
         ensures limits { IfOk result (λ m. m.limits ≡ limits.now) }
+        ensures resting { IfOk result (λ m. m.resting ≡ resting) }
     {
         if !is_built(&code) {
             let_go(alloc, code);
@@ -75,6 +103,7 @@ impl Machine {
                 tables,
                 limits: *limits,
                 memory,
+                resting,
             }),
             Err(error) => {
                 let_go(alloc, code);
@@ -88,15 +117,13 @@ impl Machine {
         let_go(alloc, self.code);
     }
 
-    /// Runs the code from its start, with what lasts, as it is at the start, on the typed bytes of a source, and writes the transcript. It takes no memory.
-    pub fn run<S: Source, K: Sink>(
+    /// Runs the code with what lasts, as it is at the start.
+    fn run_with<S: Source, K: Sink>(
         &mut self,
         lasting: &mut Lasting<'_>,
         source: &mut S,
         sink: &mut K,
     ) -> Result<Outcome, Fault>
-        requires built { IsBuilt self.old.code }
-        requires tidy { Tidy self.old.code }
         requires lasting { (p : CoreProgram) × (dice : List ℕ) × IsOf p self.old.tables × StartsLasting p self.old.limits dice lasting.old }
         ensures shows { IfOk result (λ outcome. (p : CoreProgram) → (dice : List ℕ) → Codes p self.old.code → IsOf p self.old.tables →
             StartsLasting p self.old.limits dice lasting.old → ForTyped (S.view source.old).left (λ typed. HasShown (game p dice) typed
@@ -112,6 +139,7 @@ impl Machine {
         ensures code { self.new.code ≡ self.old.code }
         ensures tables { self.new.tables ≡ self.old.tables }
         ensures limits { self.new.limits ≡ self.old.limits }
+        ensures extent { extent_of lasting.new ≡ extent_of lasting.old }
     {
         self.memory.clear();
         let mut spacer = Spacer::new();
@@ -141,5 +169,41 @@ impl Machine {
                 }),
             },
         }
+    }
+
+    /// Runs the code from its start on the typed bytes of a source, with these dice words, and writes the transcript: whatever was run before, and
+    /// however that ended. It takes no memory.
+    pub fn run<S: Source, K: Sink>(
+        &mut self,
+        source: &mut S,
+        dice: &[u16],
+        sink: &mut K,
+    ) -> Result<Outcome, Fault>
+        requires dice { 0 < length dice.now }
+        requires ready { (p : CoreProgram) × IsReady p self.old.limits self.old.code self.old.tables self.old.resting }
+        ensures shows { IfOk result (λ outcome. (p : CoreProgram) → IsReady p self.old.limits self.old.code self.old.tables self.old.resting →
+            ForTyped (S.view source.old).left (λ typed. HasShown (game p dice.now) typed self.old.limits outcome
+            (left_told (S.view source.old) (S.view source.new)) (K.view sink.old) (K.view sink.new))) }
+        ensures input { IsErrOf result Fault.Read → (p : CoreProgram) → IsReady p self.old.limits self.old.code self.old.tables self.old.resting →
+            ForTyped (S.view source.old).left (λ typed. HasLostInput (game p dice.now) typed self.old.limits (S.view source.new).left
+            (K.view sink.old) (K.view sink.new)) }
+        ensures output { IsErrOf result Fault.Write → (p : CoreProgram) → IsReady p self.old.limits self.old.code self.old.tables self.old.resting →
+            ForTyped (S.view source.old).left (λ typed. HasLostText (game p dice.now) typed self.old.limits (S.view source.old) (S.view source.new)
+            (K.view sink.old) (K.view sink.new)) }
+        ensures read { IsErrOf result Fault.Read → Rose (S.view source.old).faults (S.view source.new).faults }
+        ensures later { (S.view source.old).faults ≤ (S.view source.new).faults }
+        ensures ready { (p : CoreProgram) → IsReady p self.old.limits self.old.code self.old.tables self.old.resting →
+            IsReady p self.new.limits self.new.code self.new.tables self.new.resting }
+        ensures code { self.new.code ≡ self.old.code }
+        ensures tables { self.new.tables ≡ self.old.tables }
+        ensures limits { self.new.limits ≡ self.old.limits }
+    {
+        let Some(resting) = self.resting.take() else {
+            return write_keep(sink);
+        };
+        let (mut lasting, start) = resting.begin(dice);
+        let result = self.run_with(&mut lasting, source, sink);
+        self.resting = Some(lasting.rest(start));
+        result
     }
 }

@@ -7,6 +7,7 @@ ghost use Rattle.dg_machine.specs.Built.{AreBranches, IsBuilt};
 ghost use Rattle.dg_machine.specs.declared.memory.Memory.{Memory as TheMemory};
 ghost use Rattle.dg_machine.specs.declared.tables.Tables.{Tables as TheTables};
 ghost use Rattle.dg_machine.specs.Standing.{DoesWith, PicksOnce};
+ghost use Rattle.dg_lasting.specs.Resting.{extent_of};
 
 use crate::doing::code_at;
 use crate::now::Now;
@@ -39,6 +40,7 @@ pub fn select<'p>(
     ensures selected { (r : TheMemory) → (t : TheTables) → (rest : List TheOp) → DoesWith t code.now r lasting.old
         (op.Select site mode blocks.now behind) rest r result lasting.new }
     ensures once { PicksOnce lasting.old lasting.new }
+    ensures extent { extent_of lasting.new ≡ extent_of lasting.old }
 {
     let branch = lasting.pick(site, mode, blocks.len() as u16);
     Now::Runs(code_at(code, block_of(blocks, branch, behind)))

@@ -24,6 +24,7 @@ ghost use Rattle.dg_machine.specs.inside.Reading.{IsEnd, ReadsNone, NoLine};
 ghost use Rattle.dg_machine.specs.inside.Running.{rests, DoesMarks, DoesGoal, LosesGoal, ReadsGoal, BreaksGoal, Settles, Takes, BreaksTurn, Finishes, BreaksRun};
 ghost use Rattle.dg_machine.specs.Measure.{left_of};
 ghost use Rattle.dg_machine.specs.inside.Running.{IsQuick, IsFailing, IsSomewhereWith, IsSomewhereAt, IsSomewhereStill};
+ghost use Rattle.dg_lasting.specs.Resting.{extent_of};
 
 use crate::doing::code_at;
 use crate::memory::Memory;
@@ -92,6 +93,7 @@ fn mark_step<'p>(
     requires on { IsFailing now → ⊥ }
     ensures done { DoesMarks tables.now code.now memory.old lasting.old now.entry memory.new lasting.new result }
     ensures sites { lasting.new.sites ≡ lasting.old.sites }
+    ensures extent { extent_of lasting.new ≡ extent_of lasting.old }
 {
     match now {
         Now::Runs(ops) => match ops {
@@ -127,6 +129,7 @@ fn mark_apart<'p>(
     requires on { IsFailing now → ⊥ }
     ensures done { DoesMarks tables.now code.now memory.old lasting.old now.entry memory.new lasting.new result }
     ensures sites { lasting.new.sites ≡ lasting.old.sites }
+    ensures extent { extent_of lasting.new ≡ extent_of lasting.old }
 {
     let next = mark_step(memory, code, tables, lasting, now);
     next
@@ -150,6 +153,7 @@ fn fail_on<'p>(memory: &mut Memory, code: &'p Code, lasting: &mut Lasting<'_>) -
     ensures comes { (t : TheTables) → (now : Now) → IsFailing now → Settles t code.now memory.old lasting.old now memory.new lasting.new result }
     ensures falls { left_of memory.new result < left_of memory.old Fails }
     ensures sites { lasting.new.sites ≡ lasting.old.sites }
+    ensures extent { extent_of lasting.new ≡ extent_of lasting.old }
 {
     match memory.fail(lasting) {
         None => Now::Ended(Ending::Failed),
@@ -166,6 +170,7 @@ fn fail_apart<'p>(memory: &mut Memory, code: &'p Code, lasting: &mut Lasting<'_>
     ensures comes { (t : TheTables) → (now : Now) → IsFailing now → Settles t code.now memory.old lasting.old now memory.new lasting.new result }
     ensures falls { left_of memory.new result < left_of memory.old Fails }
     ensures sites { lasting.new.sites ≡ lasting.old.sites }
+    ensures extent { extent_of lasting.new ≡ extent_of lasting.old }
 {
     let next = fail_on(memory, code, lasting);
     next
@@ -395,6 +400,7 @@ fn do_action<'p, K: Sink>(
     ensures err { OnErr result ((code : TheCode) → LosesGoal tables.now code memory.old ops.now spacer.old (K.view sink.old) (K.view sink.new)) }
     ensures roomy { OnErr result ((code : TheCode) → (l : Limits) → (m : Mid) → Holds code l memory.old m → Roomy l memory.new) }
     ensures sites { lasting.new.sites ≡ lasting.old.sites }
+    ensures extent { extent_of lasting.new ≡ extent_of lasting.old }
 {
     match action {
         Action::Text(name) => match spacer.event(sink, Event::Piece(name.as_slice())) {
@@ -438,6 +444,7 @@ fn goal_step<'p, K: Sink>(
     ensures err { OnErr result (LosesGoal tables.now code.now memory.old ops.now spacer.old (K.view sink.old) (K.view sink.new)) }
     ensures roomy { OnErr result ((l : Limits) → (m : Mid) → Holds code.now l memory.old m → Roomy l memory.new) }
     ensures once { PicksOnce lasting.old lasting.new }
+    ensures extent { extent_of lasting.new ≡ extent_of lasting.old }
 {
     match ops {
         [] => Ok(Now::Fails),
@@ -495,6 +502,7 @@ fn next_goal<'p, S: Source, K: Sink>(
         (K.view sink.old) (K.view sink.new) (S.view source.old) (S.view source.new)) }
     ensures roomy { OnErr result ((l : Limits) → (m : Mid) → Holds code.now l memory.old m → Roomy l memory.new) }
     ensures once { PicksOnce lasting.old lasting.new }
+    ensures extent { extent_of lasting.new ≡ extent_of lasting.old }
 {
     match ops {
         [] => Ok(Now::Fails),
@@ -575,6 +583,7 @@ fn settle<'p>(
     requires some { IsSomewhereWith tables.now code.now memory.old lasting.old start }
     ensures comes { Settles tables.now code.now memory.old lasting.old start.entry memory.new lasting.new result }
     ensures sites { lasting.new.sites ≡ lasting.old.sites }
+    ensures extent { extent_of lasting.new ≡ extent_of lasting.old }
     ensures rests { rests result ≡ true }
     ensures stays { IsEnd start.entry → IsEnd result }
 {
@@ -609,6 +618,7 @@ fn settle_apart<'p>(
     requires some { IsSomewhereWith tables.now code.now memory.old lasting.old now }
     ensures comes { Settles tables.now code.now memory.old lasting.old now.entry memory.new lasting.new result }
     ensures sites { lasting.new.sites ≡ lasting.old.sites }
+    ensures extent { extent_of lasting.new ≡ extent_of lasting.old }
     ensures rests { rests result ≡ true }
     ensures stays { IsEnd now.entry → IsEnd result }
 {
@@ -639,6 +649,7 @@ fn turn<'p, S: Source, K: Sink>(
         spacer.old (K.view sink.old) (S.view source.old) spacer.new (K.view sink.new) (S.view source.new)) }
     ensures roomy { OnErr result ((l : Limits) → (m : Mid) → Holds code.now l memory.old m → Roomy l memory.new) }
     ensures once { PicksOnce lasting.old lasting.new }
+    ensures extent { extent_of lasting.new ≡ extent_of lasting.old }
     ensures some { IfOk result (λ now. IsSomewhereStill tables.now code.now memory.new lasting.new now (S.view source.new)) }
     ensures rests { IfOk result (λ now. rests now ≡ true) }
 {
@@ -667,6 +678,7 @@ fn quiet_turn<'p>(
         (IsSomewhereAt tables.now code.now memory.old lasting.old (Runs ops.entry) i →
         IsSomewhereStill tables.now code.now memory.new lasting.new result i) }
     ensures sites { lasting.new.sites ≡ lasting.old.sites }
+    ensures extent { extent_of lasting.new ≡ extent_of lasting.old }
     ensures rests { rests result ≡ true }
 {
     match ops {
@@ -711,6 +723,7 @@ fn quiet_goals<'p>(
         (IsSomewhereStill tables.now code.now memory.old lasting.old start.entry i →
         IsSomewhereStill tables.now code.now memory.new lasting.new result.0 i) }
     ensures sites { lasting.new.sites ≡ lasting.old.sites }
+    ensures extent { extent_of lasting.new ≡ extent_of lasting.old }
     ensures rests { rests result.0 ≡ true }
     ensures fewer { result.1 < steps }
 {
@@ -748,6 +761,7 @@ pub fn go<'p, S: Source, K: Sink>(
         end.0 end.1 memory.new spacer.new (K.view sink.new) (S.view source.new)) }
     ensures err { IfErr result (λ fault. BreaksRun fault tables.now code.now memory.old lasting.old start.entry steps spacer.old (K.view sink.old)
         (S.view source.old) memory.new spacer.new (K.view sink.new) (S.view source.new)) }
+    ensures extent { extent_of lasting.new ≡ extent_of lasting.old }
 {
     let first = settle_apart(memory, code, tables, lasting, start);
     let mut now = first;

@@ -10,6 +10,7 @@ ghost use Rattle.dg_machine.specs.Built.{IsBuilt};
 ghost use Rattle.dg_machine.specs.Links.{named};
 ghost use Rattle.dg_machine.specs.Layout.{HasRoom, Holds, Lacks, Opened, parted};
 ghost use Rattle.dg_machine.specs.Standing.{DoesOp, DoesMark, DoesStop};
+ghost use Rattle.dg_lasting.specs.Resting.{extent_of};
 
 use crate::doing::code_at;
 use crate::memory::Memory;
@@ -88,6 +89,7 @@ impl Memory {
         requires built { IsBuilt code.now }
         ensures does { DoesStop code.now self.old lasting.old self.new result lasting.new }
         ensures sites { lasting.new.sites ≡ lasting.old.sites }
+        ensures extent { extent_of lasting.new ≡ extent_of lasting.old }
     {
         match self.stop_at_hand() {
             None => Now::Ended(Ending::Stopped),

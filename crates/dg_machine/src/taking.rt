@@ -16,6 +16,7 @@ ghost use Rattle.dg_machine.specs.Refs.{RefsAt};
 ghost use Rattle.dg_machine.specs.Layout.{Holds, Lacks, Matched, Unmatched};
 ghost use Rattle.dg_machine.specs.Finding.{HasCopied};
 ghost use Rattle.dg_machine.specs.Standing.{TakesNewest, TakesOut};
+ghost use Rattle.dg_lasting.specs.Resting.{extent_of};
 
 use crate::copies::copy_list;
 use crate::memory::Memory;
@@ -63,6 +64,7 @@ impl Memory {
         requires { (v into : Value) × RefsAt (meaning_of self.old.arena) self.old.args.items (v ∷ into ∷ []) }
         ensures takes { (code : TheCode) → (block : ℕ) → TakesNewest code InList block self.old lasting.old rest.now self.new result lasting.new }
         ensures sites { lasting.new.sites ≡ lasting.old.sites }
+        ensures extent { extent_of lasting.new ≡ extent_of lasting.old }
     {
         let Some(cells) = lasting.gathered.newest() else {
             return Now::Fails;
@@ -88,6 +90,7 @@ impl Memory {
         requires { (v into : Value) × RefsAt (meaning_of self.old.arena) self.old.args.items (v ∷ into ∷ []) }
         ensures takes { (code : TheCode) → (block : ℕ) → TakesNewest code Sum block self.old lasting.old rest.now self.new result lasting.new }
         ensures sites { lasting.new.sites ≡ lasting.old.sites }
+        ensures extent { extent_of lasting.new ≡ extent_of lasting.old }
     {
         let Some(cells) = lasting.gathered.newest() else {
             return Now::Fails;
@@ -115,6 +118,7 @@ impl Memory {
         requires { (v into : Value) × RefsAt (meaning_of self.old.arena) self.old.args.items (v ∷ into ∷ []) }
         ensures takes { (code : TheCode) → (block : ℕ) → TakesOut code block self.old lasting.old ops.now self.new result lasting.new }
         ensures sites { lasting.new.sites ≡ lasting.old.sites }
+        ensures extent { extent_of lasting.new ≡ extent_of lasting.old }
     {
         match ops {
             [] => Now::Fails,

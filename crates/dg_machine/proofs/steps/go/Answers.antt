@@ -1,4 +1,4 @@
-use Rattle.std.proofs.Common.{◌≡◌, ◌+◌, ◌-◌, refl, subst, arith}
+use Rattle.std.proofs.Common.{◌≡◌, ◌+◌, ◌-◌, ◌∙◌, refl, subst, arith}
 use Rattle.dg_lasting.specs.Lasting.{MayPick, picks_in}
 use Rattle.dg_lasting.proofs.Picks.{may_fewer}
 use Rattle.dg_machine.specs.declared.now.Now.TheVariants.{Runs}
@@ -19,6 +19,7 @@ goals-init g c =
       takes = takes_none c.args.tables.now c.args.code.now c.args.memory.now c.args.lasting.now c.args.start c.args.spacer.now k i (c.args.steps - c.args.steps) c.settle_apart-first.new.memory c.settle_apart-first.new.lasting c.settle_apart-first.result (λ n. omega arith) c.settle_apart-first.ensures.comes;
       somewhere = λ goes rest h. left_settled c.args.tables.now c.args.code.now c.args.memory.now c.settle_apart-first.new.memory c.args.lasting.now c.settle_apart-first.new.lasting c.args.start c.settle_apart-first.result rest c.settle_apart-first.ensures.comes (c.requires.some rest h);
       may = may_on c.args.steps c.args.lasting.now c.settle_apart-first.new.lasting c.settle_apart-first.ensures.sites c.requires.may;
+      extent = c.settle_apart-first.ensures.extent;
       rests = c.settle_apart-first.ensures.rests;
       within = omega arith;
     }
@@ -45,6 +46,7 @@ goals-preserved-then-begins_quietly g c =
           k k i i c.in-Runs.is (λ x. omega (arith, fewer, within)) c.goals.invariant.takes (subst (λ x. Takes c.args.tables.now c.args.code.now (c.goals.left - rest) c.goals.memory c.goals.lasting x c.goals.spacer k i c.quiet_goals-rest.new.memory c.quiet_goals-rest.new.lasting c.quiet_goals-rest.result.0 c.goals.spacer k i) c.in-Runs.is done.0);
       somewhere = done.1 c.goals.invariant.somewhere;
       may = keeps_sites c.goals.lasting c.quiet_goals-rest.new.lasting c.quiet_goals-rest.ensures.sites rest (may_fewer (rest + 1) c.goals.left (picks_in c.goals.lasting) (omega (arith, fewer)) c.goals.invariant.may);
+      extent = c.quiet_goals-rest.ensures.extent ∙ c.goals.invariant.extent;
       rests = c.quiet_goals-rest.ensures.rests;
       within = omega (arith, within, fewer);
     }
@@ -59,6 +61,7 @@ goals-preserved g c =
           (g.K.Sink.view c.goals.sink) (g.K.Sink.view c.turn.new.sink) (g.S.Source.view c.goals.source) (g.S.Source.view c.turn.new.source) c.in-Runs.is (λ x. omega (arith, some, within)) c.goals.invariant.takes c.in-Ok.ensures.ok;
       somewhere = c.in-Ok.ensures.some;
       may = c.turn.ensures.once (c.goals.left - 1) (subst (λ n. MayPick n (picks_in c.goals.lasting)) (let same : c.goals.left ≡ c.goals.left - 1 + 1 = omega (arith, some) in same) c.goals.invariant.may);
+      extent = c.turn.ensures.extent ∙ c.goals.invariant.extent;
       rests = c.in-Ok.ensures.rests;
       within = omega (arith, within);
     }
@@ -75,6 +78,7 @@ pub returns-in_default-now : goal.returns-in_default-now
 returns-in_default-now g c = record {
   ok = limits c.args.tables.now c.args.code.now c.args.memory.now c.args.lasting.now c.args.start c.args.spacer.now (g.K.Sink.view c.args.sink.now) (g.S.Source.view c.args.source.now) (c.args.steps - c.goals.left) c.goals.memory c.goals.lasting c.goals.now c.goals.spacer (g.K.Sink.view c.goals.sink) (g.S.Source.view c.goals.source) c.goals.invariant.takes c.args.steps c.goals.left c.goals.invariant.rests c.in_default-now.not-Ended (let none = c.goals-test.false in omega (arith, none)) refl c.goals.invariant.within;
   err = tt;
+  extent = c.goals.invariant.extent;
 }
 
 pub returns-in-Err-clause-err : goal.returns-in-Err-clause-err

@@ -18,6 +18,7 @@ goals-init c =
       );
       some = c.requires.some;
       sites = refl;
+      extent = refl;
       rests = c.requires.rests;
       quick = c.requires.quick;
       more = c.requires.more;
@@ -56,6 +57,7 @@ goals-preserved c =
       );
       some = (found.0, found.1, found.2, (c.quiet_turn-now.ensures.takes found.0 found.1 found.2).1 (subst (λ x. IsSomewhereAt tb code c.goals.memory c.goals.lasting x found.2) c.in-Runs.is (found.3 (λ end. subst IsEnd c.in-Runs.is end))));
       sites = c.quiet_turn-now.ensures.sites ∙ c.goals.invariant.sites;
+      extent = c.quiet_turn-now.ensures.extent ∙ c.goals.invariant.extent;
       rests = c.quiet_turn-now.ensures.rests;
       quick = c.if-not-goes_quietly.ensures refl;
       more = omega (arith, some);

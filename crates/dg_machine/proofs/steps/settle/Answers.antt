@@ -16,6 +16,7 @@ marks-init c =
       settles = comes;
       somewhere = somewhere_settled c.args.tables.now c.args.code.now c.args.memory.now c.settle_first-first.new.memory c.args.lasting.now c.args.lasting.now c.args.start c.settle_first-first.result comes c.requires.some;
       sites = refl;
+      extent = refl;
       stays = c.settle_first-first.ensures.stays;
     }
 
@@ -26,6 +27,7 @@ marks-preserved c =
       settles = λ g is_of l typed steps h w. settled_on c.args.code.now g l typed c.requires.built c.args.tables.now is_of c.marks.memory c.mark_apart-now.new.memory c.marks.lasting c.mark_apart-now.new.lasting c.marks.now c.mark_apart-now.result steps e c.mark_apart-now.ensures.done (c.marks.invariant.settles g is_of l typed steps h w);
       somewhere = somewhere_marked c.args.tables.now c.args.code.now c.requires.built c.marks.memory c.mark_apart-now.new.memory c.marks.lasting c.mark_apart-now.new.lasting c.marks.now c.mark_apart-now.result e c.mark_apart-now.ensures.done c.marks.invariant.somewhere;
       sites = c.mark_apart-now.ensures.sites ∙ c.marks.invariant.sites;
+      extent = c.mark_apart-now.ensures.extent ∙ c.marks.invariant.extent;
       stays = λ end. absurd (let x = end_rests c.marks.now (c.marks.invariant.stays end) in cc (e, x));
     }
 
@@ -43,6 +45,7 @@ marks-preserved-then-is_quick c =
       settles = λ g is_of l typed steps h w. settled_on c.args.code.now g l typed c.requires.built c.args.tables.now is_of c.marks.memory c.quick_mark-now.new.memory c.marks.lasting c.marks.lasting c.marks.now c.quick_mark-now.result steps e (c.quick_mark-now.ensures c.marks.lasting) (c.marks.invariant.settles g is_of l typed steps h w);
       somewhere = somewhere_marked c.args.tables.now c.args.code.now c.requires.built c.marks.memory c.quick_mark-now.new.memory c.marks.lasting c.marks.lasting c.marks.now c.quick_mark-now.result e (c.quick_mark-now.ensures c.marks.lasting) c.marks.invariant.somewhere;
       sites = c.marks.invariant.sites;
+      extent = c.marks.invariant.extent;
       stays = λ end. absurd (let x = end_rests c.marks.now (c.marks.invariant.stays end) in cc (e, x));
     }
 
@@ -66,6 +69,7 @@ marks-preserved-then-fails c =
       settles = settled_then tb code c.args.memory.now c.marks.memory c.fail_apart-now.new.memory c.args.lasting.now c.marks.lasting c.fail_apart-now.new.lasting c.args.start c.marks.now c.fail_apart-now.result c.marks.invariant.settles comes;
       somewhere = somewhere_settled tb code c.marks.memory c.fail_apart-now.new.memory c.marks.lasting c.fail_apart-now.new.lasting c.marks.now c.fail_apart-now.result comes c.marks.invariant.somewhere;
       sites = c.fail_apart-now.ensures.sites ∙ c.marks.invariant.sites;
+      extent = c.fail_apart-now.ensures.extent ∙ c.marks.invariant.extent;
       stays = λ end. absurd (let x = end_rests c.marks.now (c.marks.invariant.stays end) in cc (e, x));
     }
 

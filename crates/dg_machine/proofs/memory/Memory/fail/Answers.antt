@@ -2,6 +2,7 @@ use Rattle.std.proofs.Common.{ap}
 use Rattle.dg_lasting.specs.declared.lasting.Lasting.{Lasting}
 use Rattle.dg_machine.proofs.Leaving.{failed_all, failed_to}
 use Rattle.dg_machine.proofs.Lasting.{closed_back, ended_back}
+use Rattle.dg_lasting.specs.Resting.{extent_of}
 use Rattle.dg_machine.proofs.memory.Memory.fail.Goals as goal
 
 pub returns-in-None-clause-fails : goal.returns-in-None-clause-fails
@@ -23,3 +24,6 @@ returns-in-Some-clause-fails c code g l m h w =
 
 pub returns-in-Some-clause-sites : goal.returns-in-Some-clause-sites
 returns-in-Some-clause-sites c = ap (λ (o : Lasting). o.sites) c.close_to.ensures.is
+
+pub returns-in-Some-clause-extent : goal.returns-in-Some-clause-extent
+returns-in-Some-clause-extent c = ap extent_of c.close_to.ensures.is

@@ -7,6 +7,7 @@ use Rattle.dg_machine.specs.declared.memory.Memory.{Memory}
 use Rattle.dg_machine.specs.Standing.{StandsWith}
 use Rattle.dg_machine.proofs.Opens.{roomy}
 use Rattle.dg_machine.proofs.Parts.{none_is_open, may_stop, cut_roomy, stops_to, stops_else}
+use Rattle.dg_lasting.specs.Resting.{extent_of}
 use Rattle.dg_machine.proofs.memory.Memory.stop.Goals as goal
 
 pub restore-requires : goal.restore-requires
@@ -47,3 +48,9 @@ returns-in-Goes-clause-sites c = ap (λ (o : Lasting). o.sites) c.close_to.ensur
 
 pub returns-in_default-clause-sites : goal.returns-in_default-clause-sites
 returns-in_default-clause-sites c = ap (λ (o : Lasting). o.sites) c.close_to.ensures.is
+
+pub returns-in-Goes-clause-extent : goal.returns-in-Goes-clause-extent
+returns-in-Goes-clause-extent c = ap extent_of c.close_to.ensures.is
+
+pub returns-in_default-clause-extent : goal.returns-in_default-clause-extent
+returns-in_default-clause-extent c = ap extent_of c.close_to.ensures.is

@@ -11,6 +11,7 @@ use Rattle.dg_machine.specs.Measure.{choices_left}
 use Rattle.dg_machine.proofs.Unifying.{agreed_stands, clash_stands, unmatched_stands}
 use Rattle.dg_machine.proofs.Takings.{takes_none}
 use Rattle.dg_machine.proofs.Listings.{newest, rest_m, list_none, list_held, list_some}
+use Rattle.dg_lasting.specs.Resting.{extent_of}
 use Rattle.dg_machine.proofs.memory.Memory.take_list.Goals as goal
 
 pub returns-in_default-clause-takes : goal.returns-in_default-clause-takes
@@ -87,3 +88,12 @@ returns-in-Ok-true-clause-takes c code block g l m v into at h refs w =
     let same = ap (λ xs. choices_left xs.items) (c.in-Ok-true.ensures.choices ∙ c.in-Ok.ensures.choices) in
     list_some code g l m r out cells c.in-Some.ensures h w c.close_to.new.self height count c.close_to.ensures block into (record c.make_list.new.self { gathered = height }) new (Runs c.args.rest) held tt same
     (agreed_stands code g l (unify m1.state.subst into copy) m1 new c.args.rest c.in-Ok-true.field-0 c.in-Ok-true.field-0-test at found)
+
+pub returns-in-Err-meet-clause-extent : goal.returns-in-Err-meet-clause-extent
+returns-in-Err-meet-clause-extent c = ap extent_of c.close_to.ensures.is
+
+pub returns-in-Ok-false-clause-extent : goal.returns-in-Ok-false-clause-extent
+returns-in-Ok-false-clause-extent c = ap extent_of c.close_to.ensures.is
+
+pub returns-in-Ok-true-clause-extent : goal.returns-in-Ok-true-clause-extent
+returns-in-Ok-true-clause-extent c = ap extent_of c.close_to.ensures.is

@@ -7,6 +7,7 @@ use Rattle.dg_machine.specs.declared.now.Now.TheVariants.{Runs, Fails, Ended}
 use Rattle.dg_machine.specs.Measure.{choices_left}
 use Rattle.dg_machine.proofs.Unifying.{agreed_stands, clash_stands, unmatched_stands}
 use Rattle.dg_machine.proofs.Takings.{takes_none, left_m, made_held, total_is, sum_none, sum_some}
+use Rattle.dg_lasting.specs.Resting.{extent_of}
 use Rattle.dg_machine.proofs.memory.Memory.take_sum.Goals as goal
 
 pub returns-in_default-clause-takes : goal.returns-in_default-clause-takes
@@ -66,3 +67,15 @@ returns-in-Ok-true-clause-takes c code block g l m v into at h refs w =
     let new = c.meet.new.self in
     sum_some code g l m c.args.self.now c.args.lasting.now c.close_to.new.self cells height c.in-Some.ensures count c.close_to.ensures h w block into n new (Runs c.args.rest) total tt (ap (λ xs. choices_left xs.items) c.in-Ok-true.ensures.choices)
     (agreed_stands code g l u m1 new c.args.rest c.in-Ok-true.field-0 c.in-Ok-true.field-0-test at (c.in-Ok-true.ensures.met code l m1 into (leaf (Num n)) held left made.value))
+
+pub returns-in-None-clause-extent : goal.returns-in-None-clause-extent
+returns-in-None-clause-extent c = ap extent_of c.close_to.ensures.is
+
+pub returns-in-Err-clause-extent : goal.returns-in-Err-clause-extent
+returns-in-Err-clause-extent c = ap extent_of c.close_to.ensures.is
+
+pub returns-in-Ok-false-clause-extent : goal.returns-in-Ok-false-clause-extent
+returns-in-Ok-false-clause-extent c = ap extent_of c.close_to.ensures.is
+
+pub returns-in-Ok-true-clause-extent : goal.returns-in-Ok-true-clause-extent
+returns-in-Ok-true-clause-extent c = ap extent_of c.close_to.ensures.is

@@ -1,4 +1,4 @@
-use Rattle.std.proofs.Common.{◌+◌, [], refl, sym, subst}
+use Rattle.std.proofs.Common.{◌+◌, [], refl, sym, subst, ap}
 use Rattle.dg_meaning.specs.Values.{Num, leaf}
 use Rattle.dg_meaning.specs.inside.Unify.{unify}
 use Rattle.dg_meaning.specs.Numbers.{thrown, of_numbers}
@@ -13,6 +13,7 @@ use Rattle.dg_machine.specs.declared.now.Now.TheVariants.{Runs, Fails, Ended}
 use Rattle.dg_machine.specs.Standing.{StandsWith}
 use Rattle.dg_machine.proofs.Unifying.{agreed_stands, clash_stands, unmatched_stands}
 use Rattle.dg_machine.proofs.Throws.{threw_none, threw_some, with_drawn, drawn_world, threw_stands}
+use Rattle.dg_lasting.specs.Resting.{extent_of}
 use Rattle.dg_machine.proofs.memory.Memory.throw.Goals as goal
 
 pub returns-in-None-clause-thrown : goal.returns-in-None-clause-thrown
@@ -65,3 +66,15 @@ returns-in-Ok-true-clause-thrown c code g l m u v w at h refs in_world =
     subst (λ x. StandsWith code g l new (Runs c.args.rest) out (done (setting g code l) (throws x w (registers_of m) world) m)) (sym some.is)
     (threw_stands code g l m w k n world refl new (Runs c.args.rest) out (drawn_world c.args.lasting.now out g l m n c.in-Some.ensures.others in_world some.drawn)
     (agreed_stands code g l (unify m.state.subst w (leaf (Num k))) m1 new c.args.rest c.in-Ok-true.field-0 c.in-Ok-true.field-0-test at (c.in-Ok-true.ensures code l m1 u v w h refs)))
+
+pub returns-in-None-clause-extent : goal.returns-in-None-clause-extent
+returns-in-None-clause-extent c = ap extent_of c.throw_args.ensures.others
+
+pub returns-in-Err-clause-extent : goal.returns-in-Err-clause-extent
+returns-in-Err-clause-extent c = ap extent_of c.throw_args.ensures.others
+
+pub returns-in-Ok-false-clause-extent : goal.returns-in-Ok-false-clause-extent
+returns-in-Ok-false-clause-extent c = ap extent_of c.throw_args.ensures.others
+
+pub returns-in-Ok-true-clause-extent : goal.returns-in-Ok-true-clause-extent
+returns-in-Ok-true-clause-extent c = ap extent_of c.throw_args.ensures.others
