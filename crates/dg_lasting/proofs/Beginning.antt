@@ -1,6 +1,6 @@
 -- What lasts begins again.
-use Rattle.std.proofs.Common.{◌≡◌, ℕ, zero, suc, ◌-◌, ◌≤◌, List, [], ◌∷◌, refl, sym, ap, ◌∙◌, subst, arith, length, map, drop, replicate}
-use Rattle.std.proofs.lemmas.List.{length-map, length-replicate, drop_all}
+use Rattle.std.proofs.Common.{◌≡◌, ℕ, zero, suc, ◌-◌, ◌≤◌, List, [], ◌∷◌, ◌++◌, refl, sym, ap, ◌∙◌, subst, arith, length, map, take, drop, replicate}
+use Rattle.std.proofs.lemmas.List.{length-map, length-replicate, append-nil, take_all, drop_all}
 use Rattle.std.specs.declared.vec.Vec.{Vec}
 use Rattle.std.specs.declared.alloc.Global.{Global}
 use Rattle.dg_base.specs.declared.cells.Cell.{Cell}
@@ -26,12 +26,18 @@ use Rattle.dg_lasting.specs.declared.resting.Resting.{Resting}
 use Rattle.dg_lasting.proofs.Starting.{starts_lasting}
 
 -- nothing was picked at sites that were all set to one
-pub none_picked : (s : Site) (sites : List Site) → picks_of s ≡ no_picks → map picks_of (map (λ (x : Site). s) sites) ≡ replicate (length sites) no_picks
+none_picked : (s : Site) (sites : List Site) → picks_of s ≡ no_picks → map picks_of (map (λ (x : Site). s) sites) ≡ replicate (length sites) no_picks
 none_picked s [] none = refl
 none_picked s (x ∷ sites) none = ap (λ p. p ∷ map picks_of (map (λ (y : Site). s) sites)) none ∙ ap (λ l. no_picks ∷ l) (none_picked s sites none)
 
+-- a walk that sets each site to one has set them all
+pub all_picked_none : (s : Site) (xs ys : List Site) (i : ℕ) → picks_of s ≡ no_picks → length xs ≤ i → ys ≡ map (λ (x : Site). s) (take i xs) ++ drop i xs → map picks_of ys ≡ replicate (length xs) no_picks
+all_picked_none s xs ys i none done is =
+    let front = map (λ (x : Site). s) (take i xs) in
+    ap (map picks_of) (is ∙ ap (λ l. front ++ l) (drop_all i xs done) ∙ append-nil front ∙ ap (map (λ (x : Site). s)) (take_all i xs done)) ∙ none_picked s xs none
+
 -- a game of a program, and one typed line
-game_of : CoreProgram → List ℕ → Game
+abbrev game_of : CoreProgram → List ℕ → Game
 game_of p dice = record { program = p; dice = dice }
 
 module _ (p : CoreProgram) (l : Limits) (dice : List ℕ) (out : Lasting) (x : StartsLasting p l dice out) where

@@ -86,7 +86,7 @@ impl Lasting<'_> {
     /// What is left behind a run that started with this world.
     pub fn rest(self, start: World) -> Resting
         ensures start { result.start ≡ start }
-        ensures extent { extent_resting result ≡ extent_of self }
+        ensures extent { extent_resting result ≡ extent_of self.entry }
     {
         let Lasting {
             world,

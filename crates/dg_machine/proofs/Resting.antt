@@ -14,6 +14,8 @@ use Rattle.dg_mid.specs.declared.code.Code.{Code}
 use Rattle.dg_machine.specs.Program.{Rests, IsReady}
 use Rattle.dg_machine.specs.Tables.{IsOf}
 use Rattle.dg_machine.specs.declared.tables.Tables.{Tables}
+use Rattle.dg_machine.specs.declared.machine.Machine.{Machine}
+use Rattle.std.specs.declared.alloc.AllocError.{AllocError}
 
 -- where something lasts, it rests for the program
 pub something : (p : CoreProgram) (l : Limits) (o : Option Resting) (r : Resting) → Some r ≡ o → Rests p l o → RestsFor p l r
@@ -35,7 +37,22 @@ ready_again p l l' code code' t t' o old new limits coded tabled is start large 
   rests = subst (λ (x : Limits). RestsFor p x new) (sym limits) (rests_again p l old new (something p l o old is h.rests) start large);
 }
 
+-- a new machine is ready where what it is made of is
+pub ready_new : (p : CoreProgram) (l : Limits) (code : Code) (t : Tables) (o : Option Resting) (result : Result Machine AllocError) → IfOk result (λ (m : Machine). m.code ≡ code) → IfOk result (λ (m : Machine). m.tables ≡ t) → IfOk result (λ (m : Machine). m.limits ≡ l) → IfOk result (λ (m : Machine). m.resting ≡ o) → IsReady p l code t o →
+    IfOk result (λ (m : Machine). IsReady p m.limits m.code m.tables m.resting)
+ready_new p l code t o (Ok m) coded tabled limits rested h =
+    let rests = subst (IsReady p l code t) (sym rested) h in
+    let tables = subst (λ (x : Tables). IsReady p l code x m.resting) (sym tabled) rests in
+    let codes = subst (λ (x : Code). IsReady p l x m.tables m.resting) (sym coded) tables in
+    subst (λ (x : Limits). IsReady p x m.code m.tables m.resting) (sym limits) codes
+ready_new p l code t o (Err e) coded tabled limits rested h = tt
+
 -- an answer means what follows from it
-pub if_answered : (result : Result Outcome Fault) (P Q : Outcome → Type 0) → ((outcome : Outcome) → P outcome → Q outcome) → IfOk result P → IfOk result Q
-if_answered (Ok outcome) P Q f h = f outcome h
-if_answered (Err fault) P Q f h = tt
+pub if_answered : (result : Result Outcome Fault) (P Q : Outcome → Type 0) → IfOk result P → ((outcome : Outcome) → P outcome → Q outcome) → IfOk result Q
+if_answered (Ok outcome) P Q h f = f outcome h
+if_answered (Err fault) P Q h f = tt
+
+-- what an answer means for each program it means for all
+pub for_each_program : (result : Result Outcome Fault) (A : CoreProgram → Type 0) (X : CoreProgram → Outcome → Type 0) → ((p : CoreProgram) → A p → IfOk result (X p)) → IfOk result (λ outcome. (p : CoreProgram) → A p → X p outcome)
+for_each_program (Ok outcome) A X h = h
+for_each_program (Err fault) A X h = tt

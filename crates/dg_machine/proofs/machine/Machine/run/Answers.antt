@@ -1,5 +1,6 @@
-use Rattle.std.proofs.Common.{◌∙◌, sym}
-use Rattle.dg_machine.proofs.Resting.{something, nothing, ready_again, if_answered}
+use Rattle.std.proofs.Common.{◌∙◌, sym, subst}
+use Rattle.dg_machine.specs.Program.{IsReady}
+use Rattle.dg_machine.proofs.Resting.{something, nothing, ready_again, if_answered, for_each_program}
 use Rattle.dg_machine.proofs.machine.Machine.run.Goals as goal
 
 pub begin-requires-clause-may : goal.begin-requires-clause-may
@@ -8,8 +9,8 @@ begin-requires-clause-may g c =
     let l = c.args.self.now.limits in
     (some.0, l, something some.0 l _ c.in-Some.resting c.in-Some.ensures.value some.1.rests)
 
-pub run_with-result-requires : goal.run_with-result-requires
-run_with-result-requires g c =
+pub run_with-result-requires-clause-lasting : goal.run_with-result-requires-clause-lasting
+run_with-result-requires-clause-lasting g c =
     let some = c.requires.ready in
     let l = c.args.self.now.limits in
     (some.0, c.args.dice.now, some.1.tabled, c.begin.ensures.starts some.0 l (something some.0 l _ c.in-Some.resting c.in-Some.ensures.value some.1.rests))
@@ -17,7 +18,8 @@ run_with-result-requires g c =
 pub returns-clause-shows : goal.returns-clause-shows
 returns-clause-shows g c =
     let l = c.args.self.now.limits in
-    if_answered c.run_with-result.result _ _ (λ outcome shown p ready. shown p c.args.dice.now ready.codes ready.tabled (c.begin.ensures.starts p l (something p l _ c.in-Some.resting c.in-Some.ensures.value ready.rests))) c.run_with-result.ensures.shows
+    if_answered c.run_with-result.result _ _ c.run_with-result.ensures.shows
+    (λ outcome shown p ready. shown p c.args.dice.now ready.codes ready.tabled (c.begin.ensures.starts p l (something p l _ c.in-Some.resting c.in-Some.ensures.value ready.rests)))
 
 pub returns-clause-input : goal.returns-clause-input
 returns-clause-input g c is p ready =
@@ -36,4 +38,11 @@ returns-clause-ready g c p ready =
 
 pub returns-in_default-clause-shows : goal.returns-in_default-clause-shows
 returns-in_default-clause-shows g c =
-    if_answered c.write_keep.result _ _ (λ outcome shown p ready. shown p) (λ p ready. c.write_keep.ensures.shows p c.args.dice.now c.args.self.now.limits (nothing p c.args.self.now.limits _ (sym c.in_default.is) ready.rests) (g.S.Source.view c.args.source.now))
+    for_each_program c.write_keep.result _ _ (λ p ready. c.write_keep.ensures.shows p c.args.dice.now c.args.self.now.limits (nothing p c.args.self.now.limits _ ? ready.rests) (g.S.Source.view c.args.source.now))
+
+pub returns-in_default-clause-output : goal.returns-in_default-clause-output
+returns-in_default-clause-output g c is p ready =
+    c.write_keep.ensures.output is p c.args.dice.now c.args.self.now.limits (nothing p c.args.self.now.limits _ ? ready.rests) (g.S.Source.view c.args.source.now)
+
+pub returns-in_default-clause-ready : goal.returns-in_default-clause-ready
+returns-in_default-clause-ready g c p ready = ?

@@ -16,17 +16,17 @@ go-requires-clause-tidy g c = c.args.self.now.tidy
 pub go-requires-clause-some : goal.go-requires-clause-some
 go-requires-clause-some g c =
     let m = c.args.self.now in
-    let some = c.requires in
+    let some = c.requires.lasting in
     somewhere_first m.tables m.code some.0 some.1 m.limits c.clear.new.self c.args.lasting.now c.code_at.result (g.S.Source.view c.args.source.now) some.2 c.args.self.now.built c.code_at.ensures (c.clear.ensures.held m.code m.limits m.roomy) c.clear.ensures.none some.3
 
 pub go-requires-clause-may : goal.go-requires-clause-may
-go-requires-clause-may g c = c.requires.3.may c.args.self.now.limits.steps (omega arith)
+go-requires-clause-may g c = c.requires.lasting.3.may c.args.self.now.limits.steps (omega arith)
 
 pub invariant_of-self : goal.invariant_of-self
 invariant_of-self g c =
     let m = c.args.self.now in
     let k = g.K.Sink.view c.args.sink.now in
-    let some = c.requires in
+    let some = c.requires.lasting in
     record {
       built = m.built;
       tidy = m.tidy;
