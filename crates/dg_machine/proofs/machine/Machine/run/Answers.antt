@@ -1,5 +1,5 @@
 use Rattle.std.proofs.Common.{◌∙◌, sym, subst}
-use Rattle.dg_machine.specs.Program.{IsReady}
+use Rattle.dg_machine.specs.Program.{Rests}
 use Rattle.dg_machine.proofs.Resting.{something, nothing, ready_again, if_answered, for_each_program}
 use Rattle.dg_machine.proofs.machine.Machine.run.Goals as goal
 
@@ -38,11 +38,15 @@ returns-clause-ready g c p ready =
 
 pub returns-in_default-clause-shows : goal.returns-in_default-clause-shows
 returns-in_default-clause-shows g c =
-    for_each_program c.write_keep.result _ _ (λ p ready. c.write_keep.ensures.shows p c.args.dice.now c.args.self.now.limits (nothing p c.args.self.now.limits _ ? ready.rests) (g.S.Source.view c.args.source.now))
+    for_each_program c.write_keep.result _ _ (λ p ready. c.write_keep.ensures.shows p c.args.dice.now c.args.self.now.limits (nothing p c.args.self.now.limits _ c.in_default.ensures.value ready.rests) (g.S.Source.view c.args.source.now))
 
 pub returns-in_default-clause-output : goal.returns-in_default-clause-output
 returns-in_default-clause-output g c is p ready =
-    c.write_keep.ensures.output is p c.args.dice.now c.args.self.now.limits (nothing p c.args.self.now.limits _ ? ready.rests) (g.S.Source.view c.args.source.now)
+    c.write_keep.ensures.output is p c.args.dice.now c.args.self.now.limits (nothing p c.args.self.now.limits _ c.in_default.ensures.value ready.rests) (g.S.Source.view c.args.source.now)
 
 pub returns-in_default-clause-ready : goal.returns-in_default-clause-ready
-returns-in_default-clause-ready g c p ready = ?
+returns-in_default-clause-ready g c p ready = record {
+  codes = ready.codes;
+  tabled = ready.tabled;
+  rests = subst (Rests p c.args.self.now.limits) (sym (c.in_default.ensures.after ∙ c.in_default.ensures.value)) ready.rests;
+}
