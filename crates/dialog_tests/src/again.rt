@@ -53,12 +53,11 @@ fn writes(
     text: &str,
 ) -> Result<(), Fail>
     requires { (p : TheProgram) × IsReady p machine.old.limits machine.old.code machine.old.tables machine.old.resting }
-    ensures { (p : TheProgram) → IsReady p machine.old.limits machine.old.code machine.old.tables machine.old.resting →
-        IsReady p machine.new.limits machine.new.code machine.new.tables machine.new.resting }
+    ensures { (p : TheProgram) × IsReady p machine.new.limits machine.new.code machine.new.tables machine.new.resting }
 {
     let mut input = SureSource::new(Vec::new(alloc));
     let mut out = SureSink::new(alloc, room)?;
-    let _answer = machine.run(&mut input, &[4, 1], &mut out);
+    let _ = machine.run(&mut input, &[4, 1], &mut out);
     same(rt, &out.taken(), &text.as_bytes(), text);
     Ok(())
 }
