@@ -30,7 +30,7 @@ use Rattle.dg_rt.proofs.Standing.{newline_at}
 
 -- ## Letters
 
-abbrev say : ℕ → Act
+abbrev pub say : ℕ → Act
 say code = acts.Print prints.Code (atoms.Num code)
 
 -- printed letters of ASCII
@@ -38,16 +38,16 @@ abbrev are_letters : List ℕ → Bool
 are_letters [] = true
 are_letters (c ∷ cs) = (nat_lt 31 c && nat_lt c 127) && are_letters cs
 
-itself : (c : ℕ) → c < 128 → encode c ≡ c ∷ []
+pub itself : (c : ℕ) → c < 128 → encode c ≡ c ∷ []
 unfolding encode
 itself c lt = rw (lt-ltb c 128 lt) refl
 
-letter_printed : (memory : List ℕ) (c : ℕ) → 31 < c → c < 127 → print_output memory prints.Code c ≡ some_list (c ∷ [])
+pub letter_printed : (memory : List ℕ) (c : ℕ) → 31 < c → c < 127 → print_output memory prints.Code c ≡ some_list (c ∷ [])
 unfolding print_output code_utf8
 letter_printed memory c low high =
     rw (ne_eqb c 0 (λ (e : c ≡ 0). (omega arith)), ne_eqb c 13 (λ (e : c ≡ 13). (omega arith)), lt-ltb 31 c low, lt-ltb c 127 high) (ap some_list (itself c (omega arith)))
 
-newline_printed : (memory : List ℕ) → print_output memory prints.Code 13 ≡ some_list (10 ∷ [])
+pub newline_printed : (memory : List ℕ) → print_output memory prints.Code 13 ≡ some_list (10 ∷ [])
 unfolding print_output code_utf8 encode
 newline_printed memory = refl
 

@@ -1,5 +1,5 @@
 -- That the routines of the run-time can be assembled: a test that is right about each list of acts answers so.
-use Rattle.std.proofs.Common.{◌≡◌, ℕ, ◌≤◌, inl, inr, Bool, true, false, List, [], ◌∷◌, Option, Some, None, refl, arith}
+use Rattle.std.proofs.Common.{◌≡◌, ℕ, ◌+◌, ◌≤◌, length, inl, inr, Bool, true, false, List, [], ◌∷◌, Option, Some, None, refl, arith}
 use Rattle.std.specs.Prelude.{eqb, nat_lt, ◌&&◌, ◌||◌, not}
 use Rattle.std.proofs.lemmas.Bool.{ltb-true, eqb-true, and_parts, or_cases, eq-eqb}
 use Rattle.z_code.specs.declared.target.LOp.{LOp}
@@ -50,11 +50,14 @@ no_label l ops e h = let yes = found l ops h in cc (yes, e)
 
 -- ## Acts
 
--- an atom fits where there are 29 routines and a table
+abbrev many : ℕ
+many = 1 + length runtime
+
+-- an atom fits where there are the routines of the run-time, one to begin with, and a table
 abbrev fits_atom : Atom → Bool
 fits_atom (atoms.Num n) = nat_lt n 65536
 fits_atom (atoms.Var v) = nat_lt v 256
-fits_atom (atoms.Routine r) = nat_lt r 29
+fits_atom (atoms.Routine r) = nat_lt r many
 fits_atom (atoms.Table t) = nat_lt t 1
 fits_atom (atoms.Text t) = false
 
@@ -97,11 +100,11 @@ abbrev all_fit : List Routine → Bool
 all_fit [] = true
 all_fit (r ∷ rs) = (nat_lt r.locals 16 && (nat_lt (body_bytes r.body) 8000 && are_fit (ops_of_acts r.body) r.body)) && all_fit rs
 
-module _ (counts : Counts) (routines : 29 ≤ counts.routines) (tables : 1 ≤ counts.tables) where
+module _ (counts : Counts) (routines : many ≤ counts.routines) (tables : 1 ≤ counts.tables) where
   atom_fits : (a : Atom) → fits_atom a ≡ true → FitsAtom counts a
   atom_fits (atoms.Num n) e = ltb-true n 65536 e
   atom_fits (atoms.Var v) e = ltb-true v 256 e
-  atom_fits (atoms.Routine r) e = let lt = ltb-true r 29 e in omega arith
+  atom_fits (atoms.Routine r) e = let lt = ltb-true r many e in omega arith
   atom_fits (atoms.Table t) e = let lt = ltb-true t 1 e in omega arith
   atom_fits (atoms.Text t) e = absurd (cc e)
 

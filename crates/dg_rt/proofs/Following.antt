@@ -86,6 +86,10 @@ pub local_2 : (p : Program) (m : List ℕ) (x y : ℕ) (xs t : List ℕ) (d : �
 unfolding variable
 local_2 p m x y xs t d o = refl
 
+pub local_3 : (p : Program) (m : List ℕ) (x y z : ℕ) (xs t : List ℕ) (d : ℕ) (o : List ℕ) → value p (state m (x ∷ y ∷ z ∷ xs) t d o) (atoms.Var 3) ≡ word z
+unfolding variable
+local_3 p m x y z xs t d o = refl
+
 pub put_1 : (p : Program) (m : List ℕ) (x z : ℕ) (xs t : List ℕ) (d : ℕ) (o : List ℕ) → put p 1 z (state m (x ∷ xs) t d o) ≡ some_state (state m (z ∷ xs) t d o)
 unfolding put with_local
 put_1 p m x z xs t d o = rw (lt-ltb 0 (length (x ∷ xs)) (omega arith)) refl
@@ -93,6 +97,10 @@ put_1 p m x z xs t d o = rw (lt-ltb 0 (length (x ∷ xs)) (omega arith)) refl
 pub put_2 : (p : Program) (m : List ℕ) (x y z : ℕ) (xs t : List ℕ) (d : ℕ) (o : List ℕ) → put p 2 z (state m (x ∷ y ∷ xs) t d o) ≡ some_state (state m (x ∷ z ∷ xs) t d o)
 unfolding put with_local
 put_2 p m x y z xs t d o = rw (lt-ltb 1 (length (x ∷ y ∷ xs)) (omega arith)) refl
+
+pub put_3 : (p : Program) (m : List ℕ) (x y u z : ℕ) (xs t : List ℕ) (d : ℕ) (o : List ℕ) → put p 3 z (state m (x ∷ y ∷ u ∷ xs) t d o) ≡ some_state (state m (x ∷ y ∷ z ∷ xs) t d o)
+unfolding put with_local
+put_3 p m x y u z xs t d o = rw (lt-ltb 2 (length (x ∷ y ∷ u ∷ xs)) (omega arith)) refl
 
 pub trail_register : (p : Program) (s : State) (cells : ℕ → ℕ) → Holds p.world.layout s.memory cells → 600 ≤ p.world.layout.base → value p s (atoms.Var 17) ≡ word (cells 1)
 trail_register p s cells h le = register p s cells 17 h (omega arith) (omega arith) le

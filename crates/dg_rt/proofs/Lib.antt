@@ -49,3 +49,10 @@ pub mod Filling
 pub mod Bodies
 pub mod InnerOpening
 pub mod Stopping
+pub mod AtTop
+pub mod FullSteps
+pub mod FullBound
+pub mod Tables
+pub mod Flags
+pub mod Separating
+pub mod First

@@ -1,5 +1,5 @@
 -- What the tests say of words, how locals are read and written, and how the heap is.
-use Rattle.std.proofs.Common.{◌≡◌, ℕ, ◌+◌, ◌-◌, ◌%◌, ◌<◌, ◌≤◌, true, false, List, [], ◌∷◌, Some, refl, ap, ◌∙◌, arith}
+use Rattle.std.proofs.Common.{◌≡◌, ℕ, ◌+◌, ◌-◌, ◌%◌, ◌<◌, ◌≤◌, true, false, List, [], ◌∷◌, Some, refl, sym, ap, ◌∙◌, subst, arith}
 use Rattle.std.specs.Prelude.{pos, nat_lt}
 use lib.IntN.{negsuc}
 use Rattle.std.proofs.lemmas.Int.{ints}
@@ -45,6 +45,14 @@ reference_is_negative k lt = rw (negative k (omega arith)) refl
 
 pub high_is_negative : (k : ℕ) → k < 32768 → compared comparisons.Less (32768 + k) 0 ≡ true
 high_is_negative k lt = rw (negative k lt) refl
+
+-- A word that is a reference or a box is less than every other one.
+pub high_is_less : (x y : ℕ) → 32768 ≤ x → x < 65536 → y < 32768 → compared comparisons.Less x y ≡ true
+high_is_less x y le lt small =
+    let k = x - 32768 in
+    let is : x ≡ 32768 + k = omega arith in
+    let less : compared comparisons.Less (32768 + k) y ≡ true = rw (negative k (omega arith), lt-ltb y 32768 small) refl in
+    subst (λ (z : ℕ). compared comparisons.Less z y ≡ true) (sym is) less
 
 pub older : (j k : ℕ) → j < k → k < 16384 → compared comparisons.Less (32768 + j) (32768 + k) ≡ true
 older j k lt small = rw (negative j (omega arith), negative k (omega arith)) (lt-ltb (32767 - k) (32767 - j) (omega arith))

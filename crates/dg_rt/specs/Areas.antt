@@ -77,6 +77,19 @@ last_reg = 28
 abbrev pub gather_reg : ℕ
 gather_reg = 29
 
+-- Of the gap before the next piece: what breaks the text, how many spaces there are, whether a space is asked for, and whether a capital is.
+abbrev pub lines_reg : ℕ
+lines_reg = 30
+
+abbrev pub spaces_reg : ℕ
+spaces_reg = 31
+
+abbrev pub asked_reg : ℕ
+asked_reg = 32
+
+abbrev pub upper_reg : ℕ
+upper_reg = 33
+
 -- The word of the box that is being filled.
 abbrev pub word_reg : ℕ
 word_reg = 36

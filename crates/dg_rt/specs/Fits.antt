@@ -1,5 +1,5 @@
 -- That the routines can be assembled. Hold it against the Z-machine standard, section 5 (routines) and section 4 (instructions).
-use Rattle.std.specs.Prelude.{◌<◌, ◌≤◌, List, [], ◌∷◌}
+use Rattle.std.specs.Prelude.{◌+◌, ◌<◌, ◌≤◌, List, [], ◌∷◌, length}
 use Rattle.z_code.specs.Open.{Counts}
 use Rattle.z_lang.specs.declared.act.Routine.{Routine}
 use Rattle.z_lang.specs.Code.{ops_of_acts}
@@ -21,4 +21,4 @@ AllFit counts (r ∷ rs) = IsFit counts r × AllFit counts rs
 
 -- So it is with those of the run-time, in a story that has them, a routine to begin with, and a table.
 abbrev pub RuntimeFits : Type 0
-RuntimeFits = (counts : Counts) → 29 ≤ counts.routines → 1 ≤ counts.tables → AllFit counts runtime
+RuntimeFits = (counts : Counts) → 1 + length runtime ≤ counts.routines → 1 ≤ counts.tables → AllFit counts runtime

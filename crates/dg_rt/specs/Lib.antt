@@ -15,5 +15,8 @@ pub mod Frames
 pub mod Choices
 pub mod Rules
 pub mod Queries
+pub mod Operands
+pub mod Tables
+pub mod Gaps
 pub mod Fits
 pub mod inside

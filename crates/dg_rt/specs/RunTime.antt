@@ -12,6 +12,9 @@ use Rattle.dg_rt.specs.declared.frames.TheConstants.{VAR_ACTS, CAPTURE_ACTS, ENT
 use Rattle.dg_rt.specs.declared.choices.TheConstants.{CUT_ACTS, OPEN_ACTS, FAIL_ACTS, COMMIT_ACTS, OPEN_INNER_ACTS, UNSTOP_ACTS}
 use Rattle.dg_rt.specs.declared.rules.TheConstants.{KEY_OF_ACTS, FOUND_ACTS, NONE_ACTS, MATCH_ACTS, MATCHED_ACTS}
 use Rattle.dg_rt.specs.declared.queries.TheConstants.{LEAVE_ACTS, ASK_ACTS, TAIL_CALL_ACTS, BODY_ACTS}
+use Rattle.dg_rt.specs.declared.operands.TheConstants.{NUMBER_ACTS, OBJECT_ACTS, SIMPLE_ACTS, FULL_ACTS}
+use Rattle.dg_rt.specs.declared.world.TheConstants.{VALUE_ACTS, SET_ACTS, CLEAR_ACTS, CLEAR_ALL_ACTS, FLAG_ACTS, SET_FLAG_ACTS, CLEAR_FLAGS_ACTS}
+use Rattle.dg_rt.specs.declared.gaps.TheConstants.{SEPARATE_ACTS, FIRST_ACTS}
 use Rattle.dg_rt.specs.Areas.{IsMapped}
 
 -- A routine of so many locals.
@@ -48,9 +51,25 @@ query_routines =
     routine_of 4 LEAVE_ACTS ∷ routine_of 4 ASK_ACTS ∷ routine_of 2 TAIL_CALL_ACTS
     ∷ routine_of 4 BODY_ACTS ∷ routine_of 2 OPEN_INNER_ACTS ∷ routine_of 4 UNSTOP_ACTS ∷ []
 
+-- Those of operands.
+abbrev pub operand_routines : List Routine
+operand_routines = routine_of 1 NUMBER_ACTS ∷ routine_of 1 OBJECT_ACTS ∷ routine_of 1 SIMPLE_ACTS ∷ routine_of 3 FULL_ACTS ∷ []
+
+-- Those of the world.
+abbrev pub world_routines : List Routine
+world_routines =
+    routine_of 2 VALUE_ACTS ∷ routine_of 3 SET_ACTS ∷ routine_of 2 CLEAR_ACTS ∷ routine_of 2 CLEAR_ALL_ACTS ∷ routine_of 2 FLAG_ACTS
+    ∷ routine_of 4 SET_FLAG_ACTS ∷ routine_of 3 CLEAR_FLAGS_ACTS ∷ []
+
+-- Those that print.
+abbrev pub printing_routines : List Routine
+printing_routines = routine_of 1 SEPARATE_ACTS ∷ routine_of 1 FIRST_ACTS ∷ []
+
 -- All of them. The first has number 1, since a story begins with routine 0.
 abbrev pub runtime : List Routine
-runtime = value_routines ++ (closing_routines ++ (frame_routines ++ (rule_routines ++ query_routines)))
+runtime =
+    value_routines ++ (closing_routines ++ (frame_routines ++ (rule_routines ++ (query_routines ++ (operand_routines
+    ++ (world_routines ++ printing_routines))))))
 
 -- The run-time stands in a program: its areas may be written, and each routine has its number.
 pub record HasRunTime (p : Program) : Type 0 where

@@ -15,6 +15,21 @@ macro_rules! when {
     };
 }
 
+/// A test whether a variable is one of three characters, and the label to which it leads then.
+macro_rules! one_of {
+    ($first:expr, $one:expr, $two:expr, $three:expr, $label:expr) => {
+        Act::When(
+            Test {
+                comparison: Comparison::Any(Atom::Num($two as u16), Atom::Num($three as u16)),
+                first: Atom::Var($first),
+                second: Atom::Num($one as u16),
+                answer: true,
+            },
+            $label,
+        )
+    };
+}
+
 /// A variable becomes the word of a field.
 macro_rules! read {
     ($to:expr, $field:expr, $at:expr) => {
@@ -75,6 +90,7 @@ macro_rules! say {
 
 pub(crate) use add;
 pub(crate) use call;
+pub(crate) use one_of;
 pub(crate) use put;
 pub(crate) use read;
 pub(crate) use say;

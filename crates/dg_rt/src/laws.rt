@@ -6,8 +6,11 @@ ghost use Rattle.dg_rt.specs.CopiesIn.{CopyInWorks};
 ghost use Rattle.dg_rt.specs.Choices.{CommitWorks, CutWorks, FailWorks, OpenInnerWorks, OpenWorks, UnstopWorks};
 ghost use Rattle.dg_rt.specs.Frames.{CaptureWorks, EnterWorks, VarWorks};
 ghost use Rattle.dg_rt.specs.Fits.{RuntimeFits};
+ghost use Rattle.dg_rt.specs.Gaps.{FirstWorks, SeparateWorks};
+ghost use Rattle.dg_rt.specs.Operands.{FullWorks, OperandsWork};
 ghost use Rattle.dg_rt.specs.Queries.{AskWorks, BodyWorks, LeaveWorks, TailCallWorks};
 ghost use Rattle.dg_rt.specs.Rules.{FoundWorks, KeyWorks, MatchWorks, MatchedWorks, NoneWorks};
+ghost use Rattle.dg_rt.specs.Tables.{WorldWorks};
 ghost use Rattle.dg_rt.specs.Undoes.{UndoGivesBack, UndoUnwinds};
 ghost use Rattle.dg_rt.specs.Unifies.{UnifyWorks};
 
@@ -134,6 +137,31 @@ pub fn open_inner_works()
 /// The routine that stops goes on behind the stoppable part.
 pub fn unstop_works()
     ensures { UnstopWorks }
+{}
+
+/// The routines that say what an operand is do so.
+pub fn operands_work()
+    ensures { OperandsWork }
+{}
+
+/// The routine that looks for unbound variables does so.
+pub fn full_works()
+    ensures { FullWorks }
+{}
+
+/// The routines of the world do so.
+pub fn world_works()
+    ensures { WorldWorks }
+{}
+
+/// The routine that prints what separates a piece does so.
+pub fn separate_works()
+    ensures { SeparateWorks }
+{}
+
+/// The routine that prints the first character of a piece does so.
+pub fn first_works()
+    ensures { FirstWorks }
 {}
 
 /// The routines can be assembled.

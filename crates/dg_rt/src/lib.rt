@@ -6,15 +6,18 @@ mod choices;
 mod closings;
 mod copies;
 mod frames;
+mod gaps;
 mod heap;
 mod laws;
 pub mod numbers;
+mod operands;
 mod queries;
 pub mod registers;
 mod routines;
 mod rules;
 mod unify;
 mod words;
+mod world;
 
 pub use choices::{COMMIT_ACTS, CUT_ACTS, FAIL_ACTS, OPEN_ACTS, OPEN_INNER_ACTS, UNSTOP_ACTS};
 pub use closings::{
@@ -23,14 +26,20 @@ pub use closings::{
 };
 pub use copies::{COPY_IN_ACTS, COPY_OUT_ACTS};
 pub use frames::{CAPTURE_ACTS, ENTER_ACTS, VAR_ACTS};
+pub use gaps::{FIRST_ACTS, SEPARATE_ACTS};
 pub use heap::CHARGE_ACTS;
 pub use laws::{
     ask_works, body_works, capture_works, charge_works, closings_work, commit_works, copy_in_works,
-    copy_works, cut_works, enter_works, fail_works, found_works, key_works, leave_works,
-    match_works, matched_works, none_works, open_inner_works, open_works, runtime_fits,
-    tail_call_works, undo_gives_back, undo_unwinds, unify_works, unstop_works, var_works,
+    copy_works, cut_works, enter_works, fail_works, first_works, found_works, full_works,
+    key_works, leave_works, match_works, matched_works, none_works, open_inner_works, open_works,
+    operands_work, runtime_fits, separate_works, tail_call_works, undo_gives_back, undo_unwinds,
+    unify_works, unstop_works, var_works, world_works,
 };
+pub use operands::{FULL_ACTS, NUMBER_ACTS, OBJECT_ACTS, SIMPLE_ACTS};
 pub use queries::{ASK_ACTS, BODY_ACTS, LEAVE_ACTS, TAIL_CALL_ACTS};
 pub use routines::runtime;
 pub use rules::{FOUND_ACTS, KEY_OF_ACTS, MATCH_ACTS, MATCHED_ACTS, NONE_ACTS};
 pub use unify::{BIND_ACTS, OCCURS_ACTS, UNDO_ACTS, UNIFY_ACTS, WALK_ACTS};
+pub use world::{
+    CLEAR_ACTS, CLEAR_ALL_ACTS, CLEAR_FLAGS_ACTS, FLAG_ACTS, SET_ACTS, SET_FLAG_ACTS, VALUE_ACTS,
+};

@@ -101,3 +101,42 @@ pub const OPEN_INNER: u16 = 33;
 
 /// Goes on behind a stoppable part.
 pub const UNSTOP: u16 = 34;
+
+/// The number that a value is.
+pub const NUMBER: u16 = 35;
+
+/// The object that a value is.
+pub const OBJECT: u16 = 36;
+
+/// The word of a simple value.
+pub const SIMPLE: u16 = 37;
+
+/// Tests whether no unbound variable stands in a value.
+pub const FULL: u16 = 38;
+
+/// The word of an object in a table.
+pub const VALUE: u16 = 39;
+
+/// Sets it.
+pub const SET: u16 = 40;
+
+/// Clears it.
+pub const CLEAR: u16 = 41;
+
+/// Clears the words of all objects.
+pub const CLEAR_ALL: u16 = 42;
+
+/// The flag of an object in a table.
+pub const FLAG: u16 = 43;
+
+/// Sets or clears it.
+pub const SET_FLAG: u16 = 44;
+
+/// Clears the flags of all objects.
+pub const CLEAR_FLAGS: u16 = 45;
+
+/// Prints what separates a piece from the text before.
+pub const SEPARATE: u16 = 46;
+
+/// Prints the first character of a piece.
+pub const FIRST: u16 = 47;

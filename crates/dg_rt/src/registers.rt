@@ -45,11 +45,23 @@ pub const TERM: u8 = 30;
 /// The first argument of a query; eleven more follow.
 pub const ARGS: u8 = 32;
 
-/// How the text ends: 0 where nothing was printed.
+/// How the text ends: 0 where nothing was printed, 1 behind a character that opens, 2 behind another.
 pub const LAST: u8 = 44;
 
 /// The newest gathering that is open, or 0.
 pub const GATHER: u8 = 45;
+
+/// What breaks the text before the next piece: 1 a line, 2 a paragraph, 0 nothing.
+pub const LINES: u8 = 46;
+
+/// How many spaces stand before it.
+pub const SPACES: u8 = 47;
+
+/// Whether a space is asked for: 1 none, 2 one, 0 neither.
+pub const ASKED: u8 = 48;
+
+/// 1 where it has a capital, else 0.
+pub const UPPER: u8 = 49;
 
 /// The word of the box that is being filled.
 pub const WORD: u8 = 52;

@@ -9,10 +9,15 @@ use crate::closings::{
 };
 use crate::copies::{COPY_IN_ACTS, COPY_OUT_ACTS};
 use crate::frames::{CAPTURE_ACTS, ENTER_ACTS, VAR_ACTS};
+use crate::gaps::{FIRST_ACTS, SEPARATE_ACTS};
 use crate::heap::CHARGE_ACTS;
+use crate::operands::{FULL_ACTS, NUMBER_ACTS, OBJECT_ACTS, SIMPLE_ACTS};
 use crate::queries::{ASK_ACTS, BODY_ACTS, LEAVE_ACTS, TAIL_CALL_ACTS};
 use crate::rules::{FOUND_ACTS, KEY_OF_ACTS, MATCH_ACTS, MATCHED_ACTS, NONE_ACTS};
 use crate::unify::{BIND_ACTS, OCCURS_ACTS, UNDO_ACTS, UNIFY_ACTS, WALK_ACTS};
+use crate::world::{
+    CLEAR_ACTS, CLEAR_ALL_ACTS, CLEAR_FLAGS_ACTS, FLAG_ACTS, SET_ACTS, SET_FLAG_ACTS, VALUE_ACTS,
+};
 use sqlite_items::Items;
 use std::alloc::{AllocError, Global};
 use z_lang::{Act, Routine};
@@ -101,6 +106,40 @@ impl Writer {
         self.put(4, &UNSTOP_ACTS)?;
         Ok(())
     }
+
+    // Those of operands.
+    fn put_operands(&mut self) -> Result<(), AllocError>
+        ensures { OnOk result (self.new.all ≡ self.old.all ++ spec.operand_routines) }
+    {
+        self.put(1, &NUMBER_ACTS)?;
+        self.put(1, &OBJECT_ACTS)?;
+        self.put(1, &SIMPLE_ACTS)?;
+        self.put(3, &FULL_ACTS)?;
+        Ok(())
+    }
+
+    // Those of the world.
+    fn put_world(&mut self) -> Result<(), AllocError>
+        ensures { OnOk result (self.new.all ≡ self.old.all ++ spec.world_routines) }
+    {
+        self.put(2, &VALUE_ACTS)?;
+        self.put(3, &SET_ACTS)?;
+        self.put(2, &CLEAR_ACTS)?;
+        self.put(2, &CLEAR_ALL_ACTS)?;
+        self.put(2, &FLAG_ACTS)?;
+        self.put(4, &SET_FLAG_ACTS)?;
+        self.put(3, &CLEAR_FLAGS_ACTS)?;
+        Ok(())
+    }
+
+    // Those that print.
+    fn put_printing(&mut self) -> Result<(), AllocError>
+        ensures { OnOk result (self.new.all ≡ self.old.all ++ spec.printing_routines) }
+    {
+        self.put(1, &SEPARATE_ACTS)?;
+        self.put(1, &FIRST_ACTS)?;
+        Ok(())
+    }
 }
 
 /// All of them, in the order of their numbers, the first of which is 1: a story begins with routine 0.
@@ -116,5 +155,8 @@ pub fn runtime(alloc: Global) -> Result<Items<Routine>, AllocError>
     writer.put_frames()?;
     writer.put_rules()?;
     writer.put_queries()?;
+    writer.put_operands()?;
+    writer.put_world()?;
+    writer.put_printing()?;
     Ok(writer.all)
 }

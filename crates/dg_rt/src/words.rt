@@ -31,10 +31,16 @@ pub const LETTERS: u16 = 33_444;
 /// How many cells the heap has.
 pub const HEAP_CELLS: u16 = 10_000;
 
-/// The empty list.
+/// The word of the program's first word, behind those of numbers.
+pub const FIRST_WORD: u16 = 16_384;
+
+/// The word of the first object, behind those of the program's words.
+pub const FIRST_OBJECT: u16 = 24_576;
+
+/// The empty list, behind the objects.
 pub const NIL: u16 = 28_672;
 
-/// No value: what an inner construct keeps that gathers nothing.
+/// No value: what an inner construct keeps that gathers nothing, and what an operand is that isn't as it should be.
 pub const NO_VALUE: u16 = 65_535;
 
 /// What a pair is at its top.
