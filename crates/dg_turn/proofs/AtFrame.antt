@@ -22,11 +22,12 @@ use Rattle.dg_rt.proofs.Following.{word as word_is, computes, register, puts}
 use Rattle.dg_rt.proofs.Standing.{cut_at}
 use Rattle.dg_turn.specs.Told.{Telling}
 use Rattle.dg_turn.specs.Lies.{FramesIn, MidIn}
+use Rattle.dg_turn.specs.Rest.{gather_words}
 use Rattle.dg_turn.specs.Leaving.{field_act}
 use Rattle.dg_turn.proofs.Staying.{mid_same}
 use Rattle.dg_turn.proofs.Cutting.{places_of, chained, fallen_is, cut_in}
 
-module _ (t : Telling) (has : HasRunTime t.p) (ff ww : ℕ) (typed output : List ℕ) (drawn : ℕ) (sh : Shape) (begun : ℕ → ℕ) (trail : List ℕ) (m : Mid) (start : MidIn t sh begun trail m) (f : Frame) (fs : List Frame) (h : FramesIn t sh (begun 4) (f ∷ fs)) where
+module _ (t : Telling) {outer : ℕ → ℕ} (has : HasRunTime t.p) (ff ww : ℕ) (typed output : List ℕ) (drawn : ℕ) (sh : Shape) (begun : ℕ → ℕ) (trail : List ℕ) (m : Mid) (start : MidIn t outer sh begun trail m) (f : Frame) (fs : List Frame) (h : FramesIn t sh m.stops (begun 4) (f ∷ fs)) where
   abbrev pub now : List ℕ → State
   now memory = state memory [] typed drawn output
 
@@ -79,12 +80,12 @@ module _ (t : Telling) (has : HasRunTime t.p) (ff ww : ℕ) (typed output : List
     pub memory' : List ℕ
     pub cells' : ℕ → ℕ
     pub framed : Framed memory' cells'
-    pub mid : MidIn t sh cells' trail (cut_to f.cut m')
+    pub mid : MidIn t outer sh cells' trail (cut_to f.cut m')
     pub count : ℕ
     pub few : count ≤ 4 * dropped f.cut m'.choices + 5
     pub runs : (o : ActsOutcome) (s' : State) (k : ℕ) → ActsRun t.p ff ww body rest (now memory') o s' k → ActsRun t.p ff ww body all (now memory) o s' (count + k)
 
-  pub cuts : 0 < ff → 1 ≤ ww → (body rest : List Act) (memory : List ℕ) (c : ℕ → ℕ) → Framed memory c → MidIn t sh c trail m → IsNamed m.next_tag m.state.heap m.choices f.cut → CutsTo body rest (field_act 52 2 ∷ acts.Call None (atoms.Routine 19) (args.One (atoms.Var 52)) ∷ rest) memory m
+  pub cuts : 0 < ff → 1 ≤ ww → (body rest : List Act) (memory : List ℕ) (c : ℕ → ℕ) → Framed memory c → MidIn t outer sh c trail m → IsNamed m.next_tag m.state.heap m.choices f.cut → CutsTo body rest (field_act 52 2 ∷ acts.Call None (atoms.Routine 19) (args.One (atoms.Var 52)) ∷ rest) memory m
   cuts some enough body rest memory c b mid is_named =
       let high = has.mapped.room in
       let call_on = acts.Call None (atoms.Routine 19) (args.One (atoms.Var 52)) ∷ rest in
@@ -93,13 +94,13 @@ module _ (t : Telling) (has : HasRunTime t.p) (ff ww : ℕ) (typed output : List
       let memory1 = with_cell memory 36 to in
       let c1 = replaced c 36 to in
       let b1 = framed_with memory c 36 to b (λ e. (omega arith)) (omega arith) q.holds in
-      let mid1 = mid_same t sh c c1 trail m (λ j ne far. other_cell c 36 to j (λ (e : j ≡ 36). (let y : 302 < j = far (omega arith) in omega arith))) mid in
+      let mid1 = mid_same t sh c c1 trail m (λ j ne far. other_cell c 36 to j (λ (e : j ≡ 36). (let y : 302 < j = far.1 (omega arith) in omega arith))) mid in
       let s = mid1.state in
       let top = s.heap in
       let few_cells = s.few in
       let small : to < 65536 = subst (λ (n : ℕ). n < 65536) (same_cell c 36 to) (q.holds.words 36) in
       let at_cells : (k y : ℕ) → Cell sh k y → c1 (heap_at + k) ≡ y = λ k y cell. s.stands.fixed k (let low = cell.fixed.0 in omega arith) cell.fixed ∙ cell.is in
-      let chain = chained t sh c1 trail mid1.hb (omega arith) at_cells (c1 5) m.choices mid1.choices mid1.under in
+      let chain = chained t sh c1 trail (gather_words m.gathered) mid1.hb (omega arith) at_cells (c1 5) m.choices mid1.choices mid1.under in
       let k = cut_works t.p has.mapped 0 0 memory1 typed output drawn f.cut.height (let low = is_named.height in omega arith) c1 b1.holds (places_of m.choices) chain in
       let fallen = fallen_is f.cut m.choices is_named.agrees in
       let few = k.few in

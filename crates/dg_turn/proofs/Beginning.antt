@@ -12,7 +12,7 @@ use Rattle.z_lang.specs.Leads.{Leads}
 use Rattle.z_lang.proofs.Stretches.{leads_then}
 use Rattle.dg_rt.specs.Closings.{closing_most}
 use Rattle.dg_turn.specs.Told.{Telling, FirstIs}
-use Rattle.dg_turn.specs.Plays.{Playing}
+use Rattle.dg_turn.specs.Plays.{Playing, Outside}
 use Rattle.dg_turn.specs.Rules.{LooksAt, Selects, passed_over, BegunTo, behind_first, BeginTurns}
 use Rattle.dg_turn.proofs.Looking.{select_turns}
 use Rattle.dg_turn.proofs.Finding.{found_turns, none_turns}
@@ -43,52 +43,51 @@ over_and_left first (r ∷ rs) = by_answer (excluded first r.key) (over_and_left
     by_answer true e = omega arith
     by_answer false e = omega arith
 
-module _ (t : Telling) (plays : Playing t) (blocks : (b : ℕ) → t.at_block b ≢ 0) (output : List ℕ) (call : Call) (key : ℕ) (m : Mid) (is_key : FirstIs (first_of m.state.subst call) key) (cut : call.cut.height ≡ m.state.heap) where
+module _ (t : Telling) (plays : Playing t) (blocks : (b : ℕ) → t.at_block b ≢ 0) (out : Outside) (call : Call) (key : ℕ) (m : Mid) (is_key : FirstIs (first_of m.state.subst call) key) (cut : call.cut.height ≡ m.state.heap) where
   abbrev first : Option Value
   first = first_of m.state.subst call
 
   -- behind the first that was found
-  second : (r : RuleCode) (rs found : List RuleCode) (a last most : ℕ) (z there : ZState) → selected first rs ≡ found → Leads t.p.world a z there → (s : Selects t output found call key (t.at_block r.block) last m (4 * passed_over first rs) there) → a + 4 * passed_over first rs + 60 ≤ most → BegunTo t output call (r ∷ rs) found last m most z
-  second r rs [] a last most z there e leads s enough =
-      let l = subst (λ (n : ℕ). LooksAt t output n call key (t.at_block r.block) m s.there) s.rules_are s.looks in
-      let k = none_turns.begins t plays output call key (t.at_block r.block) m s.there (blocks r.block) l in
+  second : (r : RuleCode) (rs found : List RuleCode) (a most : ℕ) (z there : ZState) → selected first rs ≡ found → Leads t.p.world a z there → (s : Selects t out found call key (t.at_block r.block) m (4 * passed_over first rs) there) → a + 4 * passed_over first rs + 60 ≤ most → BegunTo t out call (r ∷ rs) found m most z
+  second r rs [] a most z there e leads s enough =
+      let l = subst (λ (n : ℕ). LooksAt t out n call key (t.at_block r.block) m s.there) s.rules_are s.looks in
+      let k = none_turns.begins t plays out call key (t.at_block r.block) m s.there (blocks r.block) l in
       let few = s.few in
       let few' = k.few in
       record { there = k.there; count = a + (s.count + k.count); few = omega arith; leads = leads_then t.p.world a (s.count + k.count) z there k.there leads (leads_then t.p.world s.count k.count there s.there k.there s.leads k.leads); rep = k.rep; call_is = k.call_is }
-  second r rs (q ∷ qs) a last most z there e leads s enough =
+  second r rs (q ∷ qs) a most z there e leads s enough =
       let i = left_first first rs q qs e in
       let few = s.few in
       let both = leads_then t.p.world a s.count z there s.there leads s.leads in
       record {
         opens = λ room.
-            let k = found_turns.opens t plays output q qs s.number call key (t.at_block r.block) m s.there s.rules_are is_key i.fits (blocks r.block) cut room s.looks in
+            let k = found_turns.opens t plays out q qs s.number call key (t.at_block r.block) m s.there s.rules_are is_key i.fits (blocks r.block) cut room s.looks in
             let few' = k.few in
             record { there = k.there; count = a + s.count + k.count; few = omega arith; leads = leads_then t.p.world (a + s.count) k.count z s.there k.there both k.leads; rep = k.rep; call_is = k.call_is };
         meets = λ over.
-            let k = found_turns.meets t plays output q qs s.number call first key (t.at_block r.block) m s.there s.rules_are is_key i.fits (blocks r.block) over s.looks in
-            closes_then t output (s.looks.rep.cells 28) last HeapLimit (a + s.count) (a + s.count) (15 + closing_most) (most + closing_most) z s.there s.last_is (omega arith) (omega arith) both k;
+            let k = found_turns.meets t plays out q qs s.number call first key (t.at_block r.block) m s.there s.rules_are is_key i.fits (blocks r.block) over s.looks in
+            closes_then t out HeapLimit (a + s.count) (a + s.count) (15 + closing_most) (most + closing_most) z s.there (omega arith) (omega arith) both k;
       }
 
-  begun : (rules found : List RuleCode) (last : ℕ) (z : ZState) → selected first rules ≡ found → Selects t output found call key 0 last m (4 * passed_over first rules) z → BegunTo t output call found (behind_first first found) last m (4 * length rules + 70) z
-  begun rules [] last z e s =
-      let l = subst (λ (n : ℕ). LooksAt t output n call key 0 m s.there) s.rules_are s.looks in
-      let k = none_turns.fails t plays output call key m s.there l in
+  begun : (rules found : List RuleCode) (z : ZState) → selected first rules ≡ found → Selects t out found call key 0 m (4 * passed_over first rules) z → BegunTo t out call found (behind_first first found) m (4 * length rules + 70) z
+  begun rules [] z e s =
+      let l = subst (λ (n : ℕ). LooksAt t out n call key 0 m s.there) s.rules_are s.looks in
+      let k = none_turns.fails t plays out call key m s.there l in
       let whole = over_and_left first rules in
       let few = s.few in
       let few' = k.few in
       record { there = k.there; count = s.count + k.count; few = omega arith; leads = leads_then t.p.world s.count k.count z s.there k.there s.leads k.leads; rep = k.rep }
-  begun rules (r ∷ rs) last z e s =
+  begun rules (r ∷ rs) z e s =
       let i = left_first first rules r rs e in
-      let f = found_turns.keeps t plays output r rs s.number call first key m s.there s.rules_are is_key i.fits s.looks in
-      let n = select_turns t plays output rs f.number call first key (t.at_block r.block) m f.there f.rules_are is_key f.looks in
-      let n' = subst (λ (y : ℕ). Selects t output (selected first rs) call key (t.at_block r.block) y m (4 * passed_over first rs) f.there) (f.last_is ∙ s.last_is) n in
+      let f = found_turns.keeps t plays out r rs s.number call first key m s.there s.rules_are is_key i.fits s.looks in
+      let n = select_turns t plays out rs f.number call first key (t.at_block r.block) m f.there f.rules_are is_key f.looks in
       let few = s.few in
       let few' = f.few in
       let whole = over_and_left first rules in
       let left = ap length e in
       let behind = over_and_left first rs in
-      second r rs (selected first rs) (s.count + f.count) last (4 * length rules + 70) z f.there refl (leads_then t.p.world s.count f.count z s.there f.there s.leads f.leads) n' (omega arith)
+      second r rs (selected first rs) (s.count + f.count) (4 * length rules + 70) z f.there refl (leads_then t.p.world s.count f.count z s.there f.there s.leads f.leads) n (omega arith)
 
 pub begin_turns : BeginTurns
-begin_turns t plays blocks output rules number call key m z are is_key cut l =
-    begun t plays blocks output call key m is_key cut rules (selected (first_of m.state.subst call) rules) (l.rep.cells 28) z refl (select_turns t plays output rules number call (first_of m.state.subst call) key 0 m z are is_key l)
+begin_turns t plays blocks out rules number call key m z are is_key cut l =
+    begun t plays blocks out call key m is_key cut rules (selected (first_of m.state.subst call) rules) z refl (select_turns t plays out rules number call (first_of m.state.subst call) key 0 m z are is_key l)

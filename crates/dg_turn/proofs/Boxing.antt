@@ -20,7 +20,7 @@ module _ (sh : Shape) (is : IsShape sh) (from : ℕ) (new : ℕ → Option Value
   abbrev pub with_boxes : Shape
   with_boxes = record sh { box = λ k. if nat_lt k from then sh.box k else new k }
 
-  old_box : (k : ℕ) → k < from → with_boxes.box k ≡ sh.box k
+  pub old_box : (k : ℕ) → k < from → with_boxes.box k ≡ sh.box k
   old_box k lt = cond-true (nat_lt k from) (sh.box k) (new k) (lt-ltb k from lt)
 
   pub new_box : (k : ℕ) → from ≤ k → with_boxes.box k ≡ new k

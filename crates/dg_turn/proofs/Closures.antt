@@ -90,7 +90,7 @@ hold_same sh c c' k env [] same h = tt
 hold_same sh c c' k env (v ∷ vs) same h =
     (subst (λ (y : ℕ). Shows sh y (get_or env v (leaf Nil))) (sym (same k (omega arith) (omega arith))) h.0, hold_same sh c c' (suc k) env vs (λ i low lt. same i (omega arith) (omega arith)) h.1)
 
-module _ (t : Telling) (has : HasRunTime t.p) (f w : ℕ) (frames_left : 0 < f) (words_left : 8 ≤ w) (sh : Shape) (typed output : List ℕ) (drawn : ℕ) (trail : List ℕ) (m : Mid) (start : ℕ → ℕ) (mid : MidIn t sh start trail m) (total : ℕ) (room : sh.top + total ≤ 10000) where
+module _ (t : Telling) {outer : ℕ → ℕ} (has : HasRunTime t.p) (f w : ℕ) (frames_left : 0 < f) (words_left : 8 ≤ w) (sh : Shape) (typed output : List ℕ) (drawn : ℕ) (trail : List ℕ) (m : Mid) (start : ℕ → ℕ) (mid : MidIn t outer sh start trail m) (total : ℕ) (room : sh.top + total ≤ 10000) where
   abbrev now : List ℕ → State
   now memory = state memory [] typed drawn output
 

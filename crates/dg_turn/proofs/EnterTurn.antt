@@ -29,7 +29,7 @@ use Rattle.dg_rt.proofs.Entering.{enter_works}
 use Rattle.dg_rt.proofs.UnifySteps.{steps_are}
 use Rattle.dg_turn.specs.Told.{Telling}
 use Rattle.dg_turn.specs.Lies.{MidIn}
-use Rattle.dg_turn.specs.Plays.{Playing, Represented, CallAt, Comes, Closes}
+use Rattle.dg_turn.specs.Plays.{Playing, Outside, Represented, CallAt, Comes, Closes}
 use Rattle.dg_turn.specs.Terms.{capped, AreNodes, written_in, Wrote}
 use Rattle.dg_turn.specs.Turns.{agreed_next, match_acts, last_acts, head_acts, enter_routine, entered, head_unified, entering_most, Entering, EnterTurns}
 use Rattle.dg_turn.proofs.Standing.{enter_at}
@@ -45,13 +45,13 @@ use Rattle.dg_turn.proofs.Moving.{moves, closes}
 -- ## The head
 
 -- The head was written and matched.
-record Headed (t : Telling) (f w : ℕ) (body acts' : List Act) (memory typed output : List ℕ) (drawn y : ℕ) (m : Mid) (most : ℕ) : Type 0 where
+record Headed (t : Telling) (outer : ℕ → ℕ) (f w : ℕ) (body acts' : List Act) (memory typed output : List ℕ) (drawn y : ℕ) (m : Mid) (most : ℕ) : Type 0 where
   memory' : List ℕ
   cells' : ℕ → ℕ
   sh' : Shape
   trail' : List ℕ
   holds : Holds t.p.world.layout memory' cells'
-  mid : MidIn t sh' cells' trail' m
+  mid : MidIn t outer sh' cells' trail' m
   count : ℕ
   few : count ≤ most
   runs : ActsRun t.p f w body acts' (state memory [] typed drawn output) (Returns y) (state memory' [] typed drawn output) count
@@ -64,7 +64,7 @@ record HeadFull (t : Telling) (f w : ℕ) (body acts' : List Act) (memory typed 
   few : count ≤ most + closing_most
   runs : ActsRun t.p f w body acts' (state memory [] typed drawn output) (Stops AtQuit) (state memory' locals' typed drawn (output ++ closing last TrailLimit)) count
 
-module _ (t : Telling) (has : HasRunTime t.p) (words : (k : ℕ) → t.p.names.routine k < 65536) (f w : ℕ) (some : 3400 ≤ f) (enough : 16700 ≤ w) (body : List Act) (memory typed output : List ℕ) (drawn behind : ℕ) (sh : Shape) (c : ℕ → ℕ) (trail : List ℕ) (m : Mid) (xs : List Value) (head : List Term) (h : Holds t.p.world.layout memory c) (mid : MidIn t sh c trail m) (clash : c 13 ≡ 0) (args_are : InRegisters sh c 16 xs) (fits : length xs ≡ length head) (short : length head ≤ 12) (nodes : AreNodes t.program (nodes_of head)) (room : m.state.heap + cells_of t.program head ≤ 10000) where
+module _ (t : Telling) {outer : ℕ → ℕ} (has : HasRunTime t.p) (words : (k : ℕ) → t.p.names.routine k < 65536) (f w : ℕ) (some : 3400 ≤ f) (enough : 16700 ≤ w) (body : List Act) (memory typed output : List ℕ) (drawn behind : ℕ) (sh : Shape) (c : ℕ → ℕ) (trail : List ℕ) (m : Mid) (xs : List Value) (head : List Term) (h : Holds t.p.world.layout memory c) (mid : MidIn t outer sh c trail m) (clash : c 13 ≡ 0) (args_are : InRegisters sh c 16 xs) (fits : length xs ≡ length head) (short : length head ≤ 12) (nodes : AreNodes t.program (nodes_of head)) (room : m.state.heap + cells_of t.program head ≤ 10000) where
   abbrev taken : ℕ
   taken = cells_of t.program head
 
@@ -80,18 +80,18 @@ module _ (t : Telling) (has : HasRunTime t.p) (words : (k : ℕ) → t.p.names.r
   abbrev rest2 : List Act
   rest2 = match_acts 32 64 (length head) ++ last_acts behind
 
-  abbrev written : Wrote t f w body rest2 (head_acts t.program head behind) sh memory typed output drawn c trail m taken 64 values (written_in t.program head + 6)
-  written = writes_terms t has f w sh memory typed output drawn c trail m h mid body (omega arith) (omega arith) rest2 64 head (omega arith) (omega arith) nodes room
+  abbrev written : Wrote t outer f w body rest2 (head_acts t.program head behind) sh memory typed output drawn c trail m taken 64 values (written_in t.program head + 6)
+  written = writes_terms t has f w sh memory typed output drawn c trail m h mid body (omega arith) (omega arith) rest2 64 head (omega arith) (omega arith) (λ q. (omega arith)) nodes room
 
-  matching : Goes t f w body (last_acts behind) rest2 written.sh' written.memory' typed output drawn written.cells' (more taken m) u (price m.state.subst (zip xs values) + 6 * length head)
+  matching : Goes t outer f w body (last_acts behind) rest2 written.sh' written.memory' typed output drawn written.cells' (more taken m) u (price m.state.subst (zip xs values) + 6 * length head)
   matching =
       let w1 = written in
       let size = length_map t.program (vars_of m.frames) head in
       let args_there = regs_stay sh w1.sh' c w1.cells' w1.grown 16 xs (λ j low lt. w1.others j (λ e. (omega arith)) (λ e. (omega arith)) (λ e. (omega arith)) (λ q. (omega arith)) (omega arith)) args_are in
       let clash' : w1.cells' 13 ≡ 0 = w1.others 13 (λ e. (omega arith)) (λ e. (omega arith)) (λ e. (omega arith)) (λ q. (omega arith)) (omega arith) ∙ clash in
-      matches t has f w some enough w1.sh' typed output drawn body (last_acts behind) (length head) 32 64 w1.memory' w1.cells' trail (more taken m) xs values fits size w1.holds w1.mid clash' (omega arith) (omega arith) (omega arith) (omega arith) args_there (regs_of w1.sh' w1.cells' 48 values w1.words)
+      matches t outer has f w some enough w1.sh' typed output drawn body (last_acts behind) (length head) 32 64 w1.memory' w1.cells' trail (more taken m) xs values fits size w1.holds w1.mid clash' (omega arith) (omega arith) (omega arith) (omega arith) args_there (regs_of w1.sh' w1.cells' 48 values w1.words)
 
-  heads : trail_more m.state u ≤ 2000 → Headed t f w body (head_acts t.program head behind) memory typed output drawn (agreed_next t.p behind u.agrees) (bound u (more taken m)) most
+  heads : trail_more m.state u ≤ 2000 → Headed t outer f w body (head_acts t.program head behind) memory typed output drawn (agreed_next t.p behind u.agrees) (bound u (more taken m)) most
   heads few =
       let w1 = written in
       let k = matching.matched few in
@@ -106,7 +106,7 @@ module _ (t : Telling) (has : HasRunTime t.p) (words : (k : ℕ) → t.p.names.r
         sh' = w1.sh';
         trail' = k.trail';
         holds = last.holds;
-        mid = mid_same t w1.sh' k.cells' last.cells' k.trail' (bound u (more taken m)) (λ j ne far. last.others j (λ (e : j ≡ 36). (let q : 302 < j = far (omega arith) in omega arith))) k.mid;
+        mid = mid_same t w1.sh' k.cells' last.cells' k.trail' (bound u (more taken m)) (λ j ne far. last.others j (λ (e : j ≡ 36). (let q : 302 < j = far.1 (omega arith) in omega arith))) k.mid;
         count = steps w1.count (steps k.count 4);
         few = omega arith;
         runs = w1.runs (Returns (agreed_next t.p behind u.agrees)) (state last.memory' [] typed drawn output) (steps k.count 4) (k.runs (Returns (agreed_next t.p behind u.agrees)) (state last.memory' [] typed drawn output) 4 last.runs);
@@ -132,13 +132,13 @@ module _ (t : Telling) (has : HasRunTime t.p) (words : (k : ℕ) → t.p.names.r
 -- ## The frame
 
 -- A frame was made, and its rule is at hand.
-record Framed (t : Telling) (f w : ℕ) (memory typed output : List ℕ) (drawn : ℕ) (c : ℕ → ℕ) (trail : List ℕ) (call : Call) (m : Mid) (vars n : ℕ) : Type 0 where
+record Framed (t : Telling) (outer : ℕ → ℕ) (f w : ℕ) (memory typed output : List ℕ) (drawn : ℕ) (c : ℕ → ℕ) (trail : List ℕ) (call : Call) (m : Mid) (vars n : ℕ) : Type 0 where
   memory' : List ℕ
   cells' : ℕ → ℕ
   locals' : List ℕ
   sh' : Shape
   holds : Holds t.p.world.layout memory' cells'
-  mid : MidIn t sh' cells' trail (inside_rule call vars m)
+  mid : MidIn t outer sh' cells' trail (inside_rule call vars m)
   clash : cells' 13 ≡ 0
   args_are : InRegisters sh' cells' 16 call.args
   last : cells' 28 ≡ c 28
@@ -146,7 +146,7 @@ record Framed (t : Telling) (f w : ℕ) (memory typed output : List ℕ) (drawn 
   few : count ≤ 4 * vars + 22
   runs : ActsRun t.p f w ENTER_ACTS ENTER_ACTS (state memory (vars ∷ n ∷ 0 ∷ 0 ∷ []) typed drawn output) (Returns 0) (state memory' locals' typed drawn output) count
 
-enters : (t : Telling) → HasRunTime t.p → (f w : ℕ) (memory typed output : List ℕ) (drawn : ℕ) (sh : Shape) (c : ℕ → ℕ) (trail : List ℕ) (call : Call) (m : Mid) (vars n : ℕ) → Holds t.p.world.layout memory c → MidIn t sh c trail m → CallAt t sh c call → length call.args ≤ 12 → m.state.heap + (6 + vars + n) ≤ 10000 → Framed t f w memory typed output drawn c trail call m vars n
+enters : (t : Telling) {outer : ℕ → ℕ} → HasRunTime t.p → (f w : ℕ) (memory typed output : List ℕ) (drawn : ℕ) (sh : Shape) (c : ℕ → ℕ) (trail : List ℕ) (call : Call) (m : Mid) (vars n : ℕ) → Holds t.p.world.layout memory c → MidIn t outer sh c trail m → CallAt t sh c call → length call.args ≤ 12 → m.state.heap + (6 + vars + n) ≤ 10000 → Framed t outer f w memory typed output drawn c trail call m vars n
 enters t has f w memory typed output drawn sh c trail call m vars n h mid call_is short room =
     let top = mid.state.heap in
     let many = bit_few call.many in
@@ -177,8 +177,8 @@ same_rule program call vars head m =
 
 -- ## The turn
 
-module _ (t : Telling) (plays : Playing t) (output : List ℕ) (call : Call) (vars : ℕ) (head : List Term) (behind : ℕ) (m : Mid) (z : ZState) (e : Entering t output call vars head behind m z) where
-  abbrev r : Represented t output e.x m z
+module _ (t : Telling) (plays : Playing t) (out : Outside) (call : Call) (vars : ℕ) (head : List Term) (behind : ℕ) (m : Mid) (z : ZState) (e : Entering t out call vars head behind m z) where
+  abbrev r : Represented t out e.x m z
   r = e.rep
 
   abbrev n : ℕ
@@ -188,51 +188,51 @@ module _ (t : Telling) (plays : Playing t) (output : List ℕ) (call : Call) (va
   body = acts.Call None (atoms.Routine ENTER) (args.Two (atoms.Num vars) (atoms.Num (capped n))) ∷ head_acts t.program head behind
 
   -- the number of cells is as it is where they fit the heap
-  frame : m.state.heap + (6 + vars + n) ≤ 10000 → Framed t 0 0 r.memory r.typed output r.drawn r.cells r.trail call m vars (capped n)
+  frame : m.state.heap + (6 + vars + n) ≤ 10000 → Framed t out.words 0 0 r.memory out.typed out.output out.drawn r.cells r.trail call m vars (capped n)
   frame room =
       let same = capped_is n (omega arith) in
       let short = e.short in
       let fits = e.fits in
-      enters t plays.has 0 0 r.memory r.typed output r.drawn r.sh r.cells r.trail call m vars (capped n) r.holds r.mid e.call_is (omega arith) (omega arith)
+      enters t plays.has 0 0 r.memory out.typed out.output out.drawn r.sh r.cells r.trail call m vars (capped n) r.holds r.mid e.call_is (omega arith) (omega arith)
 
-  turn : m.state.heap + (6 + vars + n) ≤ 10000 → trail_more m.state (head_unified t.program call vars head m) ≤ 2000 → Comes t output (agreed_next t.p behind (head_unified t.program call vars head m).agrees) (entered t.program call vars head (head_unified t.program call vars head m) m) (entering_most t.program call vars head m) z
+  turn : m.state.heap + (6 + vars + n) ≤ 10000 → trail_more m.state (head_unified t.program call vars head m) ≤ 2000 → Comes t out (agreed_next t.p behind (head_unified t.program call vars head m).agrees) (entered t.program call vars head (head_unified t.program call vars head m) m) (entering_most t.program call vars head m) z
   turn room few =
       let u = head_unified t.program call vars head m in
       let fr = frame room in
-      let k = heads t plays.has plays.words 3500 19000 (omega arith) (omega arith) body fr.memory' r.typed output r.drawn behind fr.sh' fr.cells' r.trail (inside_rule call vars m) call.args head fr.holds fr.mid fr.clash fr.args_are e.fits e.short e.nodes (omega arith) few in
+      let k = heads t plays.has plays.words 3500 19000 (omega arith) (omega arith) body fr.memory' out.typed out.output out.drawn behind fr.sh' fr.cells' r.trail (inside_rule call vars m) call.args head fr.holds fr.mid fr.clash fr.args_are e.fits e.short e.nodes (omega arith) few in
       let y = agreed_next t.p behind u.agrees in
       let few1 = fr.few in
       let few2 = k.few in
-      moves t plays output e.x m z r (enter_routine t.program vars head behind) e.there (omega arith) y (suc fr.count + k.count) (entering_most t.program call vars head m) k.memory' [] k.cells' k.sh' k.trail' (entered t.program call vars head u m)
-      (calls {f' = 0} {w' = 0} {n = fr.count} {n' = k.count} {xs = (vars, capped n, 0)} {s1 = state fr.memory' fr.locals' r.typed r.drawn output} {s2 = state fr.memory' [] r.typed r.drawn output} refl refl (enter_at t.p plays.has) (omega arith) (omega arith) fr.runs refl k.runs)
-      k.holds (next_small t.p plays.words behind u.agrees) (subst (MidIn t k.sh' k.cells' k.trail') (same_rule t.program call vars head m) k.mid) (omega arith)
+      moves t plays out e.x m z r (enter_routine t.program vars head behind) e.there (omega arith) y (suc fr.count + k.count) (entering_most t.program call vars head m) k.memory' [] k.cells' k.sh' k.trail' (entered t.program call vars head u m)
+      (calls {f' = 0} {w' = 0} {n = fr.count} {n' = k.count} {xs = (vars, capped n, 0)} {s1 = state fr.memory' fr.locals' out.typed out.drawn out.output} {s2 = state fr.memory' [] out.typed out.drawn out.output} refl refl (enter_at t.p plays.has) (omega arith) (omega arith) fr.runs refl k.runs)
+      k.holds (next_small t.p plays.words behind u.agrees) (subst (MidIn t out.words k.sh' k.cells' k.trail') (same_rule t.program call vars head m) k.mid) (omega arith)
 
-  full : m.state.heap + (6 + vars + n) ≤ 10000 → 2000 < trail_more m.state (head_unified t.program call vars head m) → Closes t output (r.cells 28) TrailLimit (entering_most t.program call vars head m + closing_most) z
+  full : m.state.heap + (6 + vars + n) ≤ 10000 → 2000 < trail_more m.state (head_unified t.program call vars head m) → Closes t out TrailLimit (entering_most t.program call vars head m + closing_most) z
   full room over =
       let fr = frame room in
-      let k = head_full t plays.has plays.words 3500 19000 (omega arith) (omega arith) body fr.memory' r.typed output r.drawn behind fr.sh' fr.cells' r.trail (inside_rule call vars m) call.args head fr.holds fr.mid fr.clash fr.args_are e.fits e.short e.nodes (omega arith) over in
+      let k = head_full t plays.has plays.words 3500 19000 (omega arith) (omega arith) body fr.memory' out.typed out.output out.drawn behind fr.sh' fr.cells' r.trail (inside_rule call vars m) call.args head fr.holds fr.mid fr.clash fr.args_are e.fits e.short e.nodes (omega arith) over in
       let few1 = fr.few in
       let few2 = k.few in
-      closes t plays output e.x m z r (enter_routine t.program vars head behind) e.there (omega arith) (suc fr.count + k.count) (entering_most t.program call vars head m + closing_most) (r.cells 28) TrailLimit k.memory' k.locals'
-      (calls {f' = 0} {w' = 0} {n = fr.count} {n' = k.count} {xs = (vars, capped n, 0)} {s1 = state fr.memory' fr.locals' r.typed r.drawn output} {s2 = state fr.memory' [] r.typed r.drawn output} refl refl (enter_at t.p plays.has) (omega arith) (omega arith) fr.runs refl
-      (subst (λ (i : ℕ). ActsRun t.p 3500 19000 body (head_acts t.program head behind) (state fr.memory' [] r.typed r.drawn output) (Stops AtQuit) (state k.memory' k.locals' r.typed r.drawn (output ++ closing i TrailLimit)) k.count) fr.last k.runs))
+      closes t plays out e.x m z r (enter_routine t.program vars head behind) e.there (omega arith) (suc fr.count + k.count) (entering_most t.program call vars head m + closing_most) TrailLimit k.memory' k.locals'
+      (calls {f' = 0} {w' = 0} {n = fr.count} {n' = k.count} {xs = (vars, capped n, 0)} {s1 = state fr.memory' fr.locals' out.typed out.drawn out.output} {s2 = state fr.memory' [] out.typed out.drawn out.output} refl refl (enter_at t.p plays.has) (omega arith) (omega arith) fr.runs refl
+      (subst (λ (i : ℕ). ActsRun t.p 3500 19000 body (head_acts t.program head behind) (state fr.memory' [] out.typed out.drawn out.output) (Stops AtQuit) (state k.memory' k.locals' out.typed out.drawn (out.output ++ closing i TrailLimit)) k.count) fr.last k.runs))
       (omega arith)
 
-  no_room : vars ≤ 300 → 10000 < m.state.heap + (6 + vars + n) → Closes t output (r.cells 28) HeapLimit (10 + closing_most) z
+  no_room : vars ≤ 300 → 10000 < m.state.heap + (6 + vars + n) → Closes t out HeapLimit (10 + closing_most) z
   no_room small over =
       let k = caps (m.state.heap + (6 + vars)) n (omega arith) in
       let few = k.few in
       let passes = k.passes in
       let low = r.mid.state.few in
-      let q = enter_works.meets t.p plays.has 3000 18000 (omega arith) r.memory r.typed output r.drawn vars (capped n) r.cells m.state.heap r.holds r.mid.heap low small few (omega arith) in
+      let q = enter_works.meets t.p plays.has 3000 18000 (omega arith) r.memory out.typed out.output out.drawn vars (capped n) r.cells m.state.heap r.holds r.mid.heap low small few (omega arith) in
       let few1 = q.few in
-      closes t plays output e.x m z r (enter_routine t.program vars head behind) e.there (omega arith) (suc q.count) (10 + closing_most) (r.cells 28) HeapLimit q.memory' []
+      closes t plays out e.x m z r (enter_routine t.program vars head behind) e.there (omega arith) (suc q.count) (10 + closing_most) HeapLimit q.memory' []
       (calls_last {f' = 3000} {w' = 18000} {n = q.count} {xs = (vars, capped n, 0)} refl refl (enter_at t.p plays.has) (omega arith) (omega arith) q.runs)
       (omega arith)
 
 pub enter_turns : EnterTurns
 enter_turns = record {
-  enters = λ t plays output call vars head behind m z e room few. turn t plays output call vars head behind m z e room few;
-  meets_heap = λ t plays output call vars head behind m z e small over. no_room t plays output call vars head behind m z e small over;
-  meets_trail = λ t plays output call vars head behind m z e room over. full t plays output call vars head behind m z e room over;
+  enters = λ t plays out call vars head behind m z e room few. turn t plays out call vars head behind m z e room few;
+  meets_heap = λ t plays out call vars head behind m z e small over. no_room t plays out call vars head behind m z e small over;
+  meets_trail = λ t plays out call vars head behind m z e room over. full t plays out call vars head behind m z e room over;
 }

@@ -1,5 +1,6 @@
 -- A failure goes back to a choice of further rules, or ends the run: one turn of the story.
-use Rattle.std.proofs.Common.{◌≡◌, ◌≢◌, ℕ, suc, ◌+◌, ◌-◌, ◌*◌, ◌<◌, ◌≤◌, List, [], ◌∷◌, ◌++◌, length, refl, sym, ap, ◌∙◌, subst, arith, length-append}
+use Rattle.std.proofs.Common.{◌≡◌, ◌≢◌, ℕ, suc, ◌+◌, ◌-◌, ◌*◌, ◌<◌, ◌≤◌, inl, inr, List, [], ◌∷◌, ◌++◌, length, refl, sym, ap, ◌∙◌, subst, arith, length-append}
+use Rattle.std.proofs.lemmas.Bool.{cases_lt}
 use Rattle.dg_base.specs.declared.run.Ending.TheVariants.{Failed}
 use Rattle.dg_meaning.specs.Values.{Value}
 use Rattle.dg_mid.specs.declared.code.RuleCode.{RuleCode}
@@ -21,7 +22,8 @@ use Rattle.dg_rt.proofs.Failing.{fail_works}
 use Rattle.dg_rt.proofs.Closing.{closings_work}
 use Rattle.dg_turn.specs.Told.{Telling}
 use Rattle.dg_turn.specs.Lies.{CellsAre, CallsIn, WayIn, ChoicesIn, MidIn}
-use Rattle.dg_turn.specs.Plays.{Playing, Represented, registers, CallAt, Comes}
+use Rattle.dg_turn.specs.Rest.{aux_at, gather_words}
+use Rattle.dg_turn.specs.Plays.{Playing, Outside, Represented, registers, CallAt, Comes}
 use Rattle.dg_turn.specs.Queries.{GoneBack, FailTurns, FailEnds}
 use Rattle.dg_turn.specs.Choices.{TakesAt, BackTurns}
 use Rattle.dg_turn.proofs.Standing.{fail_at, failed_at}
@@ -39,8 +41,15 @@ args_back sh c c' word v at (x ∷ xs) same cells =
     let rest = args_back sh c c' word (suc v) (suc at) xs (λ i lt. (let a : suc v + i ≡ v + suc i = omega arith in let b : at + suc i ≡ suc at + i = omega arith in ap c' a ∙ same (suc i) (omega arith) ∙ ap (λ (j : ℕ). c (heap_at + j)) b)) cells.1 in
     ap (λ (y : ℕ). y ∷ registers c' (suc v) (length xs)) here ∙ ap (λ (l : List ℕ). x ∷ l) rest
 
-module _ (t : Telling) (plays : Playing t) (output : List ℕ) (m : Mid) (x : Choice) (xs : List Choice) (z : ZState)
-    (named : x.state.heap ≡ x.place.height) (r : Represented t output (t.p.names.routine FAIL) m z) (h : ChoicesIn t r.sh r.cells r.trail (r.cells 5) (x ∷ xs)) where
+-- registers behind the arguments and areas behind the trail stay
+rest_of : (c' c : ℕ → ℕ) → ((k : ℕ) → 28 ≤ k → k < heap_at → k ≢ 29 → c' k ≡ c k) → ((k : ℕ) → trail_at ≤ k → c' k ≡ c k) → (k : ℕ) → 27 < k → k ≢ 29 → (35 < k → aux_at ≤ k) → c' k ≡ c k
+rest_of c' c rest others k low n29 far = elim (cases_lt 35 k) [
+  | inl lt ↦ (let y = far lt in others k (omega arith))
+  | inr le ↦ rest k (omega arith) (omega arith) n29
+]
+
+module _ (t : Telling) (plays : Playing t) (out : Outside) (m : Mid) (x : Choice) (xs : List Choice) (z : ZState)
+    (named : x.state.heap ≡ x.place.height) (r : Represented t out (t.p.names.routine FAIL) m z) (h : ChoicesIn t r.sh r.cells r.trail (gather_words m.gathered) (r.cells 5) (x ∷ xs)) where
   abbrev at : ℕ
   at = x.place.height
 
@@ -50,7 +59,7 @@ module _ (t : Telling) (plays : Playing t) (output : List ℕ) (m : Mid) (x : Ch
   field : (i k y : ℕ) → k ≡ at + i → Cell r.sh k y → r.cells (heap_at + (at + i)) ≡ y
   field i k y e cell = ap (λ (j : ℕ). r.cells (heap_at + j)) (sym e) ∙ cell_word k y cell
 
-  gone : GoesBack t.p 3500 19000 r.memory r.typed output r.drawn at r.cells h.saved.trail h.back.newer
+  gone : GoesBack t.p 3500 19000 r.memory out.typed out.output out.drawn at r.cells h.saved.trail h.back.newer
   gone =
       let s = r.mid.state in
       let top = s.heap in
@@ -61,11 +70,11 @@ module _ (t : Telling) (plays : Playing t) (output : List ℕ) (m : Mid) (x : Ch
       let all : r.cells 1 ≡ length (h.back.newer ++ h.saved.trail) = r.mid.height ∙ sym s.trail_len ∙ ap length h.back.trail_is in
       let few_trail = s.few_trail in
       let height = r.mid.height in
-      fail_works.goes t.p plays.has 3500 19000 (omega arith) (omega arith) r.memory r.typed output r.drawn at r.cells h.saved.trail h.back.newer r.holds h.word_is (omega arith)
+      fail_works.goes t.p plays.has 3500 19000 (omega arith) (omega arith) r.memory out.typed out.output out.drawn at r.cells h.saved.trail h.back.newer r.holds h.word_is (omega arith)
       (field 5 (suc (suc (suc (suc (suc at))))) x.state.trail (omega arith) h.cells_are.1.1.1.1.1.0 ∙ sym h.state.trail_len) all (omega arith) on
 
   -- memory stands for the machine there
-  mid_there : MidIn t h.saved.sh gone.cells' h.saved.trail (back_at x xs m)
+  mid_there : MidIn t out.words h.saved.sh gone.cells' h.saved.trail (back_at x xs m)
   mid_there =
       let cs = h.cells_are in
       let s = h.state in
@@ -81,13 +90,15 @@ module _ (t : Telling) (plays : Playing t) (output : List ℕ) (m : Mid) (x : Ch
       goes_back_in t r.sh r.cells gone.cells' r.trail m x xs r.mid h (λ k lt. gone.words k (omega arith)) (λ i lt. gone.others (trail_at + i) (omega arith))
       (gone.heap ∙ sym named) (gone.trail ∙ s.trail_len) (gone.mark ∙ (let e : at ≡ h.saved.sh.top = omega arith in ap at_place e))
       (gone.frame ∙ field 2 (suc (suc at)) h.e (omega arith) cs.1.1.0) (gone.choice ∙ field 0 at h.behind (omega arith) cs.0) (gone.inner ∙ field 3 (suc (suc (suc at))) h.l (omega arith) cs.1.1.1.0)
+      (gone.stop ∙ field 4 (suc (suc (suc (suc at)))) h.stop (omega arith) cs.1.1.1.1.0) (gone.gather ∙ field 6 (suc (suc (suc (suc (suc (suc at)))))) h.gather (omega arith) cs.1.1.1.1.1.1.0)
+      (λ k low n29 far. rest_of gone.cells' r.cells (λ k' le lt ne. gone.rest k' le lt ne) (λ k' le. gone.others k' le) k low n29 far)
 
   -- the routine that is answered comes next
-  to_next : (y : ℕ) → h.routine ≡ y → y < 65536 → Moved t output y gone.cells' h.saved.sh (back_at x xs m) gone.count z
+  to_next : (y : ℕ) → h.routine ≡ y → y < 65536 → Moved t out y gone.cells' h.saved.sh (back_at x xs m) gone.count z
   to_next y e small =
       let to : r.cells (heap_at + (at + 1)) ≡ y = field 1 (suc at) h.routine (omega arith) h.cells_are.1.0 ∙ e in
-      let runs = subst (λ (i : ℕ). ActsRun t.p 3500 19000 FAIL_ACTS FAIL_ACTS (state r.memory (0 ∷ 0 ∷ 0 ∷ 0 ∷ []) r.typed r.drawn output) (Returns i) (state gone.memory' gone.locals' r.typed r.drawn output) gone.count) to gone.runs in
-      moved t plays output (t.p.names.routine FAIL) m z r (routine_of 4 FAIL_ACTS) (fail_at t.p plays.has) (omega arith) y gone.count gone.memory' gone.locals' gone.cells' h.saved.sh h.saved.trail (back_at x xs m) runs gone.holds small mid_there
+      let runs = subst (λ (i : ℕ). ActsRun t.p 3500 19000 FAIL_ACTS FAIL_ACTS (state r.memory (0 ∷ 0 ∷ 0 ∷ 0 ∷ []) out.typed out.drawn out.output) (Returns i) (state gone.memory' gone.locals' out.typed out.drawn out.output) gone.count) to gone.runs in
+      moved t plays out (t.p.names.routine FAIL) m z r (routine_of 4 FAIL_ACTS) (fail_at t.p plays.has) (omega arith) y gone.count gone.memory' gone.locals' gone.cells' h.saved.sh h.saved.trail (back_at x xs m) runs gone.holds small mid_there
 
   -- the word of its routine, and what it costs
   word_small : h.routine < 65536
@@ -103,13 +114,13 @@ module _ (t : Telling) (plays : Playing t) (output : List ℕ) (m : Mid) (x : Ch
       omega arith
 
   -- to a block
-  to_block : (block : ℕ) → h.routine ≡ t.at_block block → Comes t output (t.at_block block) (back_at x xs m) (6 * (m.state.trail - x.state.trail) + 34) z
+  to_block : (block : ℕ) → h.routine ≡ t.at_block block → Comes t out (t.at_block block) (back_at x xs m) (6 * (m.state.trail - x.state.trail) + 34) z
   to_block block e =
       let go = to_next (t.at_block block) e (subst (λ (y : ℕ). y < 65536) e word_small) in
       record { there = go.there; count = gone.count + 2; few = few_in_all; leads = go.leads; rep = go.rep }
 
   -- to a block that takes a gathering out
-  to_taking : (block : ℕ) (into : Value) → h.routine ≡ t.at_block block → Shows h.saved.sh h.next into → TakesAt t output block into (back_at x xs m) (6 * (m.state.trail - x.state.trail) + 34) z
+  to_taking : (block : ℕ) (into : Value) → h.routine ≡ t.at_block block → Shows h.saved.sh h.next into → TakesAt t out block into (back_at x xs m) (6 * (m.state.trail - x.state.trail) + 34) z
   to_taking block into e shows =
       let go = to_next (t.at_block block) e (subst (λ (y : ℕ). y < 65536) e word_small) in
       let back : go.rep.cells 8 ≡ h.next = go.cells_are 8 (λ q. (omega arith)) ∙ gone.back ∙ field 7 (suc (suc (suc (suc (suc (suc (suc at))))))) h.next (omega arith) h.cells_are.1.1.1.1.1.1.1.0 in
@@ -134,7 +145,7 @@ module _ (t : Telling) (plays : Playing t) (output : List ℕ) (m : Mid) (x : Ch
         let many : c' 10 ≡ h.many = same 10 (λ e. (omega arith)) ∙ gone.many ∙ field 8 (suc (suc (suc (suc (suc (suc (suc (suc at)))))))) h.many (omega arith) cs.1.1.1.1.1.1.1.1.0 in
         rw (there, back, cut, many) i
 
-    turn : GoneBack t output rules call (first_of x.state.subst call) (r.cells 28) (back_at x xs m) (6 * (m.state.trail - x.state.trail) + 34) z
+    turn : GoneBack t out rules call (first_of x.state.subst call) (back_at x xs m) (6 * (m.state.trail - x.state.trail) + 34) z
     turn =
         let y = t.p.names.routine w.number in
         let cs = h.cells_are in
@@ -155,44 +166,43 @@ module _ (t : Telling) (plays : Playing t) (output : List ℕ) (m : Mid) (x : Ch
             key_is = go.cells_are 11 (λ e. (omega arith)) ∙ gone.key ∙ field 9 (suc (suc (suc (suc (suc (suc (suc (suc (suc at))))))))) h.key (omega arith) cs.1.1.1.1.1.1.1.1.1.0;
             found_is = go.cells_are 12 (λ e. (omega arith)) ∙ gone.begin;
           };
-          last_is = go.cells_are 28 (λ e. (omega arith)) ∙ gone.rest 28 (omega arith) (omega arith) (λ e. (omega arith));
         }
 
 pub fail_turns : FailTurns
-fail_turns t plays output m x xs call rules z e way ordered few r =
-    let h : ChoicesIn t r.sh r.cells r.trail (r.cells 5) (x ∷ xs) = subst (ChoicesIn t r.sh r.cells r.trail (r.cells 5)) e r.mid.choices in
+fail_turns t plays out m x xs call rules z e way ordered few r =
+    let h : ChoicesIn t r.sh r.cells r.trail (gather_words m.gathered) (r.cells 5) (x ∷ xs) = subst (ChoicesIn t r.sh r.cells r.trail (gather_words m.gathered) (r.cells 5)) e r.mid.choices in
     let names : ChoicesNamed m.next_tag m.state.heap (x ∷ xs) = subst (ChoicesNamed m.next_tag m.state.heap) e ordered in
     let w : CallsIn t h.saved.sh h.routine h.args h.next (at_place x.place.height) h.many h.key x.state.subst call rules = subst (WayIn t h.saved.sh h.routine h.args h.next (at_place x.place.height) h.many h.key x.state.subst) way h.way in
     let back : m.state.trail - x.state.trail ≡ undone m.choices m = sym (ap (λ (l : List Choice). undone l m) e) in
-    subst (λ (n : ℕ). GoneBack t output rules call (first_of x.state.subst call) (r.cells 28) (back_at x xs m) (6 * n + 34) z) back (turn t plays output m x xs z names.2 r h call rules few w)
+    subst (λ (n : ℕ). GoneBack t out rules call (first_of x.state.subst call) (back_at x xs m) (6 * n + 34) z) back (turn t plays out m x xs z names.2 r h call rules few w)
 
 -- ## Blocks
 
 pub back_turns : BackTurns
 back_turns = record {
-  goes = λ t plays output m x xs block z e way ordered r.
-      let h : ChoicesIn t r.sh r.cells r.trail (r.cells 5) (x ∷ xs) = subst (ChoicesIn t r.sh r.cells r.trail (r.cells 5)) e r.mid.choices in
+  goes = λ t plays out m x xs block z e way ordered r.
+      let h : ChoicesIn t r.sh r.cells r.trail (gather_words m.gathered) (r.cells 5) (x ∷ xs) = subst (ChoicesIn t r.sh r.cells r.trail (gather_words m.gathered) (r.cells 5)) e r.mid.choices in
       let names : ChoicesNamed m.next_tag m.state.heap (x ∷ xs) = subst (ChoicesNamed m.next_tag m.state.heap) e ordered in
       let w : h.routine ≡ t.at_block block = subst (WayIn t h.saved.sh h.routine h.args h.next (at_place x.place.height) h.many h.key x.state.subst) way h.way in
       let back : m.state.trail - x.state.trail ≡ undone m.choices m = sym (ap (λ (l : List Choice). undone l m) e) in
-      subst (λ (n : ℕ). Comes t output (t.at_block block) (back_at x xs m) (6 * n + 34) z) back (to_block t plays output m x xs z names.2 r h block w);
-  takes = λ t plays output m x xs block into z e way ordered r.
-      let h : ChoicesIn t r.sh r.cells r.trail (r.cells 5) (x ∷ xs) = subst (ChoicesIn t r.sh r.cells r.trail (r.cells 5)) e r.mid.choices in
+      subst (λ (n : ℕ). Comes t out (t.at_block block) (back_at x xs m) (6 * n + 34) z) back (to_block t plays out m x xs z names.2 r h block w);
+  takes = λ t plays out m x xs block into z e way ordered r.
+      let h : ChoicesIn t r.sh r.cells r.trail (gather_words m.gathered) (r.cells 5) (x ∷ xs) = subst (ChoicesIn t r.sh r.cells r.trail (gather_words m.gathered) (r.cells 5)) e r.mid.choices in
       let names : ChoicesNamed m.next_tag m.state.heap (x ∷ xs) = subst (ChoicesNamed m.next_tag m.state.heap) e ordered in
       let w : (h.routine ≡ t.at_block block) × Shows h.saved.sh h.next into = subst (WayIn t h.saved.sh h.routine h.args h.next (at_place x.place.height) h.many h.key x.state.subst) way h.way in
       let back : m.state.trail - x.state.trail ≡ undone m.choices m = sym (ap (λ (l : List Choice). undone l m) e) in
-      subst (λ (n : ℕ). TakesAt t output block into (back_at x xs m) (6 * n + 34) z) back (to_taking t plays output m x xs z names.2 r h block into w.0 w.1);
+      subst (λ (n : ℕ). TakesAt t out block into (back_at x xs m) (6 * n + 34) z) back (to_taking t plays out m x xs z names.2 r h block into w.0 w.1);
 }
 
 -- ## Without a choice
 
 pub fail_ends : FailEnds
-fail_ends t plays output m z none r =
+fail_ends t plays out m z none r =
     let p = t.p in
-    let empty : r.cells 5 ≡ 0 = subst (ChoicesIn t r.sh r.cells r.trail (r.cells 5)) none r.mid.choices in
-    let runs = fail_works.has_none p plays.has.mapped 3500 19000 r.memory r.typed output r.drawn r.cells r.holds empty in
-    let go = moved t plays output (p.names.routine FAIL) m z r (routine_of 4 FAIL_ACTS) (fail_at p plays.has) (omega arith) (p.names.routine FAILED) 2 r.memory (0 ∷ 0 ∷ 0 ∷ 0 ∷ []) r.cells r.sh r.trail m runs r.holds (plays.words FAILED) r.mid in
-    let k = closings_work.failed p plays.has go.rep.memory go.rep.typed output go.rep.drawn go.rep.cells go.rep.holds in
+    let empty : r.cells 5 ≡ 0 = subst (ChoicesIn t r.sh r.cells r.trail (gather_words m.gathered) (r.cells 5)) none r.mid.choices in
+    let runs = fail_works.has_none p plays.has.mapped 3500 19000 r.memory out.typed out.output out.drawn r.cells r.holds empty in
+    let go = moved t plays out (p.names.routine FAIL) m z r (routine_of 4 FAIL_ACTS) (fail_at p plays.has) (omega arith) (p.names.routine FAILED) 2 r.memory (0 ∷ 0 ∷ 0 ∷ 0 ∷ []) r.cells r.sh r.trail m runs r.holds (plays.words FAILED) r.mid in
+    let k = closings_work.failed p plays.has go.rep.memory out.typed out.output out.drawn go.rep.cells go.rep.holds in
     let few = k.few in
-    let over = closes_within t plays output (p.names.routine FAILED) m go.there go.rep (routine_of 0 FAILED_ACTS) (failed_at p plays.has) (omega arith) 1 0 (omega arith) (omega arith) k.count 25 (go.rep.cells 28) Failed go.rep.memory [] k.runs (omega arith) in
-    closes_then t output (go.rep.cells 28) (r.cells 28) Failed 4 4 25 30 z go.there (go.cells_are 28 (λ e. (omega arith))) (omega arith) (omega arith) go.leads over
+    let over = closes_within t plays out (p.names.routine FAILED) m go.there go.rep (routine_of 0 FAILED_ACTS) (failed_at p plays.has) (omega arith) 1 0 (omega arith) (omega arith) k.count 25 Failed go.rep.memory [] k.runs (omega arith) in
+    closes_then t out Failed 4 4 25 30 z go.there (omega arith) (omega arith) go.leads over

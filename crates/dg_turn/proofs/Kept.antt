@@ -3,10 +3,11 @@ use Rattle.std.proofs.Common.{◌≡◌, ◌≢◌, ℕ, ◌+◌, ◌<◌, ◌�
 use Rattle.dg_rt.specs.Cells.{replaced}
 use Rattle.dg_rt.specs.Areas.{heap_at, trail_at}
 use Rattle.dg_rt.proofs.Cells.{other_cell}
+use Rattle.dg_turn.proofs.Staying.{IsKept}
 
--- Words that differ in registers from 8 on, the one of the next routine, the top of the heap, and the heap's cells from one on, at most.
+-- Words that differ in registers that may be written, the one of the next routine, the top of the heap, and the heap's cells from one on, at most.
 abbrev pub Beyond : ℕ → (ℕ → ℕ) → (ℕ → ℕ) → Type 0
-Beyond top cells cells' = (k : ℕ) → k ≢ 0 → k ≢ 3 → (7 < k → 302 < k) → (heap_at + top ≤ k → trail_at ≤ k) → cells' k ≡ cells k
+Beyond top cells cells' = (k : ℕ) → k ≢ 0 → k ≢ 3 → IsKept k → (heap_at + top ≤ k → trail_at ≤ k) → cells' k ≡ cells k
 
 -- Words that differ in so many cells of the heap from one on, and in the register of a word, at most.
 abbrev pub KeptBut : ℕ → ℕ → (ℕ → ℕ) → (ℕ → ℕ) → Type 0
@@ -27,4 +28,4 @@ kept_wider at n at' n' a b low high f k ne far = f k ne (λ le. (let q : heap_at
 -- The twelve words behind the heap are nothing's.
 pub beyond_kept : (top at n : ℕ) (a b c : ℕ → ℕ) → top ≤ at → at + n ≤ 10012 → Beyond top a b → KeptBut at n b c → Beyond top a c
 beyond_kept top at n a b c le few old new k n0 n3 mid far =
-    new k (λ e. (let q : 302 < k = mid (omega arith) in omega arith)) (λ low. (let q : trail_at ≤ k = far (omega arith) in omega arith)) ∙ old k n0 n3 mid far
+    new k (λ e. (let q : 302 < k = mid.1 (omega arith) in omega arith)) (λ low. (let q : trail_at ≤ k = far (omega arith) in omega arith)) ∙ old k n0 n3 mid far

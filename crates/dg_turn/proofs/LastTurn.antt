@@ -2,14 +2,14 @@
 use Rattle.std.proofs.Common.{◌≡◌, ◌≢◌, ℕ, suc, ◌+◌, ◌*◌, ◌<◌, ◌≤◌, Bool, true, false, List, [], ◌∷◌, length, map, Some, refl, sym, ap, ◌∙◌, subst, arith}
 use Rattle.dg_base.specs.declared.program.Term.{Term}
 use Rattle.dg_base.specs.declared.run.Ending.TheVariants.{HeapLimit}
-use Rattle.dg_meaning.specs.Cells.{cells as cells_of}
+use Rattle.dg_meaning.specs.Cells.{nodes_of, cells as cells_of}
 use Rattle.dg_meaning.specs.Moves.{first_looks}
 use Rattle.dg_meaning.specs.Substitutions.{Substitution, links}
 use Rattle.dg_meaning.specs.Values.{Value, value_of}
 use Rattle.dg_unify.specs.Store.{State as State'}
 use Rattle.dg_mid.specs.Actions.{registers_of}
 use Rattle.dg_mid.specs.State.{Frame, Call, Mid, vars_of}
-use Rattle.dg_mid.specs.Step.{more, first_of}
+use Rattle.dg_mid.specs.Step.{call_of, more, first_of}
 use Rattle.z_model.specs.Run.{ZState}
 use Rattle.z_lang.specs.declared.act.Act.{Act}
 use Rattle.z_lang.specs.declared.act.Act.TheVariants as acts
@@ -33,9 +33,10 @@ use Rattle.dg_rt.proofs.TailCalling.{tail_call_works}
 use Rattle.dg_rt.proofs.UnifySteps.{steps_are}
 use Rattle.dg_turn.specs.Told.{Telling, FirstIs}
 use Rattle.dg_turn.specs.Lies.{bit_of, WordsIn, FramesIn, InnersIn, MidIn}
-use Rattle.dg_turn.specs.Plays.{Playing, registers, Closes}
+use Rattle.dg_turn.specs.Plays.{Playing, Outside, Represented, registers, Closes}
+use Rattle.dg_turn.specs.Terms.{AreNodes}
 use Rattle.dg_turn.specs.Queries.{some_of, ask_acts, asking_most, AskedAt}
-use Rattle.dg_turn.specs.LastQueries.{last_routine, left_at, next_of, last_call, LastAsking, LastTurns}
+use Rattle.dg_turn.specs.LastQueries.{last_routine, left_at, next_of, LastTurns}
 use Rattle.dg_turn.proofs.Standing.{ask_at, tail_call_at}
 use Rattle.dg_turn.proofs.Staying.{mid_with, mid_same}
 use Rattle.dg_turn.proofs.Rows.{registers_same, length_map}
@@ -45,24 +46,27 @@ use Rattle.dg_turn.proofs.Moving.{moved, closes}
 
 -- ## The frame at hand
 
-module _ (t : Telling) (has : HasRunTime t.p) (f w : ℕ) (typed output : List ℕ) (drawn : ℕ) (sh : Shape) (memory : List ℕ) (c : ℕ → ℕ) (trail : List ℕ) (m : Mid) (holds : Holds t.p.world.layout memory c) (mid : MidIn t sh c trail m) (fr : Frame) (fs : List Frame) (h : FramesIn t sh (c 4) (fr ∷ fs)) (end : ℕ) (end_is : end ≡ t.at_block 0) (end_small : end < 65536) where
-  -- What the routine does: where it goes on is answered, and memory stands for the machine of the call.
-  pub record Tailed (b : Bool) : Type 0 where
-    pub memory' : List ℕ
-    pub cells' : ℕ → ℕ
-    pub locals' : List ℕ
-    pub holds' : Holds t.p.world.layout memory' cells'
-    pub mid' : MidIn t sh cells' trail (left_at b fr fs m)
-    pub others : (k : ℕ) → k ≢ 4 → k ≢ 6 → cells' k ≡ c k
-    pub small : t.at_block (next_of b fr) < 65536
-    pub count : ℕ
-    pub few : count ≤ 8
-    pub runs : ActsRun t.p f w TAIL_CALL_ACTS TAIL_CALL_ACTS (state memory (end ∷ 0 ∷ []) typed drawn output) (Returns (t.at_block (next_of b fr))) (state memory' locals' typed drawn output) count
+-- What the routine does: where it goes on is answered, and memory stands for the machine of the call.
+pub record Tailed (t : Telling) (outer : ℕ → ℕ) (f w : ℕ) (memory typed output : List ℕ) (drawn : ℕ) (sh : Shape) (c : ℕ → ℕ) (trail : List ℕ) (left : Mid) (end y : ℕ) : Type 0 where
+  pub memory' : List ℕ
+  pub cells' : ℕ → ℕ
+  pub locals' : List ℕ
+  pub holds' : Holds t.p.world.layout memory' cells'
+  pub mid' : MidIn t outer sh cells' trail left
+  pub others : (k : ℕ) → k ≢ 4 → k ≢ 6 → cells' k ≡ c k
+  pub small : y < 65536
+  pub count : ℕ
+  pub few : count ≤ 8
+  pub runs : ActsRun t.p f w TAIL_CALL_ACTS TAIL_CALL_ACTS (state memory (end ∷ 0 ∷ []) typed drawn output) (Returns y) (state memory' locals' typed drawn output) count
+
+module _ (t : Telling) {outer : ℕ → ℕ} (has : HasRunTime t.p) (f w : ℕ) (typed output : List ℕ) (drawn : ℕ) (sh : Shape) (memory : List ℕ) (c : ℕ → ℕ) (trail : List ℕ) (m : Mid) (holds : Holds t.p.world.layout memory c) (mid : MidIn t outer sh c trail m) (fr : Frame) (fs : List Frame) (h : FramesIn t sh m.stops (c 4) (fr ∷ fs)) (end : ℕ) (end_is : end ≡ t.at_block 0) (end_small : end < 65536) where
+  abbrev At : Bool → Type 0
+  At b = Tailed t outer f w memory typed output drawn sh c trail (left_at b fr fs m) end (t.at_block (next_of b fr))
 
   at_cell : (k y : ℕ) → Cell sh k y → c (heap_at + k) ≡ y
   at_cell k y cell = let low = cell.fixed.0 in let top = mid.state.heap in let fits = mid.state.few in mid.state.stands.fixed k (omega arith) cell.fixed ∙ cell.is
 
-  by_many : (b : Bool) → fr.many ≡ b → Tailed b
+  by_many : (b : Bool) → fr.many ≡ b → At b
   by_many true e =
       let below = h.below in
       let top = mid.state.heap in
@@ -71,8 +75,8 @@ module _ (t : Telling) (has : HasRunTime t.p) (f w : ℕ) (typed output : List �
       let size : c (heap_at + (h.at + 4)) ≡ 2 * n + 1 = at_cell (h.at + 4) (2 * n + bit_of fr.many) h.many ∙ ap (λ (b : Bool). 2 * n + bit_of b) e in
       let k = tail_call_works.leaves t.p has f w memory typed output drawn h.at n end c holds h.word_is (omega arith) size (omega arith) in
       let to : c (heap_at + (h.at + 1)) ≡ t.at_block fr.next = at_cell (h.at + 1) (t.at_block fr.next) h.next in
-      let frames : FramesIn t sh (k.cells' 4) fs = subst (λ (x : ℕ). FramesIn t sh x fs) (sym (k.frame ∙ at_cell (h.at + 0) h.e h.e_is)) h.behind_is in
-      let inner : InnersIn sh (k.cells' 6) fr.inner = subst (λ (x : ℕ). InnersIn sh x fr.inner) (sym (k.inner ∙ at_cell (h.at + 3) h.l h.l_is)) h.inner in
+      let frames : FramesIn t sh m.stops (k.cells' 4) fs = subst (λ (x : ℕ). FramesIn t sh m.stops x fs) (sym (k.frame ∙ at_cell (h.at + 0) h.e h.e_is)) h.behind_is in
+      let inner : InnersIn sh m.stops (k.cells' 6) fr.inner = subst (λ (x : ℕ). InnersIn sh m.stops x fr.inner) (sym (k.inner ∙ at_cell (h.at + 3) h.l h.l_is)) h.inner in
       record {
         memory' = k.memory';
         cells' = k.cells';
@@ -92,7 +96,7 @@ module _ (t : Telling) (has : HasRunTime t.p) (f w : ℕ) (typed output : List �
       let n = length h.own in
       let size : c (heap_at + (h.at + 4)) ≡ 2 * n = at_cell (h.at + 4) (2 * n + bit_of fr.many) h.many ∙ ap (λ (b : Bool). 2 * n + bit_of b) e ∙ (let z : 2 * n + 0 ≡ 2 * n = omega arith in z) in
       let k = tail_call_works.stays t.p has f w memory typed output drawn h.at n end c holds h.word_is (omega arith) size (omega arith) in
-      let frames : FramesIn t sh (k.cells' 4) m.frames = subst (λ (x : ℕ). FramesIn t sh x m.frames) (sym (k.others 4 (λ q. (omega arith)))) mid.frames in
+      let frames : FramesIn t sh m.stops (k.cells' 4) m.frames = subst (λ (x : ℕ). FramesIn t sh m.stops x m.frames) (sym (k.others 4 (λ q. (omega arith)))) mid.frames in
       let few' = k.few in
       record {
         memory' = k.memory';
@@ -107,8 +111,29 @@ module _ (t : Telling) (has : HasRunTime t.p) (f w : ℕ) (typed output : List �
         runs = subst (λ (x : ℕ). ActsRun t.p f w TAIL_CALL_ACTS TAIL_CALL_ACTS (state memory (end ∷ 0 ∷ []) typed drawn output) (Returns x) (state k.memory' k.locals' typed drawn output) k.count) end_is k.runs;
       }
 
-  pub tailed : Tailed fr.many
+  tailed : At fr.many
   tailed = by_many fr.many refl
+
+-- without a frame it is as where one answer is wanted
+tailed_alone : (t : Telling) {outer : ℕ → ℕ} → HasRunTime t.p → (f w : ℕ) (typed output : List ℕ) (drawn : ℕ) (sh : Shape) (memory : List ℕ) (c : ℕ → ℕ) (trail : List ℕ) (m : Mid) → Holds t.p.world.layout memory c → MidIn t outer sh c trail m → m.frames ≡ [] → (end : ℕ) → end ≡ t.at_block 0 → end < 65536 →
+    Tailed t outer f w memory typed output drawn sh c trail (record m { inner = [] }) end (t.at_block 0)
+tailed_alone t has f w typed output drawn sh memory c trail m holds mid none end end_is small =
+    let empty : c 4 ≡ 0 = subst (FramesIn t sh m.stops (c 4)) none mid.frames in
+    let k = tail_call_works.has_none t.p has f w memory typed output drawn end c holds empty in
+    let frames : FramesIn t sh m.stops (k.cells' 4) m.frames = subst (λ (x : ℕ). FramesIn t sh m.stops x m.frames) (sym (k.others 4 (λ q. (omega arith)))) mid.frames in
+    let few' = k.few in
+    record {
+      memory' = k.memory';
+      cells' = k.cells';
+      locals' = k.locals';
+      holds' = k.holds;
+      mid' = mid_with t sh c k.cells' trail m m.frames [] (λ j n0 n4 n6 far. k.others j n6) frames k.inner mid;
+      others = λ j n4 n6. k.others j n6;
+      small = subst (λ (x : ℕ). x < 65536) end_is small;
+      count = k.count;
+      few = omega arith;
+      runs = subst (λ (x : ℕ). ActsRun t.p f w TAIL_CALL_ACTS TAIL_CALL_ACTS (state memory (end ∷ 0 ∷ []) typed drawn output) (Returns x) (state k.memory' k.locals' typed drawn output) k.count) end_is k.runs;
+    }
 
 -- the state of the store stays
 same_state : (b : Bool) (f : Frame) (fs : List Frame) (m : Mid) → (left_at b f fs m).state ≡ m.state
@@ -122,22 +147,16 @@ looks_same a b e (v ∷ vs) = ap (λ (S : Substitution). 1 + links S v) e
 
 -- ## Behind the arguments
 
-module _ (t : Telling) (plays : Playing t) (body : List Act) (typed output : List ℕ) (drawn : ℕ) (memory : List ℕ) (c : ℕ → ℕ) (sh : Shape) (trail : List ℕ) (m : Mid) (holds : Holds t.p.world.layout memory c) (mid : MidIn t sh c trail m) (f : Frame) (fs : List Frame) (h : FramesIn t sh (c 4) (f ∷ fs)) (end rules : ℕ) (end_is : t.p.names.routine end ≡ t.at_block 0) where
+module _ (t : Telling) {outer : ℕ → ℕ} (plays : Playing t) (body : List Act) (typed output : List ℕ) (drawn : ℕ) (memory : List ℕ) (c : ℕ → ℕ) (sh : Shape) (trail : List ℕ) (m : Mid) (left : Mid) (same : left.state ≡ m.state) (y end rules : ℕ) (k : Tailed t outer 3000 18000 memory typed output drawn sh c trail left (t.p.names.routine end) y) where
   abbrev now : List ℕ → State
   now memory = state memory [] typed drawn output
-
-  abbrev y : ℕ
-  y = t.at_block (next_of f.many f)
-
-  abbrev left : Mid
-  left = left_at f.many f fs m
 
   -- What comes behind was answered into a register.
   record Answered : Type 0 where
     memory' : List ℕ
     cells' : ℕ → ℕ
     holds' : Holds t.p.world.layout memory' cells'
-    mid' : MidIn t sh cells' trail left
+    mid' : MidIn t outer sh cells' trail left
     answer : cells' 36 ≡ y
     small : y < 65536
     stay : (j : ℕ) → 6 < j → j ≢ 36 → cells' j ≡ c j
@@ -145,8 +164,8 @@ module _ (t : Telling) (plays : Playing t) (body : List Act) (typed output : Lis
     few : count ≤ 9
     runs : (rest : List Act) (o : ActsOutcome) (s' : State) (n : ℕ) → ActsRun t.p 3500 19000 body rest (now memory') o s' n → ActsRun t.p 3500 19000 body (acts.Call (Some 52) (atoms.Routine TAIL_CALL) (args.One (atoms.Routine end)) ∷ rest) (now memory) o s' (count + n)
 
-  answers : (k : Tailed t plays.has 3000 18000 typed output drawn sh memory c trail m holds mid f fs h (t.p.names.routine end) end_is (plays.words end) f.many) → Answered
-  answers k =
+  answers : Answered
+  answers =
       let high = plays.has.mapped.room in
       let s1 = state k.memory' k.locals' typed drawn output in
       let put = puts t.p (left_with (now memory) s1) k.cells' 52 y k.holds' (omega arith) (omega arith) (omega arith) k.small in
@@ -155,7 +174,7 @@ module _ (t : Telling) (plays : Playing t) (body : List Act) (typed output : Lis
         memory' = with_cell k.memory' 36 y;
         cells' = replaced k.cells' 36 y;
         holds' = put.holds;
-        mid' = mid_same t sh k.cells' (replaced k.cells' 36 y) trail left (λ j n0 far. other_cell k.cells' 36 y j (λ (e : j ≡ 36). (let q : 302 < j = far (omega arith) in omega arith))) k.mid';
+        mid' = mid_same t sh k.cells' (replaced k.cells' 36 y) trail left (λ j n0 far. other_cell k.cells' 36 y j (λ (e : j ≡ 36). (let q : 302 < j = far.1 (omega arith) in omega arith))) k.mid';
         answer = same_cell k.cells' 36 y;
         small = k.small;
         stay = λ j low n36. other_cell k.cells' 36 y j n36 ∙ k.others j (λ e. (omega arith)) (λ e. (omega arith));
@@ -173,7 +192,7 @@ module _ (t : Telling) (plays : Playing t) (body : List Act) (typed output : Lis
       pub memory' : List ℕ
       pub cells' : ℕ → ℕ
       pub holds' : Holds t.p.world.layout memory' cells'
-      pub mid' : MidIn t sh cells' trail left
+      pub mid' : MidIn t outer sh cells' trail left
       pub back : cells' 8 ≡ y
       pub cut : cells' 9 ≡ at_place m.state.heap
       pub wanted : cells' 10 ≡ bit_of many
@@ -187,8 +206,8 @@ module _ (t : Telling) (plays : Playing t) (body : List Act) (typed output : Lis
     asks : length values ≤ 12 → Answered → Asked
     asks short q =
         let high = plays.has.mapped.room in
-        let same_subst : left.state.subst ≡ m.state.subst = ap (λ (s : State'). s.subst) (same_state f.many f fs m) in
-        let same_heap : left.state.heap ≡ m.state.heap = ap (λ (s : State'). s.heap) (same_state f.many f fs m) in
+        let same_subst : left.state.subst ≡ m.state.subst = ap (λ (s : State'). s.subst) same in
+        let same_heap : left.state.heap ≡ m.state.heap = ap (λ (s : State'). s.heap) same in
         let looks = looks_same left m same_subst values in
         let words2 : WordsIn sh (registers q.cells' 16 (length values)) values = subst (λ (l : List ℕ). WordsIn sh l values) (sym (registers_same c q.cells' 16 (length values) (λ j low lt. q.stay j (omega arith) (λ e. (omega arith))))) words in
         let b = asks_of t plays.has 3000 18000 (omega arith) (omega arith) typed output drawn q.memory' q.cells' sh trail left q.holds' q.mid' env many y q.small ts call args_are words2 in
@@ -213,32 +232,34 @@ module _ (t : Telling) (plays : Playing t) (body : List Act) (typed output : Lis
         }
 
     pub asked : length values ≤ 12 → Asked
-    asked short = asks short (answers (tailed t plays.has 3000 18000 typed output drawn sh memory c trail m holds mid f fs h (t.p.names.routine end) end_is (plays.words end)))
+    asked short = asks short answers
 
 -- ## The turn
 
-module _ (t : Telling) (plays : Playing t) (output : List ℕ) (ts : List Term) (many : Bool) (rules : ℕ) (f : Frame) (fs : List Frame) (m : Mid) (z : ZState) (a : LastAsking t output ts many rules f fs m z) where
+module _ (t : Telling) (plays : Playing t) (out : Outside) (ts : List Term) (many : Bool) (x end rules : ℕ) (m : Mid) (z : ZState) (r : Represented t out x m z) (there : t.p.routine_at x ≡ Some (last_routine t.program ts end many rules)) (short : length ts ≤ 12) (nodes : AreNodes t.program (nodes_of ts)) where
   abbrev routine : Routine
-  routine = last_routine t.program ts a.end many rules
+  routine = last_routine t.program ts end many rules
 
   abbrev behind_terms : List Act
-  behind_terms = acts.Call (Some 52) (atoms.Routine TAIL_CALL) (args.One (atoms.Routine a.end)) ∷ ask_acts (atoms.Var 52) many ts rules
+  behind_terms = acts.Call (Some 52) (atoms.Routine TAIL_CALL) (args.One (atoms.Routine end)) ∷ ask_acts (atoms.Var 52) many ts rules
 
-  turn : m.state.heap + cells_of t.program ts ≤ 10000 → let call = last_call t.program ts many f m in AskedAt t output rules call (first_of m.state.subst call) (a.rep.cells 28) (left_at f.many f fs (more (cells_of t.program ts) m)) (asking_most t.program ts m) z
-  turn room =
+  abbrev m' : Mid
+  m' = more (cells_of t.program ts) m
+
+  abbrev TailsTo : Mid → ℕ → Type 0
+  TailsTo left y = (sh : Shape) (memory : List ℕ) (c : ℕ → ℕ) → Holds t.p.world.layout memory c → MidIn t out.words sh c r.trail m' → Tailed t out.words 3000 18000 memory out.typed out.output out.drawn sh c r.trail left (t.p.names.routine end) y
+
+  turn : m.state.heap + cells_of t.program ts ≤ 10000 → (left : Mid) → left.state ≡ m'.state → (next : ℕ) → TailsTo left (t.at_block next) →
+      let call = call_of (map (value_of t.program (vars_of m.frames)) ts) many next m' in AskedAt t out rules call (first_of m.state.subst call) left (asking_most t.program ts m) z
+  turn room left same next tails =
       let p = t.p in
-      let r = a.rep in
-      let n = cells_of t.program ts in
-      let m' = more n m in
       let env = vars_of m.frames in
       let values = map (value_of t.program env) ts in
-      let call = last_call t.program ts many f m in
-      let short = a.short in
-      let w1 = writes_terms t plays.has 3500 19000 r.sh r.memory r.typed output r.drawn r.cells r.trail m r.holds r.mid routine.body (omega arith) (omega arith) behind_terms 32 ts (omega arith) (omega arith) a.nodes room in
+      let call = call_of values many next m' in
+      let w1 = writes_terms t plays.has 3500 19000 r.sh r.memory out.typed out.output out.drawn r.cells r.trail m r.holds r.mid routine.body (omega arith) (omega arith) behind_terms 32 ts (omega arith) (omega arith) (λ q. (omega arith)) nodes room in
       let size = length_map t.program env ts in
-      let h : FramesIn t w1.sh' (w1.cells' 4) (f ∷ fs) = subst (FramesIn t w1.sh' (w1.cells' 4)) a.frames w1.mid.frames in
-      let b = asked t plays routine.body r.typed output r.drawn w1.memory' w1.cells' w1.sh' r.trail m' w1.holds w1.mid f fs h a.end rules a.end_is env ts many call refl w1.words (omega arith) in
-      let go = moved t plays output a.x m z r routine a.there (omega arith) (p.names.routine rules) (steps w1.count b.count) b.memory' [] b.cells' w1.sh' r.trail (left_at f.many f fs m') (w1.runs (Returns (p.names.routine rules)) (state b.memory' [] r.typed r.drawn output) b.count b.runs) b.holds' (plays.words rules) b.mid' in
+      let b = asked t plays routine.body out.typed out.output out.drawn w1.memory' w1.cells' w1.sh' r.trail m' left same (t.at_block next) end rules (tails w1.sh' w1.memory' w1.cells' w1.holds w1.mid) env ts many call refl w1.words (omega arith) in
+      let go = moved t plays out x m z r routine there (omega arith) (p.names.routine rules) (steps w1.count b.count) b.memory' [] b.cells' w1.sh' r.trail left (w1.runs (Returns (p.names.routine rules)) (state b.memory' [] out.typed out.drawn out.output) b.count b.runs) b.holds' (plays.words rules) b.mid' in
       let few1 = w1.few in
       let few2 = b.few in
       let e = steps_are w1.count b.count in
@@ -260,18 +281,22 @@ module _ (t : Telling) (plays : Playing t) (output : List ℕ) (ts : List Term) 
           key_is = go.cells_are 11 (λ q. (omega arith));
           found_is = go.cells_are 12 (λ q. (omega arith)) ∙ b.begin;
         };
-        last_is = go.cells_are 28 (λ q. (omega arith)) ∙ b.stay 28 (omega arith) (λ q. (omega arith)) ∙ w1.others 28 (λ q. (omega arith)) (λ q. (omega arith)) (λ q. (omega arith)) (λ q. (omega arith)) (omega arith);
       }
 
-  no_room : 10000 < m.state.heap + cells_of t.program ts → Closes t output (a.rep.cells 28) HeapLimit (10 + closing_most) z
+  no_room : 10000 < m.state.heap + cells_of t.program ts → Closes t out HeapLimit (10 + closing_most) z
   no_room over =
-      let r = a.rep in
-      let k = meets_terms t plays.has 3500 19000 r.sh r.memory r.typed output r.drawn r.cells r.trail m r.holds r.mid routine.body (omega arith) (omega arith) behind_terms 32 ts over in
+      let k = meets_terms t plays.has 3500 19000 r.sh r.memory out.typed out.output out.drawn r.cells r.trail m r.holds r.mid routine.body (omega arith) (omega arith) behind_terms 32 ts over in
       let few = k.few in
-      closes t plays output a.x m z r routine a.there (omega arith) k.count (10 + closing_most) (r.cells 28) HeapLimit k.memory' k.locals' k.runs (omega arith)
+      closes t plays out x m z r routine there (omega arith) k.count (10 + closing_most) HeapLimit k.memory' k.locals' k.runs (omega arith)
 
 pub last_turns : LastTurns
 last_turns = record {
-  asks = λ t plays output ts many rules f fs m z a room. turn t plays output ts many rules f fs m z a room;
-  meets = λ t plays output ts many rules f fs m z a over. no_room t plays output ts many rules f fs m z a over;
+  asks = λ t plays out ts many rules f fs m z a room.
+      turn t plays out ts many a.x a.end rules m z a.rep a.there a.short a.nodes room (left_at f.many f fs (more (cells_of t.program ts) m)) (same_state f.many f fs (more (cells_of t.program ts) m)) (next_of f.many f)
+      (λ sh memory c holds mid. tailed t plays.has 3000 18000 out.typed out.output out.drawn sh memory c a.rep.trail (more (cells_of t.program ts) m) holds mid f fs (subst (FramesIn t sh m.stops (c 4)) a.frames mid.frames) (t.p.names.routine a.end) a.end_is (plays.words a.end));
+  asks_alone = λ t plays out ts many rules m z a room.
+      turn t plays out ts many a.x a.end rules m z a.rep a.there a.short a.nodes room (record (more (cells_of t.program ts) m) { inner = [] }) refl 0
+      (λ sh memory c holds mid. tailed_alone t plays.has 3000 18000 out.typed out.output out.drawn sh memory c a.rep.trail (more (cells_of t.program ts) m) holds mid a.frames (t.p.names.routine a.end) a.end_is (plays.words a.end));
+  meets = λ t plays out ts many rules f fs m z a over. no_room t plays out ts many a.x a.end rules m z a.rep a.there a.short a.nodes over;
+  alone_meets = λ t plays out ts many rules m z a over. no_room t plays out ts many a.x a.end rules m z a.rep a.there a.short a.nodes over;
 }

@@ -1,6 +1,7 @@
+pub mod Rows
+pub mod Resting
 pub mod Growing
 pub mod Staying
-pub mod Rows
 pub mod Steps
 pub mod Standing
 pub mod Environment
@@ -35,5 +36,8 @@ pub mod OnceTurn
 pub mod AtFrame
 pub mod ReturnTurn
 pub mod LastTurn
+pub mod Between
+pub mod ShieldTurn
+pub mod StopTurn
 pub mod Begun
 pub mod Paid

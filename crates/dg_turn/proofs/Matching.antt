@@ -56,12 +56,12 @@ bound_then : (m : Mid) (u v : Unified) → trail_more (bound u m).state v ≡ tr
 bound_then m u v e = ap (λ (n : ℕ). record m { state = record m.state { subst = v.subst; trail = n } }) e
 
 -- Acts went on behind the matches: whether values have clashed is told, and memory stands for the machine with what was bound.
-pub record Matched (t : Telling) (f w : ℕ) (body rest all : List Act) (sh : Shape) (memory typed output : List ℕ) (drawn : ℕ) (c : ℕ → ℕ) (m : Mid) (u : Unified) (most : ℕ) : Type 0 where
+pub record Matched (t : Telling) (outer : ℕ → ℕ) (f w : ℕ) (body rest all : List Act) (sh : Shape) (memory typed output : List ℕ) (drawn : ℕ) (c : ℕ → ℕ) (m : Mid) (u : Unified) (most : ℕ) : Type 0 where
   pub memory' : List ℕ
   pub cells' : ℕ → ℕ
   pub trail' : List ℕ
   pub holds : Holds t.p.world.layout memory' cells'
-  pub mid : MidIn t sh cells' trail' (bound u m)
+  pub mid : MidIn t outer sh cells' trail' (bound u m)
   pub clash : cells' 13 ≡ 1 - bit u.agrees
   pub others : (k : ℕ) → k ≢ 1 → k ≢ 13 → k < 303 → cells' k ≡ c k
   pub count : ℕ
@@ -77,11 +77,11 @@ pub record Full (t : Telling) (f w : ℕ) (body all : List Act) (memory typed ou
   pub runs : ActsRun t.p f w body all (state memory [] typed drawn output) (Stops AtQuit) (state memory' locals' typed drawn (output ++ closing (c 28) TrailLimit)) count
 
 -- Both, by what the bindings take of the trail.
-pub record Goes (t : Telling) (f w : ℕ) (body rest all : List Act) (sh : Shape) (memory typed output : List ℕ) (drawn : ℕ) (c : ℕ → ℕ) (m : Mid) (u : Unified) (most : ℕ) : Type 0 where
-  pub matched : trail_more m.state u ≤ 2000 → Matched t f w body rest all sh memory typed output drawn c m u most
+pub record Goes (t : Telling) (outer : ℕ → ℕ) (f w : ℕ) (body rest all : List Act) (sh : Shape) (memory typed output : List ℕ) (drawn : ℕ) (c : ℕ → ℕ) (m : Mid) (u : Unified) (most : ℕ) : Type 0 where
+  pub matched : trail_more m.state u ≤ 2000 → Matched t outer f w body rest all sh memory typed output drawn c m u most
   pub full : 2000 < trail_more m.state u → Full t f w body all memory typed output drawn c most
 
-module _ (t : Telling) (has : HasRunTime t.p) (f w : ℕ) (frames_left : 3400 ≤ f) (words_left : 16700 ≤ w) (sh : Shape) (typed output : List ℕ) (drawn : ℕ) (body rest : List Act) where
+module _ (t : Telling) (outer : ℕ → ℕ) (has : HasRunTime t.p) (f w : ℕ) (frames_left : 3400 ≤ f) (words_left : 16700 ≤ w) (sh : Shape) (typed output : List ℕ) (drawn : ℕ) (body rest : List Act) where
   abbrev now : List ℕ → State
   now memory = state memory [] typed drawn output
 
@@ -107,7 +107,7 @@ module _ (t : Telling) (has : HasRunTime t.p) (f w : ℕ) (frames_left : 3400 �
     pub cells' : ℕ → ℕ
     pub trail' : List ℕ
     pub holds : Holds t.p.world.layout memory' cells'
-    pub mid : MidIn t sh cells' trail' (bound u m)
+    pub mid : MidIn t outer sh cells' trail' (bound u m)
     pub clash : cells' 13 ≡ 1 - bit u.agrees
     pub others : (k : ℕ) → k ≢ 1 → k ≢ 13 → k < 303 → cells' k ≡ c k
     pub locals' : List ℕ
@@ -122,7 +122,7 @@ module _ (t : Telling) (has : HasRunTime t.p) (f w : ℕ) (frames_left : 3400 �
     pub few : count ≤ most + 5 + closing_most
     pub runs : ActsRun t.p 3337 16685 MATCH_ACTS MATCH_ACTS (state memory (x ∷ y ∷ 0 ∷ 0 ∷ []) typed drawn output) (Stops AtQuit) (state memory' locals' typed drawn (output ++ closing (c 28) TrailLimit)) count
 
-  module _ (memory : List ℕ) (c : ℕ → ℕ) (trail : List ℕ) (m : Mid) (h : Holds t.p.world.layout memory c) (mid : MidIn t sh c trail m) (none : c 13 ≡ 0) (x y : ℕ) (a b : Value) (sx : Shows sh x a) (sy : Shows sh y b) where
+  module _ (memory : List ℕ) (c : ℕ → ℕ) (trail : List ℕ) (m : Mid) (h : Holds t.p.world.layout memory c) (mid : MidIn t outer sh c trail m) (none : c 13 ≡ 0) (x y : ℕ) (a b : Value) (sx : Shows sh x a) (sy : Shows sh y b) where
     abbrev answer : Unified
     answer = unify m.state.subst a b
 
@@ -141,7 +141,7 @@ module _ (t : Telling) (has : HasRunTime t.p) (f w : ℕ) (frames_left : 3400 �
           cells' = cells';
           trail' = k.at.trail;
           holds = holds;
-          mid = mid_same t sh k.cells cells' k.at.trail (bound answer m) (λ j ne far. same j (λ (e : j ≡ 13). (let q : 302 < j = far (omega arith) in omega arith))) behind;
+          mid = mid_same t sh k.cells cells' k.at.trail (bound answer m) (λ j ne far. same j (λ (e : j ≡ 13). (let q = far.0 (omega arith) in omega arith))) behind;
           clash = clash;
           others = λ j n1 n13 low. same j n13 ∙ k.at.others j n1 (λ le. (omega arith));
           locals' = locals';
@@ -176,10 +176,10 @@ module _ (t : Telling) (has : HasRunTime t.p) (f w : ℕ) (frames_left : 3400 �
 
   -- So it is with all, from whatever memory stands for a machine.
   abbrev Others : ℕ → ℕ → ℕ → List Value → List Value → Type 0
-  Others n v x xs ys = (memory : List ℕ) (c : ℕ → ℕ) (trail : List ℕ) (m : Mid) → Holds t.p.world.layout memory c → MidIn t sh c trail m → c 13 ≡ 0 → InRegisters sh c (v - 16) xs → InRegisters sh c (x - 16) ys →
-      Goes t f w body rest (match_acts v x n ++ rest) sh memory typed output drawn c m (solve m.state.subst (zip xs ys)) (cost m.state.subst (zip xs ys) n)
+  Others n v x xs ys = (memory : List ℕ) (c : ℕ → ℕ) (trail : List ℕ) (m : Mid) → Holds t.p.world.layout memory c → MidIn t outer sh c trail m → c 13 ≡ 0 → InRegisters sh c (v - 16) xs → InRegisters sh c (x - 16) ys →
+      Goes t outer f w body rest (match_acts v x n ++ rest) sh memory typed output drawn c m (solve m.state.subst (zip xs ys)) (cost m.state.subst (zip xs ys) n)
 
-  module _ (n v x : ℕ) (memory : List ℕ) (c : ℕ → ℕ) (trail : List ℕ) (m : Mid) (a b : Value) (xs ys : List Value) (ex : length xs ≡ n) (ey : length ys ≡ n) (h : Holds t.p.world.layout memory c) (mid : MidIn t sh c trail m) (none : c 13 ≡ 0)
+  module _ (n v x : ℕ) (memory : List ℕ) (c : ℕ → ℕ) (trail : List ℕ) (m : Mid) (a b : Value) (xs ys : List Value) (ex : length xs ≡ n) (ey : length ys ≡ n) (h : Holds t.p.world.layout memory c) (mid : MidIn t outer sh c trail m) (none : c 13 ≡ 0)
       (lv : 30 ≤ v) (hv : v + suc n ≤ 240) (lx : 30 ≤ x) (hx : x + suc n ≤ 240) (rx : InRegisters sh c (v - 16) (a ∷ xs)) (ry : InRegisters sh c (x - 16) (b ∷ ys)) (ih : Others n (suc v) (suc x) xs ys) where
     abbrev S : Substitution
     S = m.state.subst
@@ -224,7 +224,7 @@ module _ (t : Telling) (has : HasRunTime t.p) (f w : ℕ) (frames_left : 3400 �
         }
 
     -- the first clashes
-    first_clashes : u.agrees ≡ false → Goes t f w body rest all sh memory typed output drawn c m u (15 * u.count + 8 * compared S ((a, b) ∷ es) + 6 * suc n)
+    first_clashes : u.agrees ≡ false → Goes t outer f w body rest all sh memory typed output drawn c m u (15 * u.count + 8 * compared S ((a, b) ∷ es) + 6 * suc n)
     first_clashes e = record {
       matched = λ few.
           let sum = letters_are in
@@ -252,7 +252,7 @@ module _ (t : Telling) (has : HasRunTime t.p) (f w : ℕ) (frames_left : 3400 �
     }
 
     -- the first agrees, and the others come behind it
-    first_agrees : u.agrees ≡ true → Goes t f w body rest all sh memory typed output drawn c m (counted u.count (solve u.subst es)) (15 * (u.count + (solve u.subst es).count) + 8 * compared S ((a, b) ∷ es) + 6 * suc n)
+    first_agrees : u.agrees ≡ true → Goes t outer f w body rest all sh memory typed output drawn c m (counted u.count (solve u.subst es)) (15 * (u.count + (solve u.subst es).count) + 8 * compared S ((a, b) ∷ es) + 6 * suc n)
     first_agrees e =
         let sum : compared S ((a, b) ∷ es) ≡ compared S ((a, b) ∷ []) + compared u.subst es = letters_are ∙ rw e refl in
         let v2 = solve u.subst es in
@@ -261,7 +261,7 @@ module _ (t : Telling) (has : HasRunTime t.p) (f w : ℕ) (frames_left : 3400 �
         let then = trail_then m u v2 grew.made grew'.made grew.is grew'.is in
         let first_trail = more_is m.state u grew.made grew.is in
         let second_trail = more_is (bound u m).state v2 grew'.made grew'.is in
-        let go : (fit : trail_more m.state u ≤ 2000) → Goes t f w body rest (match_acts (suc v) (suc x) n ++ rest) sh (first fit).memory' typed output drawn (first fit).cells' (bound u m) v2 (cost u.subst es n) = λ fit.
+        let go : (fit : trail_more m.state u ≤ 2000) → Goes t outer f w body rest (match_acts (suc v) (suc x) n ++ rest) sh (first fit).memory' typed output drawn (first fit).cells' (bound u m) v2 (cost u.subst es n) = λ fit.
         let r = first fit in
         let zero_is : r.cells' 13 ≡ 0 = r.clash ∙ ap (λ (g : Bool). 1 - bit g) e in
         let nv : suc v - 16 ≡ suc (v - 16) = omega arith in
@@ -281,7 +281,7 @@ module _ (t : Telling) (has : HasRunTime t.p) (f w : ℕ) (frames_left : 3400 �
                 cells' = o.cells';
                 trail' = o.trail';
                 holds = o.holds;
-                mid = subst (MidIn t sh o.cells' o.trail') (bound_then m u v2 then) o.mid;
+                mid = subst (MidIn t outer sh o.cells' o.trail') (bound_then m u v2 then) o.mid;
                 clash = o.clash;
                 others = λ k n1 n13 low. o.others k n1 n13 low ∙ r.others k n1 n13 low;
                 count = suc r.count + o.count;
@@ -310,30 +310,30 @@ module _ (t : Telling) (has : HasRunTime t.p) (f w : ℕ) (frames_left : 3400 �
           ];
         }
 
-    by_answer : (agrees : Bool) → u.agrees ≡ agrees → solve S ((a, b) ∷ es) ≡ and_then u (λ S'. solve S' es) → Goes t f w body rest all sh memory typed output drawn c m (solve S ((a, b) ∷ es)) (cost S ((a, b) ∷ es) (suc n))
+    by_answer : (agrees : Bool) → u.agrees ≡ agrees → solve S ((a, b) ∷ es) ≡ and_then u (λ S'. solve S' es) → Goes t outer f w body rest all sh memory typed output drawn c m (solve S ((a, b) ∷ es)) (cost S ((a, b) ∷ es) (suc n))
     by_answer false e is =
         let q : solve S ((a, b) ∷ es) ≡ u = is ∙ rw e refl in
-        subst (λ (z : Unified). Goes t f w body rest all sh memory typed output drawn c m z (15 * z.count + 8 * compared S ((a, b) ∷ es) + 6 * suc n)) (sym q) (first_clashes e)
+        subst (λ (z : Unified). Goes t outer f w body rest all sh memory typed output drawn c m z (15 * z.count + 8 * compared S ((a, b) ∷ es) + 6 * suc n)) (sym q) (first_clashes e)
     by_answer true e is =
         let q : solve S ((a, b) ∷ es) ≡ counted u.count (solve u.subst es) = is ∙ rw e refl in
-        subst (λ (z : Unified). Goes t f w body rest all sh memory typed output drawn c m z (15 * z.count + 8 * compared S ((a, b) ∷ es) + 6 * suc n)) (sym q) (first_agrees e)
+        subst (λ (z : Unified). Goes t outer f w body rest all sh memory typed output drawn c m z (15 * z.count + 8 * compared S ((a, b) ∷ es) + 6 * suc n)) (sym q) (first_agrees e)
 
-    pub all_matched : Goes t f w body rest all sh memory typed output drawn c m (solve S ((a, b) ∷ es)) (cost S ((a, b) ∷ es) (suc n))
+    pub all_matched : Goes t outer f w body rest all sh memory typed output drawn c m (solve S ((a, b) ∷ es)) (cost S ((a, b) ∷ es) (suc n))
     all_matched = by_answer u.agrees refl (solve_first S (a, b) es mid.state.stands.sound)
 
-  pub matches : (n v x : ℕ) (memory : List ℕ) (c : ℕ → ℕ) (trail : List ℕ) (m : Mid) (xs ys : List Value) → length xs ≡ n → length ys ≡ n → Holds t.p.world.layout memory c → MidIn t sh c trail m → c 13 ≡ 0 → 30 ≤ v → v + n ≤ 240 → 30 ≤ x → x + n ≤ 240 → InRegisters sh c (v - 16) xs → InRegisters sh c (x - 16) ys →
-      Goes t f w body rest (match_acts v x n ++ rest) sh memory typed output drawn c m (solve m.state.subst (zip xs ys)) (cost m.state.subst (zip xs ys) n)
+  pub matches : (n v x : ℕ) (memory : List ℕ) (c : ℕ → ℕ) (trail : List ℕ) (m : Mid) (xs ys : List Value) → length xs ≡ n → length ys ≡ n → Holds t.p.world.layout memory c → MidIn t outer sh c trail m → c 13 ≡ 0 → 30 ≤ v → v + n ≤ 240 → 30 ≤ x → x + n ≤ 240 → InRegisters sh c (v - 16) xs → InRegisters sh c (x - 16) ys →
+      Goes t outer f w body rest (match_acts v x n ++ rest) sh memory typed output drawn c m (solve m.state.subst (zip xs ys)) (cost m.state.subst (zip xs ys) n)
   matches zero v x memory c trail m [] ys ex ey h mid none lv hv lx hx rx ry =
       let S = m.state.subst in
       let few = mid.state.few_trail in
       let same = no_more S m refl in
-      subst (λ (u : Unified). Goes t f w body rest rest sh memory typed output drawn c m u (cost S [] 0)) (sym (solve_nothing S)) (record {
+      subst (λ (u : Unified). Goes t outer f w body rest rest sh memory typed output drawn c m u (cost S [] 0)) (sym (solve_nothing S)) (record {
         matched = λ fit. record {
           memory' = memory;
           cells' = c;
           trail' = trail;
           holds = h;
-          mid = subst (λ (n : ℕ). MidIn t sh c trail (record m { state = record m.state { trail = n } })) (sym same) mid;
+          mid = subst (λ (n : ℕ). MidIn t outer sh c trail (record m { state = record m.state { trail = n } })) (sym same) mid;
           clash = none;
           others = λ k n1 n13 low. refl;
           count = 0;

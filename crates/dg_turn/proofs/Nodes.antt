@@ -1,5 +1,5 @@
 -- The acts that write nodes leave them written.
-use Rattle.std.proofs.Common.{◌≡◌, ℕ, suc, ◌+◌, ◌-◌, ◌*◌, ◌<◌, ◌≤◌, List, [], ◌∷◌, ◌++◌, length, Option, Some, None, refl, sym, ap, ◌∙◌, subst, arith, append_assoc}
+use Rattle.std.proofs.Common.{◌≡◌, ℕ, suc, ◌+◌, ◌-◌, ◌*◌, ◌<◌, ◌≤◌, inl, inr, List, [], ◌∷◌, ◌++◌, length, Option, Some, None, refl, sym, ap, ◌∙◌, subst, arith, append_assoc}
 use Rattle.std.specs.List.{slice_get}
 use Rattle.dg_base.specs.declared.program.ClosureBody.{ClosureBody}
 use Rattle.dg_base.specs.declared.program.CoreProgram.{CoreProgram}
@@ -24,6 +24,8 @@ use Rattle.dg_rt.proofs.UnifySteps.{steps_are}
 use Rattle.dg_turn.specs.Told.{Telling}
 use Rattle.dg_turn.specs.Lies.{MidIn}
 use Rattle.dg_turn.specs.Terms.{word_act, words_acts, cell_act, captured_of, node_acts, nodes_acts, IsTerm, IsNode, AreNodes, capturing, all_capturing}
+use Rattle.std.proofs.lemmas.Bool.{cases_lt}
+use Rattle.dg_turn.proofs.Staying.{IsKept}
 use Rattle.dg_turn.proofs.Kept.{KeptBut, kept_then, kept_wider}
 use Rattle.dg_turn.proofs.Steps.{steps_both}
 use Rattle.dg_turn.proofs.Writing.{WordOf, Begun, put_word, put_cell, begun_word}
@@ -93,7 +95,7 @@ pairs (x ∷ xs) = pair_count (out-Term x) + pairs xs
 
 -- ## The acts
 
-module _ (t : Telling) (has : HasRunTime t.p) (f w : ℕ) (frames_left : 0 < f) (words_left : 8 ≤ w) (sh : Shape) (typed output : List ℕ) (drawn : ℕ) (trail : List ℕ) (m : Mid) (start : ℕ → ℕ) (mid : MidIn t sh start trail m) (total : ℕ) (room : sh.top + total ≤ 10000) where
+module _ (t : Telling) {outer : ℕ → ℕ} (has : HasRunTime t.p) (f w : ℕ) (frames_left : 0 < f) (words_left : 8 ≤ w) (sh : Shape) (typed output : List ℕ) (drawn : ℕ) (trail : List ℕ) (m : Mid) (start : ℕ → ℕ) (mid : MidIn t outer sh start trail m) (total : ℕ) (room : sh.top + total ≤ 10000) where
   abbrev now : List ℕ → State
   now memory = state memory [] typed drawn output
 
@@ -255,21 +257,28 @@ module _ (t : Telling) (has : HasRunTime t.p) (f w : ℕ) (frames_left : 0 < f) 
     pub few : count ≤ 16 * length xs
     pub runs : (out : ActsOutcome) (s' : State) (n : ℕ) → ActsRun t.p f w body rest (now memory') out s' n → ActsRun t.p f w body (words_acts t.program v o xs ++ rest) (now memory) out s' (steps count n)
 
-  -- a register from 31 on is given a word
-  begun_put : (memory : List ℕ) (c : ℕ → ℕ) (v x : ℕ) → 31 ≤ v → v < 240 → Here memory c → x < 65536 → Here (with_cell memory (v - 16) x) (replaced c (v - 16) x)
-  begun_put memory c v x le lt b small = let high = has.mapped.room in record {
+  -- a register that may be written
+  not_kept : (v : ℕ) → 31 ≤ v → v < 240 → (43 < v → 52 ≤ v) → (k : ℕ) → k ≡ v - 16 → IsKept k → ⊥
+  not_kept v le lt apart k e kept = elim (cases_lt 43 v) [
+    | inl far ↦ (let a = apart far in let q = kept.1 (omega arith) in omega arith)
+    | inr low ↦ (let q = kept.0 (omega arith) in omega arith)
+  ]
+
+  -- it is given a word
+  begun_put : (memory : List ℕ) (c : ℕ → ℕ) (v x : ℕ) → 31 ≤ v → v < 240 → (43 < v → 52 ≤ v) → Here memory c → x < 65536 → Here (with_cell memory (v - 16) x) (replaced c (v - 16) x)
+  begun_put memory c v x le lt apart b small = let high = has.mapped.room in record {
     holds = holds_with t.p.world.layout memory c (v - 16) x b.holds (omega arith) small;
-    beyond = λ k n0 n3 mid' far. other_cell c (v - 16) x k (λ (e : k ≡ v - 16). (let q : 302 < k = mid' (omega arith) in omega arith)) ∙ b.beyond k n0 n3 mid' far;
+    beyond = λ k n0 n3 mid' far. other_cell c (v - 16) x k (λ (e : k ≡ v - 16). not_kept v le lt apart k e mid') ∙ b.beyond k n0 n3 mid' far;
     at = λ some. other_cell c (v - 16) x 14 (λ e. (omega arith)) ∙ b.at some;
   }
 
-  pub words : (body rest : List Act) (v o : ℕ) (xs : List Term) (memory : List ℕ) (c : ℕ → ℕ) → Here memory c → 31 ≤ v → v + length xs ≤ 240 → AreTerms t.program total xs → Words body rest v o xs memory c
-  words body rest v o [] memory c b le lt are = record { memory' = memory; cells' = c; begun = b; before = λ k far. refl; are = tt; count = 0; few = omega arith; runs = λ out s' n r. r }
-  words body rest v o (x ∷ xs) memory c b le lt are =
+  pub words : (body rest : List Act) (v o : ℕ) (xs : List Term) (memory : List ℕ) (c : ℕ → ℕ) → Here memory c → 31 ≤ v → v + length xs ≤ 240 → (44 < v + length xs → 52 ≤ v) → AreTerms t.program total xs → Words body rest v o xs memory c
+  words body rest v o [] memory c b le lt apart are = record { memory' = memory; cells' = c; begun = b; before = λ k far. refl; are = tt; count = 0; few = omega arith; runs = λ out s' n r. r }
+  words body rest v o (x ∷ xs) memory c b le lt apart are =
       let o' = o + cells_of t.program (x ∷ []) in
       let more = words_acts t.program (suc v) o' xs in
       let first = put_word t has f w frames_left words_left sh typed output drawn trail m start mid total room body (more ++ rest) v o (out-Term x) memory c b (omega arith) (omega arith) are.1 are.0 in
-      let others = words body rest (suc v) o' xs (with_cell memory (v - 16) first.word) (replaced c (v - 16) first.word) (begun_put memory c v first.word le (omega arith) b first.small) (omega arith) (omega arith) are.2 in
+      let others = words body rest (suc v) o' xs (with_cell memory (v - 16) first.word) (replaced c (v - 16) first.word) (begun_put memory c v first.word le (omega arith) (λ q. apart (omega arith)) b first.small) (omega arith) (omega arith) (λ q. (let y = apart (omega arith) in omega arith)) are.2 in
       let here : others.cells' (v - 16) ≡ first.word = others.before (v - 16) (λ q. (omega arith)) ∙ same_cell c (v - 16) first.word in
       let next : suc v - 16 ≡ suc (v - 16) = omega arith in
       let few = first.few in

@@ -1,5 +1,5 @@
 -- What the turns cost is paid for.
-use Rattle.std.proofs.Common.{◌≡◌, ℕ, ◌+◌, ◌*◌, ◌≤◌, Bool, List, [], ◌∷◌, length, ap, arith}
+use Rattle.std.proofs.Common.{◌≡◌, ℕ, ◌+◌, ◌*◌, ◌≤◌, Bool, List, [], ◌∷◌, length, Option, Some, None, refl, ap, arith}
 use Rattle.dg_base.specs.declared.program.CoreProgram.{CoreProgram}
 use Rattle.dg_base.specs.declared.program.Term.{Term, out-Term}
 use Rattle.dg_base.specs.declared.program.Term.TheOpen as term
@@ -9,9 +9,9 @@ use Rattle.dg_mid.specs.declared.code.Action.TheVariants as action
 use Rattle.dg_mid.specs.declared.code.Op.{Op}
 use Rattle.dg_mid.specs.declared.code.Op.TheVariants as op
 use Rattle.dg_mid.specs.declared.code.RuleCode.{RuleCode}
-use Rattle.dg_mid.specs.State.{Place, Call, Calls, Mid, Enters, Runs, Resumes, Fails}
-use Rattle.dg_mid.specs.Step.{Setting}
-use Rattle.dg_mid.specs.Units.{units_of, selects_at, entering, dropped_in, dropped, dropped_once, undone}
+use Rattle.dg_mid.specs.State.{Place, Frame, Stop, Call, Calls, Mid, cut_of, stop_to, Enters, Runs, Resumes, Fails}
+use Rattle.dg_mid.specs.Step.{Setting, more}
+use Rattle.dg_mid.specs.Units.{units_of, selects_at, entering, dropped_in, dropped, dropped_once, undone, unwound, unwound_to}
 use Rattle.dg_turn.specs.Terms.{IsNode, AreNodes, capturing, all_capturing}
 use Rattle.dg_turn.specs.Turns.{entering_most, equal_most}
 use Rattle.dg_turn.specs.Queries.{asking_most}
@@ -56,6 +56,34 @@ commit_is_paid g ps m place places ops e i = let k = ap (λ (l : List Op). units
 return_is_paid : (g : Setting) (ps : List Print) (m : Mid) (ops : List Op) → m.ops ≡ op.Return ∷ ops → 4 * dropped_once m.frames m.choices + 20 ≤ paid g ps (Runs m)
 return_is_paid g ps m ops e = let k = ap (λ (l : List Op). units_of g ps l m) e in omega arith
 
+-- a step is paid for by 800 at least
+step_is_paid : (g : Setting) (ps : List Print) (m : Mid) (x : Op) (ops : List Op) → m.ops ≡ x ∷ ops → 800 ≤ paid g ps (Runs m)
+step_is_paid g ps m x ops e = let k = ap (λ (l : List Op). units_of g ps l m) e in omega arith
+
+leave_is_paid : (g : Setting) (ps : List Print) (m : Mid) (place : Place) (places : List Place) (ops : List Op) → m.ops ≡ op.Leave ∷ ops → m.inner ≡ place ∷ places → 4 * dropped place m.choices + 16 ≤ paid g ps (Runs m)
+leave_is_paid g ps m place places ops e i = let k = ap (λ (l : List Op). units_of g ps l m) e in let d = ap (λ (l : List Place). dropped_in l m.choices) i in omega arith
+
+refuse_is_paid : (g : Setting) (ps : List Print) (m : Mid) (place : Place) (places : List Place) (ops : List Op) → m.ops ≡ op.Refuse ∷ ops → m.inner ≡ place ∷ places → 4 * dropped place m.choices + 15 ≤ paid g ps (Runs m)
+refuse_is_paid g ps m place places ops e i = let k = ap (λ (l : List Op). units_of g ps l m) e in let d = ap (λ (l : List Place). dropped_in l m.choices) i in omega arith
+
+-- nothing is written for a stop, and it stops where it is
+stop_unwinds : (m : Mid) → unwound m.stop (more 0 m) ≡ unwound m.stop m
+stop_unwinds m = by_tag m.stop
+  where
+    by_part : (o : Option (Stop × List Stop)) → unwound_to o (more 0 m) ≡ unwound_to o m
+    by_part None = refl
+    by_part (Some found) = refl
+
+    by_tag : (o : Option ℕ) → unwound o (more 0 m) ≡ unwound o m
+    by_tag None = refl
+    by_tag (Some tag) = by_part (stop_to tag m.stops)
+
+stop_is_paid : (g : Setting) (ps : List Print) (m : Mid) (ops : List Op) → m.ops ≡ op.Do action.Stop ∷ ops → 3 + (6 * unwound m.stop m + 20) ≤ paid g ps (Runs m)
+stop_is_paid g ps m ops e = let k = ap (λ (l : List Op). units_of g ps l m) e in let u = stop_unwinds m in omega arith
+
+just_is_paid : (g : Setting) (ps : List Print) (m : Mid) (f : Frame) (fs : List Frame) (ops : List Op) → m.ops ≡ op.Do action.Just ∷ ops → m.frames ≡ f ∷ fs → 4 * dropped f.cut m.choices + 10 ≤ paid g ps (Runs m)
+just_is_paid g ps m f fs ops e i = let k = ap (λ (l : List Op). units_of g ps l m) e in let d = ap (λ (l : List Frame). dropped (cut_of l) m.choices) i in omega arith
+
 pub turns_are_paid : TurnsArePaid
 turns_are_paid = record {
   enter = λ g ps call m vars head ops e nodes few short. enter_is_paid g ps call m vars head ops e nodes few short;
@@ -66,4 +94,12 @@ turns_are_paid = record {
   fail = λ g ps m. fail_is_paid g ps m;
   commit = λ g ps m place places ops e i. commit_is_paid g ps m place places ops e i;
   returned = λ g ps m ops e. return_is_paid g ps m ops e;
+  branch = λ g ps m alt ops e. (let k = step_is_paid g ps m (op.Branch alt) ops e in omega arith);
+  try = λ g ps m alt ops e. (let k = step_is_paid g ps m (op.Try alt) ops e in omega arith);
+  shield = λ g ps m alt ops e. (let k = step_is_paid g ps m (op.Shield alt) ops e in omega arith);
+  once = λ g ps m ops e. (let k = step_is_paid g ps m op.Once ops e in omega arith);
+  leave = λ g ps m place places ops e i. leave_is_paid g ps m place places ops e i;
+  refuse = λ g ps m place places ops e i. refuse_is_paid g ps m place places ops e i;
+  stop = λ g ps m ops e. stop_is_paid g ps m ops e;
+  just = λ g ps m f fs ops e i. just_is_paid g ps m f fs ops e i;
 }

@@ -1,13 +1,13 @@
 -- Where the routines stand that turns call.
 use Rattle.std.proofs.Common.{◌≡◌, Some, refl}
 use Rattle.z_lang.specs.State.{Program}
-use Rattle.dg_rt.specs.declared.numbers.TheConstants.{CHARGE, VAR, ENTER, OPEN, FAIL, FAILED, CAPTURE, COMMIT, FOUND, NONE, MATCH, MATCHED, LEAVE, ASK, TAIL_CALL, OPEN_INNER}
-use Rattle.dg_rt.specs.declared.closings.TheConstants.{FAILED_ACTS}
+use Rattle.dg_rt.specs.declared.numbers.TheConstants.{CHARGE, VAR, ENTER, OPEN, FAIL, FAILED, CAPTURE, COMMIT, FOUND, NONE, MATCH, MATCHED, LEAVE, ASK, TAIL_CALL, BODY, OPEN_INNER, UNSTOP, DONE, STOPPED}
+use Rattle.dg_rt.specs.declared.closings.TheConstants.{DONE_ACTS, FAILED_ACTS, STOPPED_ACTS}
 use Rattle.dg_rt.specs.declared.heap.TheConstants.{CHARGE_ACTS}
 use Rattle.dg_rt.specs.declared.frames.TheConstants.{VAR_ACTS, CAPTURE_ACTS, ENTER_ACTS}
-use Rattle.dg_rt.specs.declared.choices.TheConstants.{OPEN_ACTS, FAIL_ACTS, COMMIT_ACTS, OPEN_INNER_ACTS}
+use Rattle.dg_rt.specs.declared.choices.TheConstants.{OPEN_ACTS, FAIL_ACTS, COMMIT_ACTS, OPEN_INNER_ACTS, UNSTOP_ACTS}
 use Rattle.dg_rt.specs.declared.rules.TheConstants.{FOUND_ACTS, NONE_ACTS, MATCH_ACTS, MATCHED_ACTS}
-use Rattle.dg_rt.specs.declared.queries.TheConstants.{LEAVE_ACTS, ASK_ACTS, TAIL_CALL_ACTS}
+use Rattle.dg_rt.specs.declared.queries.TheConstants.{LEAVE_ACTS, ASK_ACTS, TAIL_CALL_ACTS, BODY_ACTS}
 use Rattle.dg_rt.specs.RunTime.{routine_of, HasRunTime}
 
 module _ (p : Program) (has : HasRunTime p) where
@@ -58,3 +58,15 @@ module _ (p : Program) (has : HasRunTime p) where
 
   pub open_inner_at : p.routine_at (p.names.routine OPEN_INNER) ≡ Some (routine_of 2 OPEN_INNER_ACTS)
   open_inner_at = has.each 32 (routine_of 2 OPEN_INNER_ACTS) refl
+
+  pub body_at : p.routine_at (p.names.routine BODY) ≡ Some (routine_of 4 BODY_ACTS)
+  body_at = has.each 31 (routine_of 4 BODY_ACTS) refl
+
+  pub unstop_at : p.routine_at (p.names.routine UNSTOP) ≡ Some (routine_of 4 UNSTOP_ACTS)
+  unstop_at = has.each 33 (routine_of 4 UNSTOP_ACTS) refl
+
+  pub done_at : p.routine_at (p.names.routine DONE) ≡ Some (routine_of 0 DONE_ACTS)
+  done_at = has.each 8 (routine_of 0 DONE_ACTS) refl
+
+  pub stopped_at : p.routine_at (p.names.routine STOPPED) ≡ Some (routine_of 0 STOPPED_ACTS)
+  stopped_at = has.each 10 (routine_of 0 STOPPED_ACTS) refl

@@ -29,7 +29,8 @@ use Rattle.dg_turn.proofs.Standing.{charge_at}
 use Rattle.dg_turn.proofs.Kept.{Beyond}
 use Rattle.dg_turn.proofs.Rows.{words_in, length_map}
 use Rattle.dg_turn.proofs.Making.{made, made_grown, made_shape, made_stands, made_low, made_known, block_cell}
-use Rattle.dg_turn.proofs.Boxing.{AreNew, with_boxes, new_box, boxes_grown, boxes_shape, boxes_stand}
+use Rattle.dg_turn.proofs.Staying.{high_kept}
+use Rattle.dg_turn.proofs.Boxing.{AreNew, with_boxes, old_box, new_box, boxes_grown, boxes_shape, boxes_stand}
 use Rattle.dg_turn.proofs.Nodes.{size, Written, AreTerms, written_same, nodes, words}
 use Rattle.dg_turn.proofs.Assembling.{size_is, size_append, all_map, all_both, all_fit, all_nodes, all_boxed, IsBox, box_in, boxes_within, boxes_apart, all_shown, pairs_of_all}
 use Rattle.dg_turn.proofs.Grows.{mid_grown}
@@ -92,7 +93,7 @@ caps heap n over = elim (cases_lt 10000 n) [
 
 -- ## All together
 
-module _ (t : Telling) (has : HasRunTime t.p) (f w : ℕ) (sh : Shape) (memory typed output : List ℕ) (drawn : ℕ) (c : ℕ → ℕ) (trail : List ℕ) (m : Mid) (holds : Holds t.p.world.layout memory c) (mid : MidIn t sh c trail m) (body : List Act) where
+module _ (t : Telling) {outer : ℕ → ℕ} (has : HasRunTime t.p) (f w : ℕ) (sh : Shape) (memory typed output : List ℕ) (drawn : ℕ) (c : ℕ → ℕ) (trail : List ℕ) (m : Mid) (holds : Holds t.p.world.layout memory c) (mid : MidIn t outer sh c trail m) (body : List Act) where
   abbrev now : List ℕ → State
   now memory = state memory [] typed drawn output
 
@@ -143,7 +144,7 @@ module _ (t : Telling) (has : HasRunTime t.p) (f w : ℕ) (sh : Shape) (memory t
         memory' = r.memory';
         cells' = r.cells';
         holds' = r.holds;
-        beyond = λ k n0 n3 mid' far. r.others k n3 (λ (e : k ≡ 14). (let q : 302 < k = mid' (omega arith) in omega arith));
+        beyond = λ k n0 n3 mid' far. r.others k n3 (λ (e : k ≡ 14). (let q = mid'.0 (omega arith) in omega arith));
         three = omega arith;
         at = λ lt. omega arith;
         others = λ k n3 n14. r.others k n3 n14;
@@ -168,9 +169,9 @@ module _ (t : Telling) (has : HasRunTime t.p) (f w : ℕ) (sh : Shape) (memory t
       let b : laying_acts program v ts ≡ bs ++ cs = cond-false (nat_lt 10000 (cells_of program ts)) [] (bs ++ cs) (le-ltb 10000 (cells_of program ts) le) in
       ap (λ (l : List Act). l ++ rest) (a ∙ ap (λ (l : List Act). ks ++ l) b) ∙ append_assoc ks (bs ++ cs) rest ∙ ap (λ (l : List Act). ks ++ l) (append_assoc bs cs rest)
 
-  pub writes_terms : 0 < f → 8 ≤ w → (rest : List Act) (v : ℕ) (ts : List Term) → 31 ≤ v → v + length ts ≤ 240 → AreNodes program (nodes_of ts) → m.state.heap + cells_of program ts ≤ 10000 →
-      Wrote t f w body rest (terms_acts program v ts ++ rest) sh memory typed output drawn c trail m (cells_of program ts) v (map (value_of program env) ts) (written_in program ts + 6)
-  writes_terms frames_left words_left rest v ts le lt are few =
+  pub writes_terms : 0 < f → 8 ≤ w → (rest : List Act) (v : ℕ) (ts : List Term) → 31 ≤ v → v + length ts ≤ 240 → (44 < v + length ts → 52 ≤ v) → AreNodes program (nodes_of ts) → m.state.heap + cells_of program ts ≤ 10000 →
+      Wrote t outer f w body rest (terms_acts program v ts ++ rest) sh memory typed output drawn c trail m (cells_of program ts) v (map (value_of program env) ts) (written_in program ts + 6)
+  writes_terms frames_left words_left rest v ts le lt apart are few =
       let total = cells_of program ts in
       let xs = nodes_of ts in
       let top = mid.state.heap in
@@ -178,12 +179,12 @@ module _ (t : Telling) (has : HasRunTime t.p) (f w : ℕ) (sh : Shape) (memory t
       let behind = words_acts program v 0 ts ++ rest in
       let t0 = takes frames_left words_left (nodes_acts program 0 xs ++ behind) total few in
       let n1 = nodes t has f w frames_left words_left sh typed output drawn trail m c mid total (omega arith) body behind 0 xs t0.memory' t0.cells' (record { holds = t0.holds'; beyond = t0.beyond; at = t0.at }) (omega arith) are in
-      let w1 = words t has f w frames_left words_left sh typed output drawn trail m c mid total (omega arith) body rest v 0 ts n1.memory' n1.cells' n1.begun le lt (are_terms program total ts are (omega arith)) in
+      let w1 = words t has f w frames_left words_left sh typed output drawn trail m c mid total (omega arith) body rest v 0 ts n1.memory' n1.cells' n1.begun le lt apart (are_terms program total ts are (omega arith)) in
       let new = w1.cells' in
       let beyond = w1.begun.beyond in
       let s = mid.state in
       let room : sh.top + total + 0 ≤ 10000 = omega arith in
-      let same : (k : ℕ) → k < sh.top → new (heap_at + k) ≡ c (heap_at + k) = λ k low. beyond (heap_at + k) (λ e. (omega arith)) (λ e. (omega arith)) (λ q. (omega arith)) (λ q. (omega arith)) in
+      let same : (k : ℕ) → k < sh.top → new (heap_at + k) ≡ c (heap_at + k) = λ k low. beyond (heap_at + k) (λ e. (omega arith)) (λ e. (omega arith)) (high_kept (heap_at + k) (omega arith)) (λ q. (omega arith)) in
       let free : (j : ℕ) → j < 0 → new (heap_at + (sh.top + total + j)) ≡ at_place (sh.top + total + j) = λ j none. absurd (omega arith) in
       let s1 = made sh c new m.state.subst s.shape s.low s.stands s.known total 0 room same free in
       let g1 = made_grown sh c new m.state.subst s.shape s.low s.stands s.known total 0 room same free in
@@ -231,7 +232,7 @@ module _ (t : Telling) (has : HasRunTime t.p) (f w : ℕ) (sh : Shape) (memory t
         holds = w1.begun.holds;
         sh' = s2;
         grown = g;
-        mid = mid_grown t sh s2 c new trail m (more total m).state g none_new refl refl three beyond state_in mid;
+        mid = mid_grown t sh s2 c new trail m (more total m).state g (λ k v' e low. sym (old_box s1 is1 sh.top boxes fresh k low) ∙ e) none_new refl refl three beyond state_in mid;
         words = words_in s2 new (v - 16) (map (value_of program env) ts) shown;
         others = λ k n3 n14 n36 far low. w1.before k (λ q. (let y : v + length (map (value_of program env) ts) ≤ k + 16 = far q in omega arith)) ∙ n1.kept k n36 (λ q. (omega arith)) ∙ t0.others k n3 n14;
         count = t0.count + (n1.count + w1.count);
@@ -251,6 +252,6 @@ module _ (t : Telling) (has : HasRunTime t.p) (f w : ℕ) (sh : Shape) (memory t
 
 pub terms_work : TermsWork
 terms_work = record {
-  writes = λ t has f w some enough sh memory typed output drawn c trail m holds mid body rest v ts le lt are few. writes_terms t has f w sh memory typed output drawn c trail m holds mid body some enough rest v ts le lt are few;
-  meets = λ t has f w three one sh memory typed output drawn c trail m holds mid body rest v ts over. meets_terms t has f w sh memory typed output drawn c trail m holds mid body three one rest v ts over;
+  writes = λ t outer has f w some enough sh memory typed output drawn c trail m holds mid body rest v ts le lt apart are few. writes_terms t has f w sh memory typed output drawn c trail m holds mid body some enough rest v ts le lt apart are few;
+  meets = λ t outer has f w three one sh memory typed output drawn c trail m holds mid body rest v ts over. meets_terms t has f w sh memory typed output drawn c trail m holds mid body three one rest v ts over;
 }

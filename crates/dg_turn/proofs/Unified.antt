@@ -16,8 +16,10 @@ use Rattle.dg_rt.specs.RunTime.{HasRunTime}
 use Rattle.dg_rt.proofs.Backs.{grown_none}
 use Rattle.dg_rt.proofs.Binding.{trail_append}
 use Rattle.dg_turn.specs.Told.{Telling}
-use Rattle.dg_turn.specs.Lies.{FramesIn, InnersIn, MidIn}
-use Rattle.dg_turn.proofs.Growing.{choices_at}
+use Rattle.dg_turn.specs.Lies.{StopNamed, FramesIn, InnersIn, MidIn}
+use Rattle.dg_turn.specs.Rest.{gather_words}
+use Rattle.dg_turn.proofs.Resting.{rest_stays}
+use Rattle.dg_turn.proofs.Growing.{stops_at, choices_at}
 
 same_trail : (since : ℕ) (S : Substitution) → store.trail_of since S ≡ trail_of since S
 same_trail since [] = refl
@@ -34,7 +36,7 @@ made_is made S = let n : length (made ++ S) - length S ≡ length made = omega (
 pub more_is : (s : store.State) (u : Unified) (made : Substitution) → u.subst ≡ made ++ s.subst → trail_more s u ≡ s.trail + trail_of s.since made
 more_is s u made e = ap (λ (l : Substitution). s.trail + store.trail_of s.since (made_since s.subst l)) e ∙ ap (λ (l : Substitution). s.trail + store.trail_of s.since l) (made_is made s.subst) ∙ ap (λ (n : ℕ). s.trail + n) (same_trail s.since made)
 
-module _ (t : Telling) (has : HasRunTime t.p) (sh : Shape) (memory typed output : List ℕ) (drawn : ℕ) (cells : ℕ → ℕ) (trail : List ℕ) (m : Mid) (holds : Holds t.p.world.layout memory cells) (mid : MidIn t sh cells trail m) where
+module _ (t : Telling) {outer : ℕ → ℕ} (has : HasRunTime t.p) (sh : Shape) (memory typed output : List ℕ) (drawn : ℕ) (cells : ℕ → ℕ) (trail : List ℕ) (m : Mid) (holds : Holds t.p.world.layout memory cells) (mid : MidIn t outer sh cells trail m) where
   abbrev pub begun : Begun
   begun = record { cells = cells; trail = trail }
 
@@ -66,24 +68,31 @@ module _ (t : Telling) (has : HasRunTime t.p) (sh : Shape) (memory typed output 
   moment = record { memory = memory; cells = cells; at = at_first; room = let few = mid.state.few_trail in omega arith }
 
   -- what memory stands for behind it
-  pub mid_behind : (u : Unified) (memory' : List ℕ) (cells' : ℕ → ℕ) → trail_more m.state u ≤ 2000 → (i : IsAt t.p.world.layout sh m.state.since mid.hb S m.state.trail begun memory' cells' u.subst) → MidIn t sh cells' i.trail (bound u m)
+  pub mid_behind : (u : Unified) (memory' : List ℕ) (cells' : ℕ → ℕ) → trail_more m.state u ≤ 2000 → (i : IsAt t.p.world.layout sh m.state.since mid.hb S m.state.trail begun memory' cells' u.subst) → MidIn t outer sh cells' i.trail (bound u m)
   mid_behind u memory' cells' few i =
       let low : (k : ℕ) → k ≢ 1 → k < 303 → cells' k ≡ cells k = λ k ne lt. i.others k ne (λ le. (omega arith)) in
       let more = more_is m.state u i.made i.made_is in
       let s = mid.state in
-      let there = choices_at t (grown_none sh) (cells 5) (cells' 5) mid.hb m.choices (low 5 (λ e. (omega arith)) (omega arith)) i.backs mid.choices mid.under in
+      let opens = gather_words m.gathered in
+      let there = choices_at t (grown_none sh) opens (cells 5) (cells' 5) mid.hb m.choices (low 5 (λ e. (omega arith)) (omega arith)) i.backs mid.choices mid.under in
+      let parts = stops_at t (grown_none sh) opens mid.hb m.stops i.backs (λ w le b. b) mid.stops mid.stops_under in
       record {
         heap = low 3 (λ e. (omega arith)) (omega arith) ∙ mid.heap;
         height = i.height ∙ sym more;
         state = record { shape = s.shape; low = s.low; stands = i.stands; known = i.known; heap = s.heap; vars = s.vars; trail_len = i.tall ∙ i.height ∙ sym more; few = s.few; few_trail = few; told = s.told };
         on_trail = i.on_trail;
-        frames = subst (λ (w : ℕ). FramesIn t sh w m.frames) (sym (low 4 (λ e. (omega arith)) (omega arith))) mid.frames;
+        frames = subst (λ (w : ℕ). FramesIn t sh m.stops w m.frames) (sym (low 4 (λ e. (omega arith)) (omega arith))) mid.frames;
         choices = there.choices_are;
         hb = mid.hb;
         mark = i.mark;
         marked = mid.marked;
         under = there.under;
-        inner = subst (λ (w : ℕ). InnersIn sh w m.inner) (sym (low 6 (λ e. (omega arith)) (omega arith))) mid.inner;
+        inner = subst (λ (w : ℕ). InnersIn sh m.stops w m.inner) (sym (low 6 (λ e. (omega arith)) (omega arith))) mid.inner;
+        stop = subst (λ (w : ℕ). StopNamed w m.stop m.stops) (sym (low 7 (λ e. (omega arith)) (omega arith))) mid.stop;
+        stops = parts.stops_are;
+        stops_under = parts.under;
+        apart = mid.apart;
+        rest = rest_stays t cells cells' m.gathered (λ k lt far. i.others k (λ e. (omega arith)) (λ q. far (omega arith))) mid.rest;
       }
 
   -- what the bindings take of the trail

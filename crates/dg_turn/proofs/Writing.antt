@@ -31,6 +31,7 @@ use Rattle.dg_turn.specs.Lies.{MidIn}
 use Rattle.dg_turn.specs.Terms.{word_act, cell_act, IsTerm}
 use Rattle.dg_turn.proofs.Kept.{Beyond, KeptBut, kept_cell, beyond_kept}
 use Rattle.dg_turn.proofs.Standing.{var_at}
+use Rattle.dg_turn.proofs.Staying.{low_kept, high_kept}
 use Rattle.dg_turn.proofs.Environment.{vars_at}
 
 -- The word of a term: what stands for its value, or the place of its cells.
@@ -39,7 +40,7 @@ WordOf program sh env o w (term.Pair head tail) = w ≡ (49152 + (sh.top + o)) %
 WordOf program sh env o w (term.Closure c) = w ≡ (49152 + (sh.top + o)) % 65536
 WordOf program sh env o w other = Shows sh w (value_of_leaf program env other)
 
-module _ (t : Telling) (has : HasRunTime t.p) (f w : ℕ) (frames_left : 0 < f) (words_left : 8 ≤ w) (sh : Shape) (typed output : List ℕ) (drawn : ℕ) (trail : List ℕ) (m : Mid) (start : ℕ → ℕ) (mid : MidIn t sh start trail m) (total : ℕ) (room : sh.top + total ≤ 10000) where
+module _ (t : Telling) {outer : ℕ → ℕ} (has : HasRunTime t.p) (f w : ℕ) (frames_left : 0 < f) (words_left : 8 ≤ w) (sh : Shape) (typed output : List ℕ) (drawn : ℕ) (trail : List ℕ) (m : Mid) (start : ℕ → ℕ) (mid : MidIn t outer sh start trail m) (total : ℕ) (room : sh.top + total ≤ 10000) where
   abbrev pub now : List ℕ → State
   now memory = state memory [] typed drawn output
 
@@ -54,12 +55,12 @@ module _ (t : Telling) (has : HasRunTime t.p) (f w : ℕ) (frames_left : 0 < f) 
 
   -- the variables at hand, and what is no variable's
   pub still : (memory : List ℕ) (c : ℕ → ℕ) → Begun memory c → (k : ℕ) → k < 10000 → IsFixed sh k → c (heap_at + k) ≡ sh.fixed k
-  still memory c b k low g = b.beyond (heap_at + k) (λ e. (omega arith)) (λ e. (omega arith)) (λ q. (omega arith)) (λ q. (let z : k < sh.top = g.0 in omega arith)) ∙ mid.state.stands.fixed k low g
+  still memory c b k low g = b.beyond (heap_at + k) (λ e. (omega arith)) (λ e. (omega arith)) (high_kept (heap_at + k) (omega arith)) (λ q. (let z : k < sh.top = g.0 in omega arith)) ∙ mid.state.stands.fixed k low g
 
   pub env_at : (memory : List ℕ) (c : ℕ → ℕ) → Begun memory c → VarsAt sh (c 4) env
   env_at memory c b =
-      let four : c 4 ≡ start 4 = b.beyond 4 (λ e. (omega arith)) (λ e. (omega arith)) (λ q. (omega arith)) (λ q. (omega arith)) in
-      subst (λ (y : ℕ). VarsAt sh y env) (sym four) (vars_at t sh (start 4) m.frames mid.frames)
+      let four : c 4 ≡ start 4 = b.beyond 4 (λ e. (omega arith)) (λ e. (omega arith)) (low_kept 4 (omega arith)) (λ q. (omega arith)) in
+      subst (λ (y : ℕ). VarsAt sh y env) (sym four) (vars_at t sh m.stops (start 4) m.frames mid.frames)
 
   -- ## Words
 
@@ -154,6 +155,6 @@ module _ (t : Telling) (has : HasRunTime t.p) (f w : ℕ) (frames_left : 0 < f) 
       let high = has.mapped.room in
       record {
         holds = holds_with t.p.world.layout memory c 36 x b.holds (omega arith) small;
-        beyond = λ k n0 n3 mid' far. other_cell c 36 x k (λ (e : k ≡ 36). (let q : 302 < k = mid' (omega arith) in omega arith)) ∙ b.beyond k n0 n3 mid' far;
+        beyond = λ k n0 n3 mid' far. other_cell c 36 x k (λ (e : k ≡ 36). (let q : 302 < k = mid'.1 (omega arith) in omega arith)) ∙ b.beyond k n0 n3 mid' far;
         at = λ some. other_cell c 36 x 14 (λ e. (omega arith)) ∙ b.at some;
       }

@@ -15,7 +15,7 @@ use Rattle.dg_rt.specs.declared.numbers.TheConstants.{CUT, LEAVE}
 use Rattle.dg_rt.specs.declared.registers.TheConstants.{FRAME, WORD}
 use Rattle.dg_rt.specs.RunTime.{routine_of}
 use Rattle.dg_turn.specs.Told.{Telling}
-use Rattle.dg_turn.specs.Plays.{Playing, Represented, Comes}
+use Rattle.dg_turn.specs.Plays.{Playing, Outside, Represented, Comes}
 
 -- A variable becomes the word of a cell of the newest frame, by its number. The address of the first is 670, to which twice the frame's word is added;
 -- both wrap.
@@ -31,15 +31,15 @@ just_routine behind =
 
 -- In one turn the choices of the rule at hand are dropped, in 4 instructions each.
 abbrev pub JustTurns : Type 0
-JustTurns = (t : Telling) → Playing t → (output : List ℕ) (x behind : ℕ) (m : Mid) (f : Frame) (fs : List Frame) (z : ZState) →
+JustTurns = (t : Telling) → Playing t → (out : Outside) (x behind : ℕ) (m : Mid) (f : Frame) (fs : List Frame) (z : ZState) →
     t.p.routine_at x ≡ Some (just_routine behind) → m.frames ≡ f ∷ fs → IsNamed m.next_tag m.state.heap m.choices f.cut →
-    Represented t output x m z →
-    Comes t output (t.p.names.routine behind) (cut_to f.cut m) (4 * dropped f.cut m.choices + 10) z
+    Represented t out x m z →
+    Comes t out (t.p.names.routine behind) (cut_to f.cut m) (4 * dropped f.cut m.choices + 10) z
 
 -- ## Answers
 
 -- In one turn a rule is answered, by the routine that every story has for it: `returns` of dg_mid/specs/Step.antt.
 abbrev pub ReturnTurns : Type 0
-ReturnTurns = (g : Setting) (t : Telling) → Playing t → (output : List ℕ) (m : Mid) (f : Frame) (fs : List Frame) (z : ZState) →
-    m.frames ≡ f ∷ fs → IsNamed m.next_tag m.state.heap m.choices f.cut → Represented t output (t.p.names.routine LEAVE) m z →
-    Comes t output (t.at_block f.next) (returned g f.many f fs m) (4 * dropped_once m.frames m.choices + 20) z
+ReturnTurns = (g : Setting) (t : Telling) → Playing t → (out : Outside) (m : Mid) (f : Frame) (fs : List Frame) (z : ZState) →
+    m.frames ≡ f ∷ fs → IsNamed m.next_tag m.state.heap m.choices f.cut → Represented t out (t.p.names.routine LEAVE) m z →
+    Comes t out (t.at_block f.next) (returned g f.many f fs m) (4 * dropped_once m.frames m.choices + 20) z

@@ -1,4 +1,5 @@
 pub mod Told
+pub mod Rest
 pub mod Lies
 pub mod Plays
 pub mod Terms
@@ -8,4 +9,5 @@ pub mod Queries
 pub mod Choices
 pub mod Leaving
 pub mod LastQueries
+pub mod Stopping
 pub mod Paid

@@ -1,5 +1,5 @@
 -- How what a machine of register code is in lies in a story's memory. Hold it against dg_mid/specs/State.antt.
-use Rattle.std.specs.Prelude.{◌≡◌, ℕ, suc, ◌+◌, ◌*◌, ◌<◌, ◌≤◌, List, [], ◌∷◌, ◌++◌, length, Bool, true, false, None}
+use Rattle.std.specs.Prelude.{◌≡◌, ℕ, suc, ◌+◌, ◌*◌, ◌<◌, ◌≤◌, List, [], ◌∷◌, ◌++◌, length, Bool, true, false, Option, Some, None}
 use Rattle.std.specs.List.{slice_get}
 use Rattle.dg_meaning.specs.Values.{Value}
 use Rattle.dg_meaning.specs.Substitutions.{Substitution}
@@ -7,10 +7,11 @@ use Rattle.dg_meaning.specs.inside.Unifiers.{binding_of}
 use Rattle.dg_meaning.specs.Cells.{captured_count}
 use Rattle.dg_unify.specs.Store.{State}
 use Rattle.dg_mid.specs.declared.code.RuleCode.{RuleCode}
-use Rattle.dg_mid.specs.State.{Place, Frame, Call, Way, Goes, Takes, Calls, Tries, Choice, Mid}
+use Rattle.dg_mid.specs.State.{Place, Frame, Call, Way, Goes, Takes, Calls, Tries, Stop, Choice, Mid}
 use Rattle.dg_mid.specs.Step.{first_of}
 use Rattle.dg_turn.specs.Told.{Telling, FirstIs, RulesAt}
-use Rattle.dg_rt.specs.Areas.{trail_reg, mark_reg, heap_reg, frame_reg, choice_reg, inner_reg}
+use Rattle.dg_turn.specs.Rest.{gather_words, newest, open_to, RestIn}
+use Rattle.dg_rt.specs.Areas.{trail_reg, mark_reg, heap_reg, frame_reg, choice_reg, inner_reg, stop_reg}
 use Rattle.dg_rt.specs.Shapes.{Shape, IsShape, Cell, Shows, Stands}
 use Rattle.dg_rt.specs.Back.{at_place, Saved, GivesBack, OnTrail}
 use Rattle.dg_rt.specs.Moments.{IsMark}
@@ -21,24 +22,52 @@ abbrev pub bit_of : Bool → ℕ
 bit_of false = 0
 bit_of true = 1
 
+-- ## Names of stoppable parts
+
+-- A word names the stoppable part of a tag, which is one of some.
+pub record NamesStop (word tag : ℕ) (ss : List Stop) : Type 0 where
+  pub within : List Stop
+  pub part : Stop
+  pub around : List Stop
+  pub is : ss ≡ within ++ part ∷ around
+  pub tag_is : tag ≡ part.place.tag
+  pub word_is : word ≡ at_place part.place.height
+
+-- So it is with the innermost that is open; 0 is none.
+abbrev pub StopNamed : ℕ → Option ℕ → List Stop → Type 0
+StopNamed word None ss = word ≡ 0
+StopNamed word (Some tag) ss = NamesStop word tag ss
+
 -- ## Frames
 
--- An inner construct lies at its height, with the one around it in its fourth cell.
-pub record InnerIn (around : ℕ → Type 0) (sh : Shape) (word : ℕ) (p : Place) : Type 0 where
+-- The value that is gathered: 65,535 is none.
+abbrev pub GathersIn : Shape → ℕ → Option Value → Type 0
+GathersIn sh word None = word ≡ 65535
+GathersIn sh word (Some v) = Shows sh word v
+
+-- An inner construct lies at its height: the one around it is in its fourth cell, the stoppable part there, one of these, in its fifth, and what it
+-- gathers in its ninth.
+pub record InnerIn (around : ℕ → Type 0) (sh : Shape) (ss : List Stop) (word : ℕ) (p : Place) : Type 0 where
   pub word_is : word ≡ at_place p.height
   pub below : p.height + 10 ≤ sh.top
   pub l : ℕ
   pub l_is : Cell sh (p.height + 3) l
+  pub stop : ℕ
+  pub stop_is : Cell sh (p.height + 4) stop
+  pub outer_is : StopNamed stop p.outer ss
+  pub value : ℕ
+  pub value_is : Cell sh (p.height + 8) value
+  pub gathers_is : GathersIn sh value p.gathers
   pub around_is : around l
 
 -- So do all of them, each within the next; 0 is none.
-abbrev pub InnersIn : Shape → ℕ → List Place → Type 0
-InnersIn sh word [] = word ≡ 0
-InnersIn sh word (p ∷ ps) = InnerIn (λ l. InnersIn sh l ps) sh word p
+abbrev pub InnersIn : Shape → List Stop → ℕ → List Place → Type 0
+InnersIn sh ss word [] = word ≡ 0
+InnersIn sh ss word (p ∷ ps) = InnerIn (λ l. InnersIn sh ss l ps) sh ss word p
 
 -- A frame lies in six cells: the frame behind it, the routine behind its answer, where it cuts to, the inner constructs there, twice the number of its
 -- own variables with whether all answers are wanted, and its closure; its variables stand behind them.
-pub record FrameIn (behind : ℕ → Type 0) (t : Telling) (sh : Shape) (word : ℕ) (f : Frame) : Type 0 where
+pub record FrameIn (behind : ℕ → Type 0) (t : Telling) (sh : Shape) (ss : List Stop) (word : ℕ) (f : Frame) : Type 0 where
   pub at : ℕ
   pub word_is : word ≡ at_place at
   pub captured : List Value
@@ -56,13 +85,13 @@ pub record FrameIn (behind : ℕ → Type 0) (t : Telling) (sh : Shape) (word : 
   pub c_is : Cell sh (at + 5) c
   pub closure : Captured sh c captured
   pub row : InRow sh (at + 6) own
-  pub inner : InnersIn sh l f.inner
+  pub inner : InnersIn sh ss l f.inner
   pub behind_is : behind e
 
 -- So do all of them, the newest first; 0 is none.
-abbrev pub FramesIn : Telling → Shape → ℕ → List Frame → Type 0
-FramesIn t sh word [] = word ≡ 0
-FramesIn t sh word (f ∷ fs) = FrameIn (λ e. FramesIn t sh e fs) t sh word f
+abbrev pub FramesIn : Telling → Shape → List Stop → ℕ → List Frame → Type 0
+FramesIn t sh ss word [] = word ≡ 0
+FramesIn t sh ss word (f ∷ fs) = FrameIn (λ e. FramesIn t sh ss e fs) t sh ss word f
 
 -- ## The store
 
@@ -79,7 +108,7 @@ pub record StateIn (t : Telling) (sh : Shape) (cells : ℕ → ℕ) (trail : Lis
   pub few_trail : s.trail ≤ 2000
   pub told : (place : ℕ) → sh.captures place ≡ captured_count (slice_get t.program.closures place)
 
--- ## Calls and choices
+-- ## Calls and ways
 
 -- Words stand for values one by one.
 abbrev pub WordsIn : Shape → List ℕ → List Value → Type 0
@@ -116,10 +145,71 @@ WayIn t sh routine args next cut many key S (Takes b into) = (routine ≡ t.at_b
 WayIn t sh routine args next cut many key S (Calls call rules) = CallsIn t sh routine args next cut many key S call rules
 WayIn t sh routine args next cut many key S (Tries f objects) = ⊥
 
--- A choice lies in ten cells and those of its arguments, from its height on; undoing gives back memory there, which stands for what it restores. What it
--- keeps of the stoppable part around and of the newest gathering are any words.
-pub record ChoiceIn (older : Saved → ℕ → Type 0) (t : Telling) (sh : Shape) (cells : ℕ → ℕ) (trail : List ℕ) (word : ℕ)
-    (c : Choice) : Type 0 where
+-- ## Stoppable parts
+
+-- Boxes of memory as it is that stand in front of what undoing gives back stand there too.
+abbrev pub BoxesStay : Shape → Saved → Type 0
+BoxesStay sh w = (k : ℕ) (v : Value) → sh.box k ≡ Some v → k < w.sh.top → w.sh.box k ≡ Some v
+
+-- A stoppable part lies in the cells of the choice that opened with it: the routine behind it, the frame, the inner construct and the stoppable part
+-- there, the trail, and the newest gathering of so many. Undoing gives back memory there, which stands for what it restores.
+pub record StopIn (older : Saved → Type 0) (t : Telling) (sh : Shape) (cells : ℕ → ℕ) (trail : List ℕ) (opens : List ℕ) (around : List Stop)
+    (s : Stop) : Type 0 where
+  pub routine : ℕ
+  pub e : ℕ
+  pub l : ℕ
+  pub stop : ℕ
+  pub gather : ℕ
+  pub cells_are : CellsAre sh (suc s.place.height) (routine ∷ e ∷ l ∷ stop ∷ s.state.trail ∷ gather ∷ [])
+  pub below : s.place.height + 10 ≤ sh.top
+  pub block : routine ≡ t.at_block s.block
+  pub outer_is : StopNamed stop s.place.outer around
+  pub few_open : s.height ≤ length opens
+  pub gather_is : gather ≡ newest (open_to s.height opens)
+  pub saved : Saved
+  pub back : GivesBack sh cells trail saved
+  pub boxes : BoxesStay sh saved
+  pub state : StateIn t saved.sh saved.cells saved.trail s.state
+  pub marked : IsMark saved.sh s.state.since saved.sh.top
+  pub frames : FramesIn t saved.sh around e s.frames
+  pub inner : InnersIn saved.sh around l s.inner
+  pub older_are : older saved
+
+-- So do all of them, the innermost first, each within the next. Of those around it is said over the memory that undoing gives there.
+abbrev pub StopsIn : Telling → Shape → (ℕ → ℕ) → List ℕ → (opens : List ℕ) → List Stop → Type 0
+StopsIn t sh cells trail opens [] = Unit {0}
+StopsIn t sh cells trail opens (s ∷ ss) =
+    StopIn (λ w. StopsIn t w.sh w.cells w.trail (open_to s.height opens) ss) t sh cells trail opens ss s
+
+-- The innermost gives back no more than there was at a mark.
+abbrev pub StopsUnder : (t : Telling) (sh : Shape) (cells : ℕ → ℕ) (trail opens : List ℕ) (hb : ℕ) (ss : List Stop) →
+    StopsIn t sh cells trail opens ss → Type 0
+StopsUnder t sh cells trail opens hb [] h = Unit {0}
+StopsUnder t sh cells trail opens hb (s ∷ ss) h = h.saved.sh.top ≤ hb
+
+-- ## Choices
+
+-- How many arguments a choice keeps.
+abbrev pub arguments_of : Way → ℕ
+arguments_of (Calls call rules) = length call.args
+arguments_of (Tries f objects) = length f.args
+arguments_of way = 0
+
+-- A choice in front of a place ends in front of it, and no more gatherings are open there than at the place.
+abbrev pub EndsBefore : (at opens : ℕ) → List Choice → Type 0
+EndsBefore at opens [] = Unit {0}
+EndsBefore at opens (c ∷ cs) =
+    (c.place.height < at → (c.place.height + 10 + arguments_of c.way ≤ at) × (c.height ≤ opens)) × EndsBefore at opens cs
+
+-- So it is with the place of each of some stoppable parts.
+abbrev pub AreApart : List Stop → List Choice → Type 0
+AreApart [] cs = Unit {0}
+AreApart (s ∷ ss) cs = EndsBefore s.place.height s.height cs × AreApart ss cs
+
+-- A choice lies in ten cells and those of its arguments, from its height on; undoing gives back memory there, which stands for what it restores. It
+-- keeps the stoppable part around, and the newest gathering of so many.
+pub record ChoiceIn (older : Saved → ℕ → Type 0) (t : Telling) (sh : Shape) (cells : ℕ → ℕ) (trail : List ℕ) (opens : List ℕ) (word : ℕ)
+    (c : Choice) (cs : List Choice) : Type 0 where
   pub word_is : word ≡ at_place c.place.height
   pub behind : ℕ
   pub routine : ℕ
@@ -133,39 +223,51 @@ pub record ChoiceIn (older : Saved → ℕ → Type 0) (t : Telling) (sh : Shape
   pub args : List ℕ
   pub cells_are : CellsAre sh c.place.height
       (behind ∷ routine ∷ e ∷ l ∷ stop ∷ c.state.trail ∷ gather ∷ next ∷ many ∷ key ∷ args)
+  pub size : length args ≡ arguments_of c.way
   pub saved : Saved
   pub back : GivesBack sh cells trail saved
   pub state : StateIn t saved.sh saved.cells saved.trail c.state
   pub marked : IsMark saved.sh c.state.since saved.sh.top
   pub way : WayIn t saved.sh routine args next (at_place c.place.height) many key c.state.subst c.way
-  pub frames : FramesIn t saved.sh e c.frames
-  pub inner : InnersIn saved.sh l c.inner
+  pub frames : FramesIn t saved.sh c.stops e c.frames
+  pub inner : InnersIn saved.sh c.stops l c.inner
+  pub stop_is : StopNamed stop c.stop c.stops
+  pub few_open : c.height ≤ length opens
+  pub gather_is : gather ≡ newest (open_to c.height opens)
+  pub stops : StopsIn t saved.sh saved.cells saved.trail (open_to c.height opens) c.stops
+  pub apart : AreApart c.stops cs
   pub older_are : older saved behind
 
 -- So do all of them, the newest first; 0 is none. Of the older ones it is said over the memory that going back to the newer one gives.
-abbrev pub ChoicesIn : Telling → Shape → (ℕ → ℕ) → List ℕ → ℕ → List Choice → Type 0
-ChoicesIn t sh cells trail word [] = word ≡ 0
-ChoicesIn t sh cells trail word (c ∷ cs) = ChoiceIn (λ w b. ChoicesIn t w.sh w.cells w.trail b cs) t sh cells trail word c
+abbrev pub ChoicesIn : Telling → Shape → (ℕ → ℕ) → List ℕ → (opens : List ℕ) → ℕ → List Choice → Type 0
+ChoicesIn t sh cells trail opens word [] = word ≡ 0
+ChoicesIn t sh cells trail opens word (c ∷ cs) =
+    ChoiceIn (λ w b. ChoicesIn t w.sh w.cells w.trail (open_to c.height opens) b cs) t sh cells trail opens word c cs
 
 -- The newest choice gives back no more than there was at a mark.
-abbrev pub NewestUnder : (t : Telling) (sh : Shape) (cells : ℕ → ℕ) (trail : List ℕ) (word hb : ℕ) (cs : List Choice) →
-    ChoicesIn t sh cells trail word cs → Type 0
-NewestUnder t sh cells trail word hb [] h = Unit {0}
-NewestUnder t sh cells trail word hb (c ∷ cs) h = h.saved.sh.top ≤ hb
+abbrev pub NewestUnder : (t : Telling) (sh : Shape) (cells : ℕ → ℕ) (trail opens : List ℕ) (word hb : ℕ) (cs : List Choice) →
+    ChoicesIn t sh cells trail opens word cs → Type 0
+NewestUnder t sh cells trail opens word hb [] h = Unit {0}
+NewestUnder t sh cells trail opens word hb (c ∷ cs) h = h.saved.sh.top ≤ hb
 
 -- ## A machine
 
--- Words stand for a machine: the registers of the heap, the trail, the newest frame, choice and inner construct, and the newest mark name its parts.
--- Its stoppable parts, its gatherings, its text and what lasts have no words here.
-pub record MidIn (t : Telling) (sh : Shape) (cells : ℕ → ℕ) (trail : List ℕ) (m : Mid) : Type 0 where
+-- Words stand for a machine: the registers of the heap, the trail, the newest frame, choice, inner construct and stoppable part, and the newest mark
+-- name its parts. The rest is as these words outside are.
+pub record MidIn (t : Telling) (outer : ℕ → ℕ) (sh : Shape) (cells : ℕ → ℕ) (trail : List ℕ) (m : Mid) : Type 0 where
   pub heap : cells heap_reg ≡ m.state.heap
   pub height : cells trail_reg ≡ m.state.trail
   pub state : StateIn t sh cells trail m.state
   pub on_trail : OnTrail cells trail
-  pub frames : FramesIn t sh (cells frame_reg) m.frames
-  pub choices : ChoicesIn t sh cells trail (cells choice_reg) m.choices
+  pub frames : FramesIn t sh m.stops (cells frame_reg) m.frames
+  pub choices : ChoicesIn t sh cells trail (gather_words m.gathered) (cells choice_reg) m.choices
   pub hb : ℕ
   pub mark : cells mark_reg ≡ 32768 + hb
   pub marked : IsMark sh m.state.since hb
-  pub under : NewestUnder t sh cells trail (cells choice_reg) hb m.choices choices
-  pub inner : InnersIn sh (cells inner_reg) m.inner
+  pub under : NewestUnder t sh cells trail (gather_words m.gathered) (cells choice_reg) hb m.choices choices
+  pub inner : InnersIn sh m.stops (cells inner_reg) m.inner
+  pub stop : StopNamed (cells stop_reg) m.stop m.stops
+  pub stops : StopsIn t sh cells trail (gather_words m.gathered) m.stops
+  pub stops_under : StopsUnder t sh cells trail (gather_words m.gathered) hb m.stops stops
+  pub apart : AreApart m.stops m.choices
+  pub rest : RestIn t outer cells m.gathered

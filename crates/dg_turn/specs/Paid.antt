@@ -8,9 +8,9 @@ use Rattle.dg_mid.specs.declared.code.Action.TheVariants as action
 use Rattle.dg_mid.specs.declared.code.Op.{Op}
 use Rattle.dg_mid.specs.declared.code.Op.TheVariants as op
 use Rattle.dg_mid.specs.declared.code.RuleCode.{RuleCode}
-use Rattle.dg_mid.specs.State.{Place, Call, Calls, Mid, Status, Runs, Enters, Resumes, Fails}
+use Rattle.dg_mid.specs.State.{Place, Frame, Call, Calls, Mid, Status, Runs, Enters, Resumes, Fails}
 use Rattle.dg_mid.specs.Step.{Setting}
-use Rattle.dg_mid.specs.Units.{units, selects, dropped, dropped_once, undone}
+use Rattle.dg_mid.specs.Units.{units, selects, dropped, dropped_once, undone, unwound}
 use Rattle.dg_turn.specs.Terms.{AreNodes}
 use Rattle.dg_turn.specs.Turns.{entering_most, equal_most}
 use Rattle.dg_turn.specs.Queries.{asking_most}
@@ -20,7 +20,8 @@ abbrev pub paid : Setting → List Print → Status → ℕ
 paid g ps now = 800 * units g ps now + 9000 * selects now
 
 -- The costs of a rule of at most 300 variables and 12 parameters, of an equation, of a query of at most 2,200 rules, of going on with as many, of going
--- back, of leaving an inner construct, and of answering a rule, as the turns have them, are paid for.
+-- back, of leaving an inner construct or a stoppable part, of opening a choice with or without one, of stopping, and of answering a rule, as the turns
+-- have them, are paid for.
 pub record TurnsArePaid : Type 0 where
   pub enter : (g : Setting) (ps : List Print) (call : Call) (m : Mid) (vars : ℕ) (head : List Term) (ops : List Op) →
       m.ops ≡ op.Enter vars head ∷ ops → AreNodes g.game.program (nodes_of head) → vars ≤ 300 → length head ≤ 12 →
@@ -40,3 +41,15 @@ pub record TurnsArePaid : Type 0 where
       m.inner ≡ place ∷ places → 4 * dropped place m.choices + 15 ≤ paid g ps (Runs m)
   pub returned : (g : Setting) (ps : List Print) (m : Mid) (ops : List Op) → m.ops ≡ op.Return ∷ ops →
       4 * dropped_once m.frames m.choices + 20 ≤ paid g ps (Runs m)
+  pub branch : (g : Setting) (ps : List Print) (m : Mid) (alt : ℕ) (ops : List Op) → m.ops ≡ op.Branch alt ∷ ops → 30 ≤ paid g ps (Runs m)
+  pub try : (g : Setting) (ps : List Print) (m : Mid) (alt : ℕ) (ops : List Op) → m.ops ≡ op.Try alt ∷ ops → 30 ≤ paid g ps (Runs m)
+  pub shield : (g : Setting) (ps : List Print) (m : Mid) (alt : ℕ) (ops : List Op) → m.ops ≡ op.Shield alt ∷ ops → 30 ≤ paid g ps (Runs m)
+  pub once : (g : Setting) (ps : List Print) (m : Mid) (ops : List Op) → m.ops ≡ op.Once ∷ ops → 20 ≤ paid g ps (Runs m)
+  pub leave : (g : Setting) (ps : List Print) (m : Mid) (place : Place) (places : List Place) (ops : List Op) → m.ops ≡ op.Leave ∷ ops →
+      m.inner ≡ place ∷ places → 4 * dropped place m.choices + 16 ≤ paid g ps (Runs m)
+  pub refuse : (g : Setting) (ps : List Print) (m : Mid) (place : Place) (places : List Place) (ops : List Op) → m.ops ≡ op.Refuse ∷ ops →
+      m.inner ≡ place ∷ places → 4 * dropped place m.choices + 15 ≤ paid g ps (Runs m)
+  pub stop : (g : Setting) (ps : List Print) (m : Mid) (ops : List Op) → m.ops ≡ op.Do action.Stop ∷ ops →
+      3 + (6 * unwound m.stop m + 20) ≤ paid g ps (Runs m)
+  pub just : (g : Setting) (ps : List Print) (m : Mid) (f : Frame) (fs : List Frame) (ops : List Op) → m.ops ≡ op.Do action.Just ∷ ops →
+      m.frames ≡ f ∷ fs → 4 * dropped f.cut m.choices + 10 ≤ paid g ps (Runs m)

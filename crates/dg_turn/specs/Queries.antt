@@ -23,12 +23,11 @@ use Rattle.z_lang.specs.declared.act.Routine.{Routine}
 use Rattle.z_lang.specs.Leads.{Leads}
 use Rattle.dg_rt.specs.declared.numbers.TheConstants.{FAIL, ASK}
 use Rattle.dg_rt.specs.declared.registers.TheConstants.{ARGS}
-use Rattle.dg_rt.specs.Areas.{last_reg}
 use Rattle.dg_rt.specs.RunTime.{routine_of}
 use Rattle.dg_rt.specs.Closings.{closing_most}
 use Rattle.dg_turn.specs.Told.{Telling, FirstIs, RulesAt}
 use Rattle.dg_turn.specs.Lies.{bit_of}
-use Rattle.dg_turn.specs.Plays.{Playing, Represented, Closes}
+use Rattle.dg_turn.specs.Plays.{Playing, Outside, Represented, Closes}
 use Rattle.dg_turn.specs.Terms.{terms_acts, AreNodes, written_in}
 use Rattle.dg_turn.specs.Rules.{LooksAt, BegunTo, behind_first}
 
@@ -59,7 +58,7 @@ abbrev pub asking_most : CoreProgram → List Term → Mid → ℕ
 asking_most program ts m = written_in program ts + 5 * first_looks (registers_of m) (map (value_of program (vars_of m.frames)) ts) + 40
 
 -- In so many instructions at most the player comes to where the rules of a query are looked at.
-pub record AskedAt (t : Telling) (output : List ℕ) (number : ℕ) (call : Call) (first : Option Value) (last : ℕ) (m : Mid) (most : ℕ)
+pub record AskedAt (t : Telling) (out : Outside) (number : ℕ) (call : Call) (first : Option Value) (m : Mid) (most : ℕ)
     (z : ZState) : Type 0 where
   pub key : ℕ
   pub key_is : FirstIs first key
@@ -67,14 +66,13 @@ pub record AskedAt (t : Telling) (output : List ℕ) (number : ℕ) (call : Call
   pub count : ℕ
   pub few : count ≤ most
   pub leads : Leads t.p.world count z there
-  pub looks : LooksAt t output number call key 0 m there
-  pub last_is : looks.rep.cells last_reg ≡ last
+  pub looks : LooksAt t out number call key 0 m there
 
 -- The player is in front of the routine of a query.
-pub record Asking (t : Telling) (output : List ℕ) (ts : List Term) (many : Bool) (next rules : ℕ) (m : Mid) (z : ZState) : Type 0 where
+pub record Asking (t : Telling) (out : Outside) (ts : List Term) (many : Bool) (next rules : ℕ) (m : Mid) (z : ZState) : Type 0 where
   pub x : ℕ
   pub behind : ℕ
-  pub rep : Represented t output x m z
+  pub rep : Represented t out x m z
   pub there : t.p.routine_at x ≡ Some (asking_routine t.program ts behind many rules)
   pub goes : t.p.names.routine behind ≡ t.at_block next
   pub short : length ts ≤ 12
@@ -82,31 +80,31 @@ pub record Asking (t : Telling) (output : List ℕ) (ts : List Term) (many : Boo
 
 -- In one turn a query is asked, and its rules are looked at next; or the heap's limit is met.
 pub record AskTurns : Type 0 where
-  pub asks : (t : Telling) → Playing t → (output : List ℕ) (ts : List Term) (many : Bool) (next rules : ℕ) (m : Mid) (z : ZState) →
-      (a : Asking t output ts many next rules m z) → m.state.heap + cells t.program ts ≤ 10000 →
+  pub asks : (t : Telling) → Playing t → (out : Outside) (ts : List Term) (many : Bool) (next rules : ℕ) (m : Mid) (z : ZState) →
+      (a : Asking t out ts many next rules m z) → m.state.heap + cells t.program ts ≤ 10000 →
       let call = asked_call t.program ts many next m in
-      AskedAt t output rules call (first_of m.state.subst call) (a.rep.cells last_reg) (more (cells t.program ts) m)
+      AskedAt t out rules call (first_of m.state.subst call) (more (cells t.program ts) m)
       (asking_most t.program ts m) z
-  pub meets : (t : Telling) → Playing t → (output : List ℕ) (ts : List Term) (many : Bool) (next rules : ℕ) (m : Mid) (z : ZState) →
-      (a : Asking t output ts many next rules m z) → 10000 < m.state.heap + cells t.program ts →
-      Closes t output (a.rep.cells last_reg) HeapLimit (10 + closing_most) z
+  pub meets : (t : Telling) → Playing t → (out : Outside) (ts : List Term) (many : Bool) (next rules : ℕ) (m : Mid) (z : ZState) →
+      (a : Asking t out ts many next rules m z) → 10000 < m.state.heap + cells t.program ts →
+      Closes t out HeapLimit (10 + closing_most) z
 
 -- A whole query, whose terms fit the heap: `does` of an `Ask` in dg_mid/specs/Step.antt.
 abbrev pub AskBegins : Type 0
-AskBegins = (t : Telling) → Playing t → ((b : ℕ) → t.at_block b ≢ 0) → (output : List ℕ) (ts : List Term) (many : Bool) (next number : ℕ)
+AskBegins = (t : Telling) → Playing t → ((b : ℕ) → t.at_block b ≢ 0) → (out : Outside) (ts : List Term) (many : Bool) (next number : ℕ)
     (rules : List RuleCode) (m : Mid) (z : ZState) → RulesAt t (length ts) number rules →
     m.state.heap + cells t.program ts ≤ 10000 →
-    (a : Asking t output ts many next number m z) →
+    (a : Asking t out ts many next number m z) →
     let call = asked_call t.program ts many next m in
     let first = first_of m.state.subst call in
     let found = selected first rules in
-    BegunTo t output call found (behind_first first found) (a.rep.cells last_reg) (more (cells t.program ts) m)
+    BegunTo t out call found (behind_first first found) (more (cells t.program ts) m)
     (asking_most t.program ts m + 4 * length rules + 70) z
 
 -- ## Going back
 
 -- In so many instructions at most the player comes to where further rules of a query are looked at, back at their choice.
-pub record GoneBack (t : Telling) (output : List ℕ) (rules : List RuleCode) (call : Call) (first : Option Value) (last : ℕ) (m : Mid) (most : ℕ)
+pub record GoneBack (t : Telling) (out : Outside) (rules : List RuleCode) (call : Call) (first : Option Value) (m : Mid) (most : ℕ)
     (z : ZState) : Type 0 where
   pub number : ℕ
   pub rules_are : RulesAt t (length call.args) number rules
@@ -116,29 +114,28 @@ pub record GoneBack (t : Telling) (output : List ℕ) (rules : List RuleCode) (c
   pub count : ℕ
   pub few : count ≤ most
   pub leads : Leads t.p.world count z there
-  pub looks : LooksAt t output number call key 0 m there
+  pub looks : LooksAt t out number call key 0 m there
   pub cut : call.cut.height ≡ m.state.heap
-  pub last_is : looks.rep.cells last_reg ≡ last
 
 -- In one turn a failure goes back to a choice of further rules, in 6 instructions for each binding that is undone and 34: `goes_back` of
 -- dg_mid/specs/Step.antt. What the frames and inner constructs are doesn't matter: the choice gives its own back.
 abbrev pub FailTurns : Type 0
-FailTurns = (t : Telling) → Playing t → (output : List ℕ) (m : Mid) (x : Choice) (xs : List Choice) (call : Call) (rules : List RuleCode)
+FailTurns = (t : Telling) → Playing t → (out : Outside) (m : Mid) (x : Choice) (xs : List Choice) (call : Call) (rules : List RuleCode)
     (z : ZState) → m.choices ≡ x ∷ xs → x.way ≡ Calls call rules → StatusOrdered (Fails m) → length call.args ≤ 12 →
-    (r : Represented t output (t.p.names.routine FAIL) m z) →
-    GoneBack t output rules call (first_of x.state.subst call) (r.cells last_reg) (back_at x xs m) (6 * undone m.choices m + 34) z
+    (r : Represented t out (t.p.names.routine FAIL) m z) →
+    GoneBack t out rules call (first_of x.state.subst call) (back_at x xs m) (6 * undone m.choices m + 34) z
 
 -- So it goes, with the rules that are looked at then.
 abbrev pub FailBegins : Type 0
-FailBegins = (t : Telling) → Playing t → ((b : ℕ) → t.at_block b ≢ 0) → (output : List ℕ) (m : Mid) (x : Choice) (xs : List Choice)
+FailBegins = (t : Telling) → Playing t → ((b : ℕ) → t.at_block b ≢ 0) → (out : Outside) (m : Mid) (x : Choice) (xs : List Choice)
     (call : Call) (rules : List RuleCode) (z : ZState) → m.choices ≡ x ∷ xs → x.way ≡ Calls call rules → StatusOrdered (Fails m) →
-    length call.args ≤ 12 → (r : Represented t output (t.p.names.routine FAIL) m z) →
+    length call.args ≤ 12 → (r : Represented t out (t.p.names.routine FAIL) m z) →
     let first = first_of x.state.subst call in
     let found = selected first rules in
-    BegunTo t output call found (behind_first first found) (r.cells last_reg) (back_at x xs m)
+    BegunTo t out call found (behind_first first found) (back_at x xs m)
     (6 * undone m.choices m + 4 * length rules + 104) z
 
 -- Without a choice the run has failed: its line ends it.
 abbrev pub FailEnds : Type 0
-FailEnds = (t : Telling) → Playing t → (output : List ℕ) (m : Mid) (z : ZState) → m.choices ≡ [] →
-    (r : Represented t output (t.p.names.routine FAIL) m z) → Closes t output (r.cells last_reg) Failed 30 z
+FailEnds = (t : Telling) → Playing t → (out : Outside) (m : Mid) (z : ZState) → m.choices ≡ [] →
+    (r : Represented t out (t.p.names.routine FAIL) m z) → Closes t out Failed 30 z

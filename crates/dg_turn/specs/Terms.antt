@@ -173,14 +173,14 @@ written_in program ts = 20 * writing ts + all_capturing program (nodes_of ts)
 
 -- Acts went on behind terms that were written: memory stands for the machine with their cells taken, registers from one on hold the words of their
 -- values, and what isn't theirs is as it was.
-pub record Wrote (t : Telling) (f w : ℕ) (body rest all : List Act) (sh : Shape) (memory typed output : List ℕ) (drawn : ℕ) (cells : ℕ → ℕ)
-    (trail : List ℕ) (m : Mid) (n v : ℕ) (vs : List Value) (most : ℕ) : Type 0 where
+pub record Wrote (t : Telling) (outer : ℕ → ℕ) (f w : ℕ) (body rest all : List Act) (sh : Shape) (memory typed output : List ℕ) (drawn : ℕ)
+    (cells : ℕ → ℕ) (trail : List ℕ) (m : Mid) (n v : ℕ) (vs : List Value) (most : ℕ) : Type 0 where
   pub memory' : List ℕ
   pub cells' : ℕ → ℕ
   pub holds : Holds t.p.world.layout memory' cells'
   pub sh' : Shape
   pub grown : Grown sh sh'
-  pub mid : MidIn t sh' cells' trail (more n m)
+  pub mid : MidIn t outer sh' cells' trail (more n m)
   pub words : WordsIn sh' (registers cells' (v - 16) (length vs)) vs
   pub others : (k : ℕ) → k ≢ heap_reg → k ≢ term_reg → k ≢ word_reg → (v ≤ k + 16 → v + length vs ≤ k + 16) → k < heap_at →
       cells' k ≡ cells k
@@ -201,13 +201,13 @@ pub record Meets (t : Telling) (f w : ℕ) (body all : List Act) (memory typed o
 
 -- Terms are written where there is room for them; else the limit is met.
 pub record TermsWork : Type 0 where
-  pub writes : (t : Telling) → HasRunTime t.p → (f w : ℕ) → 0 < f → 8 ≤ w → (sh : Shape) (memory typed output : List ℕ) (drawn : ℕ)
-      (c : ℕ → ℕ) (trail : List ℕ) (m : Mid) → Holds t.p.world.layout memory c → MidIn t sh c trail m →
-      (body rest : List Act) (v : ℕ) (ts : List Term) → 31 ≤ v → v + length ts ≤ 240 → AreNodes t.program (nodes_of ts) →
-      m.state.heap + cells t.program ts ≤ 10000 →
-      Wrote t f w body rest (terms_acts t.program v ts ++ rest) sh memory typed output drawn c trail m (cells t.program ts) v
+  pub writes : (t : Telling) (outer : ℕ → ℕ) → HasRunTime t.p → (f w : ℕ) → 0 < f → 8 ≤ w → (sh : Shape)
+      (memory typed output : List ℕ) (drawn : ℕ) (c : ℕ → ℕ) (trail : List ℕ) (m : Mid) → Holds t.p.world.layout memory c → MidIn t outer sh c trail m →
+      (body rest : List Act) (v : ℕ) (ts : List Term) → 31 ≤ v → v + length ts ≤ 240 → (44 < v + length ts → 52 ≤ v) →
+      AreNodes t.program (nodes_of ts) → m.state.heap + cells t.program ts ≤ 10000 →
+      Wrote t outer f w body rest (terms_acts t.program v ts ++ rest) sh memory typed output drawn c trail m (cells t.program ts) v
       (map (value_of t.program (vars_of m.frames)) ts) (written_in t.program ts + 6)
-  pub meets : (t : Telling) → HasRunTime t.p → (f w : ℕ) → 3 ≤ f → 1 ≤ w → (sh : Shape) (memory typed output : List ℕ) (drawn : ℕ)
-      (c : ℕ → ℕ) (trail : List ℕ) (m : Mid) → Holds t.p.world.layout memory c → MidIn t sh c trail m →
+  pub meets : (t : Telling) (outer : ℕ → ℕ) → HasRunTime t.p → (f w : ℕ) → 3 ≤ f → 1 ≤ w → (sh : Shape)
+      (memory typed output : List ℕ) (drawn : ℕ) (c : ℕ → ℕ) (trail : List ℕ) (m : Mid) → Holds t.p.world.layout memory c → MidIn t outer sh c trail m →
       (body rest : List Act) (v : ℕ) (ts : List Term) → 10000 < m.state.heap + cells t.program ts →
       Meets t f w body (terms_acts t.program v ts ++ rest) memory typed output drawn c 5

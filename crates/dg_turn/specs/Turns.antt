@@ -21,12 +21,11 @@ use Rattle.z_lang.specs.declared.act.Routine.{Routine}
 use Rattle.z_lang.specs.State.{Program}
 use Rattle.dg_rt.specs.declared.numbers.TheConstants.{ENTER, MATCH, MATCHED, COMMIT, FAIL}
 use Rattle.dg_rt.specs.declared.registers.TheConstants.{ARGS, CLASH, WORD}
-use Rattle.dg_rt.specs.Areas.{last_reg}
 use Rattle.dg_rt.specs.RunTime.{routine_of}
 use Rattle.dg_rt.specs.Unifies.{price}
 use Rattle.dg_rt.specs.Closings.{closing_most}
 use Rattle.dg_turn.specs.Told.{Telling}
-use Rattle.dg_turn.specs.Plays.{Playing, Represented, CallAt, Comes, Closes}
+use Rattle.dg_turn.specs.Plays.{Playing, Outside, Represented, CallAt, Comes, Closes}
 use Rattle.dg_turn.specs.Terms.{capped, terms_acts, AreNodes, written_in}
 
 -- The routine that comes behind a unification: this one, or the one that fails.
@@ -82,9 +81,9 @@ entering_most program call vars head m =
     4 * vars + written_in program head + price m.state.subst (head_equations program call vars head m) + 6 * length head + 40
 
 -- The player is in front of the routine that enters a rule, with a call in registers.
-pub record Entering (t : Telling) (output : List ℕ) (call : Call) (vars : ℕ) (head : List Term) (behind : ℕ) (m : Mid) (z : ZState) : Type 0 where
+pub record Entering (t : Telling) (out : Outside) (call : Call) (vars : ℕ) (head : List Term) (behind : ℕ) (m : Mid) (z : ZState) : Type 0 where
   pub x : ℕ
-  pub rep : Represented t output x m z
+  pub rep : Represented t out x m z
   pub call_is : CallAt t rep.sh rep.cells call
   pub there : t.p.routine_at x ≡ Some (enter_routine t.program vars head behind)
   pub fits : length call.args ≡ length head
@@ -93,18 +92,18 @@ pub record Entering (t : Telling) (output : List ℕ) (call : Call) (vars : ℕ)
 
 -- In one turn a rule is entered, or a limit is met: `enter` of dg_mid/specs/Step.antt.
 pub record EnterTurns : Type 0 where
-  pub enters : (t : Telling) → Playing t → (output : List ℕ) (call : Call) (vars : ℕ) (head : List Term) (behind : ℕ) (m : Mid) (z : ZState) →
-      Entering t output call vars head behind m z → m.state.heap + (6 + vars + cells t.program head) ≤ 10000 →
+  pub enters : (t : Telling) → Playing t → (out : Outside) (call : Call) (vars : ℕ) (head : List Term) (behind : ℕ) (m : Mid) (z : ZState) →
+      Entering t out call vars head behind m z → m.state.heap + (6 + vars + cells t.program head) ≤ 10000 →
       let u = head_unified t.program call vars head m in
       trail_more m.state u ≤ 2000 →
-      Comes t output (agreed_next t.p behind u.agrees) (entered t.program call vars head u m) (entering_most t.program call vars head m) z
-  pub meets_heap : (t : Telling) → Playing t → (output : List ℕ) (call : Call) (vars : ℕ) (head : List Term) (behind : ℕ) (m : Mid) (z : ZState) →
-      (e : Entering t output call vars head behind m z) → vars ≤ 300 → 10000 < m.state.heap + (6 + vars + cells t.program head) →
-      Closes t output (e.rep.cells last_reg) HeapLimit (10 + closing_most) z
-  pub meets_trail : (t : Telling) → Playing t → (output : List ℕ) (call : Call) (vars : ℕ) (head : List Term) (behind : ℕ) (m : Mid) (z : ZState) →
-      (e : Entering t output call vars head behind m z) → m.state.heap + (6 + vars + cells t.program head) ≤ 10000 →
+      Comes t out (agreed_next t.p behind u.agrees) (entered t.program call vars head u m) (entering_most t.program call vars head m) z
+  pub meets_heap : (t : Telling) → Playing t → (out : Outside) (call : Call) (vars : ℕ) (head : List Term) (behind : ℕ) (m : Mid) (z : ZState) →
+      (e : Entering t out call vars head behind m z) → vars ≤ 300 → 10000 < m.state.heap + (6 + vars + cells t.program head) →
+      Closes t out HeapLimit (10 + closing_most) z
+  pub meets_trail : (t : Telling) → Playing t → (out : Outside) (call : Call) (vars : ℕ) (head : List Term) (behind : ℕ) (m : Mid) (z : ZState) →
+      (e : Entering t out call vars head behind m z) → m.state.heap + (6 + vars + cells t.program head) ≤ 10000 →
       2000 < trail_more m.state (head_unified t.program call vars head m) →
-      Closes t output (e.rep.cells last_reg) TrailLimit (entering_most t.program call vars head m + closing_most) z
+      Closes t out TrailLimit (entering_most t.program call vars head m + closing_most) z
 
 -- ## Two terms are unified
 
@@ -125,26 +124,26 @@ abbrev pub equal_most : CoreProgram → Term → Term → Mid → ℕ
 equal_most program a b m = written_in program (a ∷ b ∷ []) + price m.state.subst (equation program a b m) + 30
 
 -- The player is in front of the routine that unifies two terms.
-pub record Equating (t : Telling) (output : List ℕ) (a b : Term) (behind : ℕ) (m : Mid) (z : ZState) : Type 0 where
+pub record Equating (t : Telling) (out : Outside) (a b : Term) (behind : ℕ) (m : Mid) (z : ZState) : Type 0 where
   pub x : ℕ
-  pub rep : Represented t output x m z
+  pub rep : Represented t out x m z
   pub there : t.p.routine_at x ≡ Some (equal_routine t.program a b behind)
   pub nodes : AreNodes t.program (nodes_of (a ∷ b ∷ []))
 
 -- In one turn two terms are unified, or a limit is met: what `done` of dg_mid/specs/Step.antt does of a goal (= a b).
 pub record EqualTurns : Type 0 where
-  pub unifies : (t : Telling) → Playing t → (output : List ℕ) (a b : Term) (behind : ℕ) (m : Mid) (z : ZState) → Equating t output a b behind m z →
+  pub unifies : (t : Telling) → Playing t → (out : Outside) (a b : Term) (behind : ℕ) (m : Mid) (z : ZState) → Equating t out a b behind m z →
       m.state.heap + cells t.program (a ∷ b ∷ []) ≤ 10000 →
       let u = equal_unified t.program a b m in
       trail_more m.state u ≤ 2000 →
-      Comes t output (agreed_next t.p behind u.agrees) (bound u (more (cells t.program (a ∷ b ∷ [])) m)) (equal_most t.program a b m) z
-  pub meets_heap : (t : Telling) → Playing t → (output : List ℕ) (a b : Term) (behind : ℕ) (m : Mid) (z : ZState) →
-      (e : Equating t output a b behind m z) → 10000 < m.state.heap + cells t.program (a ∷ b ∷ []) →
-      Closes t output (e.rep.cells last_reg) HeapLimit (10 + closing_most) z
-  pub meets_trail : (t : Telling) → Playing t → (output : List ℕ) (a b : Term) (behind : ℕ) (m : Mid) (z : ZState) →
-      (e : Equating t output a b behind m z) → m.state.heap + cells t.program (a ∷ b ∷ []) ≤ 10000 →
+      Comes t out (agreed_next t.p behind u.agrees) (bound u (more (cells t.program (a ∷ b ∷ [])) m)) (equal_most t.program a b m) z
+  pub meets_heap : (t : Telling) → Playing t → (out : Outside) (a b : Term) (behind : ℕ) (m : Mid) (z : ZState) →
+      (e : Equating t out a b behind m z) → 10000 < m.state.heap + cells t.program (a ∷ b ∷ []) →
+      Closes t out HeapLimit (10 + closing_most) z
+  pub meets_trail : (t : Telling) → Playing t → (out : Outside) (a b : Term) (behind : ℕ) (m : Mid) (z : ZState) →
+      (e : Equating t out a b behind m z) → m.state.heap + cells t.program (a ∷ b ∷ []) ≤ 10000 →
       2000 < trail_more m.state (equal_unified t.program a b m) →
-      Closes t output (e.rep.cells last_reg) TrailLimit (equal_most t.program a b m + closing_most) z
+      Closes t out TrailLimit (equal_most t.program a b m + closing_most) z
 
 -- ## It goes on
 
@@ -154,8 +153,8 @@ goto_routine next = routine_of 0 (acts.Return (atoms.Routine next) ∷ [])
 
 -- In one turn it goes on: `does` of a `Goto`, of a `Take` and of a `Back`.
 abbrev pub GotoTurns : Type 0
-GotoTurns = (t : Telling) → Playing t → (output : List ℕ) (x next : ℕ) (m : Mid) (z : ZState) →
-    t.p.routine_at x ≡ Some (goto_routine next) → Represented t output x m z → Comes t output (t.p.names.routine next) m 3 z
+GotoTurns = (t : Telling) → Playing t → (out : Outside) (x next : ℕ) (m : Mid) (z : ZState) →
+    t.p.routine_at x ≡ Some (goto_routine next) → Represented t out x m z → Comes t out (t.p.names.routine next) m 3 z
 
 -- ## An inner construct is left
 
@@ -166,6 +165,6 @@ commit_routine behind = routine_of 0 (acts.Call None (atoms.Routine COMMIT) args
 -- In one turn the newest inner construct is left, and the choices inside it are dropped, in 4 instructions each: `commits` of
 -- dg_mid/specs/Step.antt.
 abbrev pub CommitTurns : Type 0
-CommitTurns = (t : Telling) → Playing t → (output : List ℕ) (x : ℕ) (m : Mid) (z : ZState) (place : Place) (places : List Place) (behind : ℕ) →
-    t.p.routine_at x ≡ Some (commit_routine behind) → m.inner ≡ place ∷ places → AgreeAll m.choices place → Represented t output x m z →
-    Comes t output (t.p.names.routine behind) (cut_to place (record m { inner = places })) (4 * dropped place m.choices + 15) z
+CommitTurns = (t : Telling) → Playing t → (out : Outside) (x : ℕ) (m : Mid) (z : ZState) (place : Place) (places : List Place) (behind : ℕ) →
+    t.p.routine_at x ≡ Some (commit_routine behind) → m.inner ≡ place ∷ places → AgreeAll m.choices place → Represented t out x m z →
+    Comes t out (t.p.names.routine behind) (cut_to place (record m { inner = places })) (4 * dropped place m.choices + 15) z

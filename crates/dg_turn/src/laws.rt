@@ -4,6 +4,7 @@ ghost use Rattle.dg_turn.specs.LastQueries.{LastTurns};
 ghost use Rattle.dg_turn.specs.Leaving.{JustTurns, ReturnTurns};
 ghost use Rattle.dg_turn.specs.Paid.{TurnsArePaid};
 ghost use Rattle.dg_turn.specs.Queries.{AskBegins, AskTurns, FailBegins, FailEnds, FailTurns};
+ghost use Rattle.dg_turn.specs.Stopping.{DoneTurns, LeaveTurns, NoRuleTurns, RefuseTurns, ShieldTurns, StopTurns};
 ghost use Rattle.dg_turn.specs.Rules.{BeginTurns, FoundTurns, NoneTurns, SelectTurns};
 ghost use Rattle.dg_turn.specs.Terms.{TermsWork};
 ghost use Rattle.dg_turn.specs.Turns.{CommitTurns, EnterTurns, EqualTurns, GotoTurns};
@@ -106,6 +107,36 @@ pub fn once_turns()
 /// Going back to a choice of a block is a turn.
 pub fn back_turns()
     ensures { BackTurns }
+{}
+
+/// Beginning a stoppable part is a turn.
+pub fn shield_turns()
+    ensures { ShieldTurns }
+{}
+
+/// Leaving a stoppable part is a turn.
+pub fn leave_turns()
+    ensures { LeaveTurns }
+{}
+
+/// Leaving an inner construct and failing is a turn.
+pub fn refuse_turns()
+    ensures { RefuseTurns }
+{}
+
+/// A stop is a turn.
+pub fn stop_turns()
+    ensures { StopTurns }
+{}
+
+/// A run that is done ends.
+pub fn done_turns()
+    ensures { DoneTurns }
+{}
+
+/// An answer where there is no rule fails, in a turn.
+pub fn no_rule_turns()
+    ensures { NoRuleTurns }
 {}
 
 /// What the turns cost is paid for.
