@@ -1,0 +1,6 @@
+//! Whole runs of a story, out of its turns.
+#![tactic(auto)]
+
+mod laws;
+
+pub use laws::{ops_make_steps, stories_fit};
