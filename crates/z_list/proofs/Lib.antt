@@ -1,0 +1,15 @@
+mod Rows
+mod Sound
+mod Sounds
+mod Complete
+mod Instructions
+mod Same
+mod Written
+mod Held
+mod TextLemmas
+mod OneLine
+mod Turns
+mod OneStory
+mod Clear
+mod GoesOn
+mod Bad

@@ -1,0 +1,4 @@
+pub mod Listing
+pub mod Texts
+pub mod Reads
+pub mod inside

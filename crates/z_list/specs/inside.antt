@@ -1,0 +1,5 @@
+pub mod Lines
+pub mod Written
+pub mod Held
+pub mod Read
+pub mod Numbers
