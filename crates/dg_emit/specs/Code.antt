@@ -1,0 +1,152 @@
+-- The routines of code, in the order of their numbers. Hold it against dg_mid/specs/Step.antt, and each against what dg_turn says that it does.
+use Rattle.std.specs.Prelude.{ℕ, ◌+◌, ◌≤◌, List, [], ◌∷◌, ◌++◌, length, Bool, true, false, ◌&&◌}
+use Rattle.dg_base.specs.declared.program.CoreProgram.{CoreProgram}
+use Rattle.dg_base.specs.declared.program.Term.{Term}
+use Rattle.dg_meaning.specs.Cells.{nodes_of}
+use Rattle.dg_mid.specs.declared.code.Action.TheVariants as action
+use Rattle.dg_mid.specs.declared.code.Op.{Op}
+use Rattle.dg_mid.specs.declared.code.Op.TheVariants as op
+use Rattle.dg_mid.specs.declared.code.Block.{Block}
+use Rattle.dg_mid.specs.declared.code.RuleCode.{RuleCode}
+use Rattle.dg_mid.specs.declared.code.Code.{Code}
+use Rattle.dg_mid.specs.Code.{block_at, label_of}
+use Rattle.z_lang.specs.declared.act.Routine.{Routine}
+use Rattle.dg_rt.specs.declared.numbers.TheConstants.{FAIL}
+use Rattle.dg_rt.specs.RunTime.{routine_of}
+use Rattle.dg_turn.specs.Told.{rule_acts, KeyFits}
+use Rattle.dg_turn.specs.Terms.{AreNodes}
+use Rattle.dg_turn.specs.Turns.{enter_routine, equal_routine, goto_routine, commit_routine}
+use Rattle.dg_turn.specs.Queries.{asking_routine}
+use Rattle.dg_turn.specs.LastQueries.{last_routine}
+use Rattle.dg_turn.specs.Choices.{branch_routine, try_routine, once_routine}
+use Rattle.dg_turn.specs.Leaving.{just_routine}
+use Rattle.dg_emit.specs.declared.numbers.Numbers.{Numbers}
+use Rattle.dg_emit.specs.Numbers.{routines_of_op, routines_of_ops, first_of, first_rule, rules_count, numbers_from, block_number, pred_number}
+
+-- ## Instructions
+
+-- Instructions that have a routine so far.
+abbrev pub is_built : Op → Bool
+is_built (op.Do action.Just) = true
+is_built (op.Do action.Fail) = true
+is_built (op.Do (action.Equal a b)) = true
+is_built (op.Do other) = false
+is_built (op.Ask pred terms many next) = true
+is_built (op.LastAsk pred terms many) = true
+is_built op.Take = true
+is_built (op.Branch alt) = true
+is_built op.Once = true
+is_built (op.Try alt) = true
+is_built (op.Retry alt) = true
+is_built op.Commit = true
+is_built op.Back = true
+is_built op.Return = true
+is_built (op.Goto block) = true
+is_built (op.Enter vars head) = true
+is_built op.Done = true
+is_built other = false
+
+abbrev pub are_built : List Op → Bool
+are_built [] = true
+are_built (x ∷ ops) = is_built x && are_built ops
+
+-- The routine of an instruction that has one of its own, where the code behind it begins with another. What isn't built fails.
+abbrev pub op_routine : CoreProgram → Numbers → ℕ → Op → Routine
+op_routine program numbers behind (op.Do action.Just) = just_routine behind
+op_routine program numbers behind (op.Do (action.Equal a b)) = equal_routine program a b behind
+op_routine program numbers behind (op.Ask pred terms many next) =
+    asking_routine program terms (block_number numbers next) many (pred_number numbers pred)
+op_routine program numbers behind (op.LastAsk pred terms many) = last_routine program terms (block_number numbers 0) many (pred_number numbers pred)
+op_routine program numbers behind op.Take = goto_routine behind
+op_routine program numbers behind (op.Branch alt) = branch_routine (block_number numbers alt) behind
+op_routine program numbers behind op.Once = once_routine behind
+op_routine program numbers behind (op.Try alt) = try_routine (block_number numbers alt) behind
+op_routine program numbers behind (op.Retry alt) = branch_routine (block_number numbers alt) behind
+op_routine program numbers behind op.Commit = commit_routine behind
+op_routine program numbers behind (op.Goto block) = goto_routine (block_number numbers block)
+op_routine program numbers behind (op.Enter vars head) = enter_routine program vars head behind
+op_routine program numbers behind other = goto_routine FAIL
+
+-- The routines of an instruction: its own, or none where every story has it.
+abbrev pub op_routines : CoreProgram → Numbers → ℕ → Op → List Routine
+op_routines program numbers behind op.Return = []
+op_routines program numbers behind op.Done = []
+op_routines program numbers behind x = op_routine program numbers behind x ∷ []
+
+-- The routines of a block, the first of which has a number: those of its instructions, and one that fails.
+abbrev pub ops_routines : CoreProgram → Numbers → ℕ → List Op → List Routine
+ops_routines program numbers number [] = goto_routine FAIL ∷ []
+ops_routines program numbers number (x ∷ ops) =
+    let behind = number + routines_of_op x in
+    op_routines program numbers (first_of behind ops) x ++ ops_routines program numbers behind ops
+
+abbrev pub blocks_routines : CoreProgram → Numbers → ℕ → List Block → List Routine
+blocks_routines program numbers number [] = []
+blocks_routines program numbers number (block ∷ blocks) =
+    ops_routines program numbers number block.ops ++ blocks_routines program numbers (number + routines_of_ops block.ops) blocks
+
+-- ## Rules
+
+-- How many parameters a rule has, whose code this is: the terms of its head.
+abbrev pub parameters_of : List Op → ℕ
+parameters_of (op.Enter vars head ∷ ops) = length head
+parameters_of ops = 0
+
+-- The routine of a rule, which has a number, with others behind it.
+abbrev pub rule_routine : Code → Numbers → ℕ → RuleCode → List RuleCode → Routine
+rule_routine code numbers number rule others =
+    routine_of 1 (rule_acts (label_of rule.key) (parameters_of (block_at code rule.block)) (block_number numbers rule.block) number
+    (first_rule (number + 1) others))
+
+abbrev pub rules_routines : Code → Numbers → ℕ → List RuleCode → List Routine
+rules_routines code numbers number [] = []
+rules_routines code numbers number (rule ∷ rules) =
+    rule_routine code numbers number rule rules ∷ rules_routines code numbers (number + 1) rules
+
+abbrev pub preds_routines : Code → Numbers → ℕ → List (List RuleCode) → List Routine
+preds_routines code numbers number [] = []
+preds_routines code numbers number (rules ∷ preds) =
+    rules_routines code numbers number rules ++ preds_routines code numbers (number + length rules) preds
+
+-- ## All
+
+-- The routines of code whose first one has a number.
+abbrev pub code_routines : CoreProgram → ℕ → Code → List Routine
+code_routines program first code =
+    let numbers = numbers_from first code in
+    preds_routines code numbers first code.preds ++ blocks_routines program numbers (first + rules_count code.preds) code.blocks
+
+-- ## Code of a story
+
+-- Terms of a story, no more than 12.
+abbrev pub TermsFit : CoreProgram → List Term → Type 0
+TermsFit program terms = (length terms ≤ 12) × AreNodes program (nodes_of terms)
+
+-- An instruction whose terms are those of a story.
+abbrev pub OpFits : CoreProgram → Op → Type 0
+OpFits program (op.Do (action.Equal a b)) = TermsFit program (a ∷ b ∷ [])
+OpFits program (op.Ask pred terms many next) = TermsFit program terms
+OpFits program (op.LastAsk pred terms many) = TermsFit program terms
+OpFits program (op.Enter vars head) = TermsFit program head
+OpFits program other = Unit {0}
+
+abbrev pub OpsFit : CoreProgram → List Op → Type 0
+OpsFit program [] = Unit {0}
+OpsFit program (x ∷ ops) = OpFits program x × OpsFit program ops
+
+abbrev pub BlocksFit : CoreProgram → List Block → Type 0
+BlocksFit program [] = Unit {0}
+BlocksFit program (block ∷ blocks) = OpsFit program block.ops × BlocksFit program blocks
+
+-- Rules whose keys are those of a story, with no more than 12 parameters.
+abbrev pub RulesFit : Code → List RuleCode → Type 0
+RulesFit code [] = Unit {0}
+RulesFit code (rule ∷ rules) = KeyFits (label_of rule.key) × (parameters_of (block_at code rule.block) ≤ 12) × RulesFit code rules
+
+abbrev pub PredsFit : Code → List (List RuleCode) → Type 0
+PredsFit code [] = Unit {0}
+PredsFit code (rules ∷ preds) = RulesFit code rules × PredsFit code preds
+
+-- Code whose terms and keys are those of a story.
+abbrev pub CodeFits : CoreProgram → Code → Type 0
+CodeFits program code = BlocksFit program code.blocks × PredsFit code code.preds

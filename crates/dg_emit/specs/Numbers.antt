@@ -1,0 +1,78 @@
+-- The numbers of the routines of code: one for each rule, from a number on, then those of its blocks. Hold it against dg_mid/specs/Code.antt.
+use Rattle.std.specs.Prelude.{ℕ, ◌+◌, List, [], ◌∷◌, length, Option, Some, None}
+use Rattle.std.specs.List.{slice_get}
+use Rattle.dg_mid.specs.declared.code.Op.{Op}
+use Rattle.dg_mid.specs.declared.code.Op.TheVariants as op
+use Rattle.dg_mid.specs.declared.code.Block.{Block}
+use Rattle.dg_mid.specs.declared.code.RuleCode.{RuleCode}
+use Rattle.dg_mid.specs.declared.code.Code.{Code}
+use Rattle.dg_rt.specs.declared.numbers.TheConstants.{DONE, FAIL, LEAVE, NONE as NO_RULE}
+use Rattle.dg_emit.specs.declared.numbers.Numbers.{Numbers}
+
+-- ## Blocks
+
+-- An instruction has one routine. To answer a rule and to end a run are routines that every story has.
+abbrev pub routines_of_op : Op → ℕ
+routines_of_op op.Return = 0
+routines_of_op op.Done = 0
+routines_of_op x = 1
+
+-- Those of a block, and one that fails behind them.
+abbrev pub routines_of_ops : List Op → ℕ
+routines_of_ops [] = 1
+routines_of_ops (x ∷ ops) = routines_of_op x + routines_of_ops ops
+
+abbrev pub blocks_size : List Block → ℕ
+blocks_size [] = 0
+blocks_size (block ∷ blocks) = routines_of_ops block.ops + blocks_size blocks
+
+-- The routine with which some instructions begin, where their own ones begin with a number.
+abbrev pub first_of : ℕ → List Op → ℕ
+first_of number (op.Return ∷ ops) = LEAVE
+first_of number (op.Done ∷ ops) = DONE
+first_of number ops = number
+
+-- The first routine of each block.
+abbrev pub block_starts : ℕ → List Block → List ℕ
+block_starts number [] = []
+block_starts number (block ∷ blocks) = first_of number block.ops ∷ block_starts (number + routines_of_ops block.ops) blocks
+
+-- ## Rules
+
+-- How many rules there are.
+abbrev pub rules_count : List (List RuleCode) → ℕ
+rules_count [] = 0
+rules_count (rules ∷ preds) = length rules + rules_count preds
+
+-- The routine of the first of some rules, where it has a number; behind the last stands the one for what was found.
+abbrev pub first_rule : ℕ → List RuleCode → ℕ
+first_rule number [] = NO_RULE
+first_rule number (rule ∷ rules) = number
+
+-- The first routine of each predicate's rules.
+abbrev pub pred_starts : ℕ → List (List RuleCode) → List ℕ
+pred_starts number [] = []
+pred_starts number (rules ∷ preds) = first_rule number rules ∷ pred_starts (number + length rules) preds
+
+-- ## All
+
+-- The numbers of code whose first routine has a number, and the one behind them.
+abbrev pub numbers_from : ℕ → Code → Numbers
+numbers_from first code =
+    record { preds = pred_starts first code.preds; blocks = block_starts (first + rules_count code.preds) code.blocks }
+
+abbrev pub number_behind : ℕ → Code → ℕ
+number_behind first code = first + rules_count code.preds + blocks_size code.blocks
+
+-- The number, or another where there is none.
+abbrev pub number_or : ℕ → Option ℕ → ℕ
+number_or other None = other
+number_or other (Some number) = number
+
+-- The first routine of a block; without such a block, the one that fails.
+abbrev pub block_number : Numbers → ℕ → ℕ
+block_number numbers block = number_or FAIL (slice_get numbers.blocks block)
+
+-- The first routine of a predicate's rules; without such a predicate, the one behind the last rule.
+abbrev pub pred_number : Numbers → ℕ → ℕ
+pred_number numbers pred = number_or NO_RULE (slice_get numbers.preds pred)

@@ -1,0 +1,87 @@
+// The routines of what takes no terms: choices, inner constructs, (just), and going on.
+ghost use Rattle.std.specs.Prelude.{◌≡◌, IfOk};
+ghost use Rattle.dg_turn.specs.Choices as spec;
+ghost use Rattle.dg_turn.specs.Turns as turns;
+ghost use Rattle.dg_turn.specs.Leaving.{just_routine};
+ghost use Rattle.dg_rt.specs.RunTime.{routine_of};
+ghost use Rattle.dg_emit.specs.inside.Acts as inside;
+
+use dg_base::Items;
+use dg_rt::numbers::{COMMIT, CUT, OPEN, OPEN_INNER};
+use dg_rt::registers::{FRAME, INNER, WORD};
+use std::alloc::{AllocError, Global};
+use z_lang::{Act, Args, Atom, Function, Routine};
+
+// A routine of these acts.
+fn routine(alloc: Global, acts: &[Act]) -> Result<Routine, AllocError>
+    ensures { IfOk result (λ r. r ≡ routine_of 0 acts.now) }
+{
+    let body = Items::from_slice(alloc, acts)?;
+    Ok(Routine { locals: 0, body })
+}
+
+// A choice is opened whose other way is a routine.
+fn open(into: Option<u8>, other: u16) -> Act
+    ensures { result ≡ inside.open_act into other }
+{
+    let way = Args::Three(Atom::Routine(other), Atom::Num(0), Atom::Num(0));
+    Act::Call(into, Atom::Routine(OPEN), way)
+}
+
+/// The routine that opens a choice whose other way is a routine, and goes on there.
+pub fn branch(alloc: Global, other: u16, behind: u16) -> Result<Routine, AllocError>
+    ensures { IfOk result (λ r. r ≡ spec.branch_routine other behind) }
+{
+    routine(
+        alloc,
+        &[open(None, other), Act::Return(Atom::Routine(behind))],
+    )
+}
+
+/// The same where an inner construct begins with the choice.
+pub fn try_first(alloc: Global, other: u16, behind: u16) -> Result<Routine, AllocError>
+    ensures { IfOk result (λ r. r ≡ spec.try_routine other behind) }
+{
+    routine(
+        alloc,
+        &[open(Some(INNER), other), Act::Return(Atom::Routine(behind))],
+    )
+}
+
+// A routine that calls one without arguments, and goes on there.
+fn calling(alloc: Global, called: u16, behind: u16) -> Result<Routine, AllocError>
+    ensures { IfOk result (λ r. r ≡ inside.calling_routine called behind) }
+{
+    let call = Act::Call(None, Atom::Routine(called), Args::Zero);
+    routine(alloc, &[call, Act::Return(Atom::Routine(behind))])
+}
+
+/// The routine that begins an inner construct without a choice, and goes on there.
+pub fn once(alloc: Global, behind: u16) -> Result<Routine, AllocError>
+    ensures { IfOk result (λ r. r ≡ spec.once_routine behind) }
+{
+    calling(alloc, OPEN_INNER, behind)
+}
+
+/// The routine that leaves an inner construct, and goes on there.
+pub fn commit(alloc: Global, behind: u16) -> Result<Routine, AllocError>
+    ensures { IfOk result (λ r. r ≡ turns.commit_routine behind) }
+{
+    calling(alloc, COMMIT, behind)
+}
+
+/// The routine that drops the choices of the rule at hand, and goes on there.
+pub fn just(alloc: Global, behind: u16) -> Result<Routine, AllocError>
+    ensures { IfOk result (λ r. r ≡ just_routine behind) }
+{
+    let place = Act::Compute(WORD, Function::Word, Atom::Num(674), Atom::Var(FRAME));
+    let cut = Act::Call(None, Atom::Routine(CUT), Args::One(Atom::Var(WORD)));
+    routine(alloc, &[place, cut, Act::Return(Atom::Routine(behind))])
+}
+
+/// The routine of what only goes on.
+pub fn goto(alloc: Global, next: u16) -> Result<Routine, AllocError>
+    ensures { IfOk result (λ r. r ≡ turns.goto_routine next) }
+{
+    routine(alloc, &[Act::Return(Atom::Routine(next))])
+}

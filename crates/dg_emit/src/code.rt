@@ -1,0 +1,176 @@
+// The routines of code.
+ghost use Rattle.std.specs.Prelude.{◌≡◌, ◌+◌, ◌≤◌, ◌++◌, ◌∷◌, [], IfOk, OnOk, length};
+ghost use Rattle.dg_emit.specs.Numbers.{routines_of_ops, blocks_size};
+ghost use Rattle.dg_turn.specs.Turns as turns;
+ghost use Rattle.dg_mid.specs.declared.code.Op.TheVariants as op;
+ghost use Rattle.dg_emit.specs.Code as spec;
+
+use crate::choices::{branch, commit, goto, just, once, try_first};
+use crate::counting::all_of;
+use crate::numbers::{Numbers, first_of, routines_of_op};
+use crate::queries::Asked;
+use crate::terms::Writer;
+use dg_base::{Items, Term};
+use dg_mid::{Action, Block, Op};
+use dg_rt::numbers::FAIL;
+use std::alloc::AllocError;
+use z_lang::Routine;
+
+/// Whether an instruction has a routine so far.
+pub fn is_built(op: &Op) -> bool
+    ensures { result ≡ spec.is_built op.now }
+{
+    match op {
+        Op::Do(Action::Just) | Op::Do(Action::Fail) | Op::Do(Action::Equal(_, _)) => true,
+        Op::Do(_) => false,
+        Op::Query(_, _, _, _) | Op::LastQuery(_, _, _) | Op::Find(_, _, _, _) => false,
+        Op::Select(_, _, _, _) | Op::Shield(_) | Op::Collect(_, _, _) => false,
+        Op::TakeOut(_, _) | Op::Refuse | Op::Leave | Op::Keep(_) => false,
+        _ => true,
+    }
+}
+
+/// Whether all of them have.
+pub fn are_built(ops: &[Op]) -> bool
+    ensures { result ≡ spec.are_built ops.now }
+{
+    for op in ops {
+        if !is_built(op) {
+            return false;
+        }
+    }
+    true
+}
+
+/// Writes the routines of code.
+#[derive(Clone, Copy)]
+pub struct CodeWriter<'p> {
+    pub writer: Writer<'p>,
+    pub numbers: &'p Numbers,
+}
+
+impl CodeWriter<'_> {
+    // The routine of a query.
+    fn ask(&self, pred: u16, terms: &[Term], many: bool, next: u32) -> Result<Routine, AllocError>
+        requires { spec.TermsFit self.now.writer.program.now terms.now }
+        ensures { IfOk result (λ r. r ≡ spec.op_routine self.now.writer.program.now self.now.numbers.now 0 (op.Ask pred terms.now many next)) }
+    {
+        let terms = all_of(self.writer.alloc, terms)?;
+        let rules = self.numbers.pred(pred);
+        let asked = Asked { many, rules };
+        self.writer
+            .asking_routine(terms.as_slice(), self.numbers.block(next), asked)
+    }
+
+    // The routine of the last query of a rule.
+    fn ask_last(&self, pred: u16, terms: &[Term], many: bool) -> Result<Routine, AllocError>
+        requires { spec.TermsFit self.now.writer.program.now terms.now }
+        ensures { IfOk result (λ r. r ≡ spec.op_routine self.now.writer.program.now self.now.numbers.now 0 (op.LastAsk pred terms.now many)) }
+    {
+        let terms = all_of(self.writer.alloc, terms)?;
+        let rules = self.numbers.pred(pred);
+        let asked = Asked { many, rules };
+        self.writer
+            .last_routine(terms.as_slice(), self.numbers.block(0), asked)
+    }
+
+    // The routine that enters a rule.
+    fn enter(&self, vars: u16, head: &[Term], behind: u16) -> Result<Routine, AllocError>
+        requires { spec.TermsFit self.now.writer.program.now head.now }
+        ensures { IfOk result (λ r. r ≡ turns.enter_routine self.now.writer.program.now vars head.now behind) }
+    {
+        let head = all_of(self.writer.alloc, head)?;
+        self.writer.enter_routine(vars, head.as_slice(), behind)
+    }
+
+    // The routine of an action.
+    fn action(&self, behind: u16, action: &Action) -> Result<Routine, AllocError>
+        requires { spec.OpFits self.now.writer.program.now (op.Do action.now) }
+        ensures { IfOk result (λ r. r ≡ spec.op_routine self.now.writer.program.now self.now.numbers.now behind (op.Do action.now)) }
+    {
+        match action {
+            Action::Just => just(self.writer.alloc, behind),
+            Action::Equal(a, b) => self.writer.equal_routine(a, b, behind),
+            _ => goto(self.writer.alloc, FAIL),
+        }
+    }
+
+    // The routine of an instruction that has one of its own, where the code behind it begins with another.
+    fn op_routine(&self, behind: u16, op: &Op) -> Result<Routine, AllocError>
+        requires { spec.OpFits self.now.writer.program.now op.now }
+        ensures { IfOk result (λ r. r ≡ spec.op_routine self.now.writer.program.now self.now.numbers.now behind op.now) }
+    {
+        let alloc = self.writer.alloc;
+        match op {
+            Op::Do(action) => self.action(behind, action),
+            Op::Ask(pred, terms, many, next) => self.ask(*pred, terms.as_slice(), *many, *next),
+            Op::LastAsk(pred, terms, many) => self.ask_last(*pred, terms.as_slice(), *many),
+            Op::Take => goto(alloc, behind),
+            Op::Branch(alt) | Op::Retry(alt) => branch(alloc, self.numbers.block(*alt), behind),
+            Op::Once => once(alloc, behind),
+            Op::Try(alt) => try_first(alloc, self.numbers.block(*alt), behind),
+            Op::Commit => commit(alloc, behind),
+            Op::Goto(block) => goto(alloc, self.numbers.block(*block)),
+            Op::Enter(vars, head) => self.enter(*vars, head.terms(), behind),
+            _ => goto(alloc, FAIL),
+        }
+    }
+
+    // The routines of an instruction.
+    fn put_op(&self, all: &mut Items<Routine>, behind: u16, op: &Op) -> Result<(), AllocError>
+        requires { spec.OpFits self.now.writer.program.now op.now }
+        ensures { OnOk result (all.new ≡ all.old ++ spec.op_routines self.now.writer.program.now self.now.numbers.now behind op.now) }
+    {
+        match op {
+            Op::Return | Op::Done => Ok(()),
+            _ => all.push(self.op_routine(behind, op)?),
+        }
+    }
+
+    // The routines of a block, of which the first has a number.
+    fn put_ops(&self, all: &mut Items<Routine>, number: u16, ops: &[Op]) -> Result<(), AllocError>
+        requires fits { spec.OpsFit self.now.writer.program.now ops.now }
+        requires few { number + routines_of_ops ops.now ≤ 65535 }
+        ensures { OnOk result (all.new ≡ all.old ++ spec.ops_routines self.now.writer.program.now self.now.numbers.now number ops.now) }
+    {
+        let mut next = number;
+        let mut left = ops;
+        while let [op, others @ ..] = left {
+            next += routines_of_op(op);
+            self.put_op(all, first_of(next, others), op)?;
+            left = others;
+        }
+        all.push(goto(self.writer.alloc, FAIL)?)
+    }
+
+    /// The routines of blocks, of which the first has a number.
+    pub fn put_blocks(
+        &self,
+        all: &mut Items<Routine>,
+        number: u16,
+        blocks: &[Block],
+    ) -> Result<(), AllocError>
+        requires fits { spec.BlocksFit self.now.writer.program.now blocks.now }
+        requires few { number + blocks_size blocks.now ≤ 65535 }
+        ensures { OnOk result (all.new ≡ all.old ++ spec.blocks_routines self.now.writer.program.now self.now.numbers.now number blocks.now) }
+    {
+        let mut next = number;
+        for block in blocks {
+            self.put_ops(all, next, block.ops.as_slice())?;
+            next += size_of(block.ops.as_slice());
+        }
+        Ok(())
+    }
+}
+
+// How many routines a block has.
+fn size_of(ops: &[Op]) -> u16
+    requires { routines_of_ops ops.now ≤ 65535 }
+    ensures { result ≡ routines_of_ops ops.now }
+{
+    let mut size = 0;
+    for op in ops {
+        size += routines_of_op(op);
+    }
+    size + 1
+}
