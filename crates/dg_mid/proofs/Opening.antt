@@ -20,8 +20,8 @@ use Rattle.dg_mid.specs.Code.{block_at}
 use Rattle.dg_mid.specs.Codes.{End, Refuses, Backs, Commits, Leaves, Keeps, Stands, found_goals, found_end, jumps, commits, refuses, backs, leaves, keeps, collects, accumulates, once, negates, branch, exhausts, shields, forever, only, either, Others, last_list, more_lists}
 use Rattle.dg_mid.specs.Tidying.{OpsNeat, BlocksTidy, DoesMore, Neat, IsPlain, TailTidy, LevelTidy, LevelsTidy, WorkTidy, LandsTidy}
 use Rattle.dg_mid.specs.Writing.{StandsFor, BlockFor, FoundAt, PutsFirst, Lands, Wraps, Leads, ComesTo, Moves, TailFor, Shares, OthersFor, ListLands, after_list, tail_ops, with_goal, with_level, gathers}
-use Rattle.dg_mid.specs.Weights.{op_weight, ops_weight, blocks_weight, body_weight, lists_weight, whole_weight, level_weight, levels_weight, work_weight}
-use Rattle.dg_mid.proofs.Weights.{ops_reverse, block_added, op_added, op_alone, body_one, goal_added, lists_append, level_added, weight_if, weight_either, weight_select, action_light}
+use Rattle.dg_mid.specs.Weights.{Weights, terms_weight, op_weight, ops_weight, blocks_weight, body_weight, lists_weight, whole_weight, level_weight, levels_weight, work_weight}
+use Rattle.dg_mid.proofs.Weights.{ops_reverse, block_added, op_added, op_alone, body_one, goal_added, lists_append, level_added, weight_if, weight_either, weight_forever, asking_weight}
 use Rattle.dg_mid.specs.Potential.{begins_return, begins_goto}
 use Rattle.dg_mid.specs.Seeking.{begins_commit}
 use Rattle.dg_mid.proofs.WritingLemmas.{reverse_put, block_made, made_begins, tail_neat_later, levels_later, neat_put, neat_tail, plain_return, no_answer_back, blocks_put, there_put, more_put, lands_neat, jump_neat, block_neat}
@@ -36,7 +36,7 @@ block_stands old now ops b made is rest end s code begins =
     subst (λ l. Stands code l rest end) (sym (block_made old now ops b code made is begins)) (s code (begins_on old now code.blocks (made_begins old now _ made) begins))
 
 pub lands_block : (old now : List Block) (ops : List Op) (b : ℕ) → now ≡ old ++ record { ops = reverse ops } ∷ [] → b ≡ length old → ((c : ℕ) → ops ≡ op.Goto c ∷ [] → ⊥) → Lands old now (reverse ops) b
-lands_block old now ops b made is not = record { stands = block_stands old now (reverse ops) b made is; neat = lands_neat old now ops b made is not; light = omega (arith, block_added old now ops made, ops_reverse ops) }
+lands_block old now ops b made is not = record { stands = block_stands old now (reverse ops) b made is; neat = lands_neat old now ops b made is not; light = λ w. omega (arith, block_added w old now ops made, ops_reverse w ops) }
 
 of_jump : (code : Code) (b : ℕ) (rest : List Goal) (end : End) → Stands code (op.Goto b ∷ []) rest end → Stands code (block_at code b) rest end
 of_jump code b rest end (jumps c ops goals e h) = h
@@ -45,7 +45,7 @@ pub lands_jump : (blocks : List Block) (ops : List Op) (b : ℕ) → ops ≡ op.
 lands_jump blocks ops b e = record {
   stands = λ rest end s code begins. of_jump code b rest end (subst (λ l. Stands code (reverse l) rest end) e (s code begins));
   neat = jump_neat blocks ops b e;
-  light = omega arith;
+  light = λ w. omega arith;
 }
 
 pub tail_later : (old new : List Block) → Begins old new → (tail : Option ℕ) (rest : List Goal) (end : End) → TailFor old tail rest end → TailFor new tail rest end
@@ -62,12 +62,12 @@ tail_stands blocks None ops rest end e h = λ code begins. subst (λ l. Stands c
 tail_stands blocks (Some b) ops rest end e h = λ code begins. subst (λ l. Stands code (reverse l) rest end) (sym e) (jumps b [] rest end (h code begins))
 
 -- what a way ends with is one instruction
-pub tail_weight : (tail : Option ℕ) (ops : List Op) → ops ≡ tail_ops tail → ops_weight ops ≡ 16
-tail_weight None ops e = omega (arith, ap ops_weight e)
-tail_weight (Some b) ops e = omega (arith, ap ops_weight e)
+pub tail_weight : (w : Weights) (tail : Option ℕ) (ops : List Op) → ops ≡ tail_ops tail → ops_weight w ops ≡ w.small
+tail_weight w None ops e = omega (arith, ap (ops_weight w) e)
+tail_weight w (Some b) ops e = omega (arith, ap (ops_weight w) e)
 
 pub shares_return : (blocks : List Block) (ops : List Op) → ops ≡ op.Return ∷ [] → Shares blocks blocks (reverse ops) None
-shares_return blocks ops e = record { stands = λ rest end s code begins. subst (λ l. Stands code (reverse l) rest end) e (s code begins); neat = λ h. (h.blocks_are, tt); light = omega arith }
+shares_return blocks ops e = record { stands = λ rest end s code begins. subst (λ l. Stands code (reverse l) rest end) e (s code begins); neat = λ h. (h.blocks_are, tt); light = λ w. omega arith }
 
 pub shares_block : (old new : List Block) (ops : List Op) (b : ℕ) → Lands old new (reverse ops) b → (ops ≡ op.Return ∷ [] → ⊥) → Shares old new (reverse ops) (Some b)
 shares_block old new ops b lands not = record {
@@ -110,9 +110,9 @@ pub puts_moves : (old new : List Block) (before after : Work) (g : Goal) → aft
 puts_moves old new before after g same still on put = record {
   blocks = on;
   neat = λ h. record { neat = put.neat h.neat; levels = subst (λ l. LevelsTidy new (reverse l)) (sym still) (levels_later old new on (reverse before.levels) h.levels) };
-  light =
-      let l = put.light in
-      omega (arith, ops_reverse before.ops.items, ops_reverse after.ops.items, ap body_weight same, ap levels_weight still, goal_added before.goals g, body_one g);
+  light = λ w.
+      let l = put.light w in
+      omega (arith, ops_reverse w before.ops.items, ops_reverse w after.ops.items, ap (body_weight w) same, ap (levels_weight w) still, goal_added w before.goals g, body_one w g);
   comes = λ wanted last h. record {
     rest = g ∷ h.rest;
     end = h.end;
@@ -131,11 +131,11 @@ pub record Opened (new : List Block) (ops : List Op) (x : Op) (inner : List Goal
 
 pub opens : (old new : List Block) (before after : Work) (ops : List Op) (g : Goal) (x : Op) (inner : List Goal) → Begins old new → after.ops.items ≡ ops → after.goals ≡ inner →
     after.levels ≡ before.levels ++ level.Inner x before.goals ∷ [] → IsPlain x → (Neat old (reverse before.ops.items) → Neat new (reverse ops)) →
-    (blocks_weight new + ops_weight ops + op_weight x + body_weight inner ≤ blocks_weight old + ops_weight before.ops.items + whole_weight g) →
+    ((w : Weights) → blocks_weight w new + ops_weight w ops + op_weight w x + body_weight w inner ≤ blocks_weight w old + ops_weight w before.ops.items + whole_weight w g) →
     ((rest : List Goal) (end : End) → StandsFor old (reverse before.ops.items) rest end → Opened new (reverse ops) x inner g rest end) → Moves old (with_goal g before) new after
 opens old new before after ops g x inner on ops_are goals_are levels_are plain good light opened = record {
   blocks = on;
-  light = omega (arith, ap ops_weight ops_are, ap body_weight goals_are, level_added before.levels after.levels (level.Inner x before.goals) levels_are, goal_added before.goals g);
+  light = λ w. let l = light w in omega (arith, ap (ops_weight w) ops_are, ap (body_weight w) goals_are, level_added w before.levels after.levels (level.Inner x before.goals) levels_are, goal_added w before.goals g);
   neat = λ h. record {
     neat = subst (λ l. Neat new (reverse l)) (sym ops_are) (good h.neat);
     levels = subst (LevelsTidy new) (sym (ap reverse levels_are ∙ reverse-append before.levels (level.Inner x before.goals ∷ []))) (plain, levels_later old new on (reverse before.levels) h.levels);
@@ -156,13 +156,13 @@ pub closes : (blocks : List Block) (before after : Work) (x : Op) (others : List
     Moves blocks (with_level (level.Inner x others) before) blocks after
 closes blocks before after x others none ops_are goals_are levels_are = record {
   blocks = begins_here blocks;
-  light = omega (
+  light = λ w. omega (
     arith,
-    op_added before.ops.items after.ops.items x ops_are,
-    ap body_weight goals_are,
-    ap body_weight none,
-    ap levels_weight levels_are,
-    level_added before.levels (before.levels ++ level.Inner x others ∷ []) (level.Inner x others) refl,
+    op_added w before.ops.items after.ops.items x ops_are,
+    ap (body_weight w) goals_are,
+    ap (body_weight w) none,
+    ap (levels_weight w) levels_are,
+    level_added w before.levels (before.levels ++ level.Inner x others ∷ []) (level.Inner x others) refl,
   );
   neat = λ h.
       let l : LevelsTidy blocks (level.Inner x others ∷ reverse before.levels) = subst (LevelsTidy blocks) (reverse-append before.levels (level.Inner x others ∷ [])) h.levels in
@@ -252,7 +252,7 @@ puts_forever old new ops put jump n b same e made is e' = record {
   neat = λ h.
       let more : DoesMore new b = more_put old new (reverse put) b made is (ap begins_return (ap reverse e ∙ reverse_put ops (op.Branch n)) ∙ plain_return (op.Branch n) (reverse ops) tt) in
       neat_tail new (Some b) jump e' (block_neat old new ops put (op.Branch n) e made tt h) more;
-  light = omega (arith, block_added old new put made, op_added ops put (op.Branch n) e, op_alone jump (op.Goto b) e', ops_reverse ops, ops_reverse jump, body_one goal.Forever);
+  light = λ w. omega (arith, block_added w old new put made, op_added w ops put (op.Branch n) e, op_alone w jump (op.Goto b) e', ops_reverse w ops, ops_reverse w jump, body_one w goal.Forever, weight_forever w);
 }
 
 -- ## Objects
@@ -261,7 +261,7 @@ no_retry_here : (ops : List Op) (alt : ℕ) (rest : List Op) → op.Commit ∷ o
 no_retry_here ops alt rest e = cc
 
 pub found_here : (blocks : List Block) (b : ℕ) → FoundAt blocks blocks true b b
-found_here blocks b = record { blocks = begins_here blocks; stands = λ rest end h. h; leaves = λ code begins. tt; neat = λ h. h; light = omega arith }
+found_here blocks b = record { blocks = begins_here blocks; stands = λ rest end h. h; leaves = λ code begins. tt; neat = λ h. h; light = λ w. omega arith }
 
 pub found_once : (old new : List Block) (jump put : List Op) (behind b : ℕ) → jump ≡ op.Goto behind ∷ [] → put ≡ jump ++ op.Commit ∷ [] → new ≡ old ++ record { ops = reverse put } ∷ [] → b ≡ length old → FoundAt old new false behind b
 found_once old new jump put behind b e e' made is =
@@ -273,15 +273,15 @@ found_once old new jump put behind b e e' made is =
       leaves = λ code begins. ap begins_commit (block_made old new (reverse put) b code made is begins ∙ front);
       neat = λ h. blocks_put old new (reverse put) made (ap begins_goto front) (λ code begins. subst (OpsNeat code) (sym front) (tt, (tt, tt)))
           (λ alt rest e''. absurd (no_retry_here (op.Goto behind ∷ []) alt rest (sym front ∙ e''))) h;
-      light = omega (arith, block_added old new put made, op_added jump put op.Commit e', op_alone jump (op.Goto behind) e);
+      light = λ w. omega (arith, block_added w old new put made, op_added w jump put op.Commit e', op_alone w jump (op.Goto behind) e);
     }
 
 pub puts_find : (old mid new : List Block) (ops jump put : List Op) (place : Option ℕ) (terms : List Term) (g : Goal) (behind b : ℕ) (many : Bool) →
     ((code : Code) (xs : List Op) (goals : List Goal) (end : End) → Stands code xs goals end → Stands code (block_at code b) (found_goals many goals) (found_end many goals end) → Stands code (op.Find place terms many b ∷ xs) (g ∷ goals) end) →
+    ((w : Weights) → whole_weight w g ≡ asking_weight w + terms_weight w terms) →
     Lands old mid (reverse ops) behind → FoundAt mid new many behind b → jump ≡ op.Goto behind ∷ [] → put ≡ jump ++ op.Find place terms many b ∷ [] → PutsFirst (g ∷ []) old new (reverse ops) (reverse put)
-puts_find old mid new ops jump put place terms g behind b many wraps lands found e e' =
+puts_find old mid new ops jump put place terms g behind b many wraps weighs lands found e e' =
     let x : Op = op.Find place terms many b in
-    let weighs : op_weight x ≡ 16 = refl in
     let front : reverse put ≡ x ∷ op.Goto behind ∷ [] = ap reverse (e' ∙ ap (λ l. l ++ x ∷ []) e) in
     record {
       stands = λ rest end h code begins.
@@ -293,10 +293,10 @@ puts_find old mid new ops jump put place terms g behind b many wraps lands found
         first = tt;
         queries = λ code begins. (found.leaves code begins, (tt, tt));
       });
-      light =
-          let l = lands.light in
-          let f = found.light in
-          omega (arith, ops_reverse ops, ops_reverse put, op_added jump put x e', op_alone jump (op.Goto behind) e, weighs, body_one g);
+      light = λ w.
+          let l = lands.light w in
+          let f = found.light w in
+          omega (arith, ops_reverse w ops, ops_reverse w put, op_added w jump put x e', op_alone w jump (op.Goto behind) e, weighs w, body_one w g);
     }
 
 -- ## Conditions
@@ -305,17 +305,17 @@ pub opens_if : (old new : List Block) (before after : Work) (ops : List Op) (tes
     after.ops.items ≡ ops → after.goals ≡ other → after.levels ≡ before.levels ++ level.Other test first tail before.goals ∷ [] → Moves old (with_goal (goal.If test first other) before) new after
 opens_if old new before after ops test first other tail on shares e ops_are goals_are levels_are = record {
   blocks = on;
-  light =
-      let l = shares.light in
+  light = λ w.
+      let l = shares.light w in
       omega (
         arith,
-        ops_reverse before.ops.items,
-        ap ops_weight ops_are,
-        tail_weight tail ops e,
-        ap body_weight goals_are,
-        level_added before.levels after.levels (level.Other test first tail before.goals) levels_are,
-        goal_added before.goals (goal.If test first other),
-        weight_if test first other,
+        ops_reverse w before.ops.items,
+        ap (ops_weight w) ops_are,
+        tail_weight w tail ops e,
+        ap (body_weight w) goals_are,
+        level_added w before.levels after.levels (level.Other test first tail before.goals) levels_are,
+        goal_added w before.goals (goal.If test first other),
+        weight_if w test first other,
       );
   neat = λ h.
       let s : BlocksTidy new × TailTidy new tail = shares.neat h.neat in
@@ -339,19 +339,19 @@ pub closes_other : (old new : List Block) (before after : Work) (ops : List Op) 
     after.ops.items ≡ ops → after.goals ≡ first → after.levels ≡ (before.levels ++ level.Inner (op.Try alt) others ∷ []) ++ level.Inner op.Commit test ∷ [] → Moves old (with_level (level.Other test first tail others) before) new after
 closes_other old new before after ops test first others tail alt none on lands e ops_are goals_are levels_are = record {
   blocks = on;
-  light =
-      let l = lands.light in
+  light = λ w.
+      let l = lands.light w in
       let once = before.levels ++ level.Inner (op.Try alt) others ∷ [] in
       omega (
         arith,
-        ops_reverse before.ops.items,
-        ap ops_weight ops_are,
-        tail_weight tail ops e,
-        ap body_weight goals_are,
-        ap body_weight none,
-        level_added once after.levels (level.Inner op.Commit test) levels_are,
-        level_added before.levels once (level.Inner (op.Try alt) others) refl,
-        level_added before.levels (before.levels ++ level.Other test first tail others ∷ []) (level.Other test first tail others) refl,
+        ops_reverse w before.ops.items,
+        ap (ops_weight w) ops_are,
+        tail_weight w tail ops e,
+        ap (body_weight w) goals_are,
+        ap (body_weight w) none,
+        level_added w once after.levels (level.Inner op.Commit test) levels_are,
+        level_added w before.levels once (level.Inner (op.Try alt) others) refl,
+        level_added w before.levels (before.levels ++ level.Other test first tail others ∷ []) (level.Other test first tail others) refl,
       );
   neat = λ h.
       let l : LevelsTidy old (level.Other test first tail others ∷ reverse before.levels) = subst (LevelsTidy old) (reverse-append before.levels (level.Other test first tail others ∷ [])) h.levels in
@@ -405,18 +405,18 @@ pub opens_lists : (old new : List Block) (before after : Work) (ops : List Op) (
     after.ops.items ≡ ops → after.goals ≡ list → after.levels ≡ before.levels ++ level.Lists left None tail before.goals ∷ [] → Moves old (with_goal (goal.Either (left ++ list ∷ [])) before) new after
 opens_lists old new before after ops left list tail on shares e ops_are goals_are levels_are = record {
   blocks = on;
-  light =
-      let l = shares.light in
+  light = λ w.
+      let l = shares.light w in
       omega (
         arith,
-        ops_reverse before.ops.items,
-        ap ops_weight ops_are,
-        tail_weight tail ops e,
-        ap body_weight goals_are,
-        level_added before.levels after.levels (level.Lists left None tail before.goals) levels_are,
-        goal_added before.goals (goal.Either (left ++ list ∷ [])),
-        weight_either (left ++ list ∷ []),
-        lists_append left (list ∷ []),
+        ops_reverse w before.ops.items,
+        ap (ops_weight w) ops_are,
+        tail_weight w tail ops e,
+        ap (body_weight w) goals_are,
+        level_added w before.levels after.levels (level.Lists left None tail before.goals) levels_are,
+        goal_added w before.goals (goal.Either (left ++ list ∷ [])),
+        weight_either w (left ++ list ∷ []),
+        lists_append w left (list ∷ []),
       );
   neat = λ h.
       let s : BlocksTidy new × TailTidy new tail = shares.neat h.neat in
@@ -448,7 +448,7 @@ pub last_lands : (old new : List Block) (ops : List Op) (b : ℕ) → Lands old 
 last_lands old new ops b lands = record {
   stands = λ list lists rest end h none code begins. subst (λ l. Others code b (list ∷ l) rest end) (sym none) (last_list b list rest end (lands.stands (list ++ rest) end h code begins));
   neat = λ h _. let l : LandsTidy new ops b = lands.neat h in (l.blocks_are, l.there);
-  light = let l = lands.light in omega arith;
+  light = λ w. let l = lands.light w in omega arith;
 }
 
 retried : (next alt : ℕ) (ops rest : List Op) (n : ℕ) → op.Retry next ∷ ops ≡ op.Retry alt ∷ rest → next < n → alt < n
@@ -465,7 +465,7 @@ retry_lands old new ops put next b e made is = record {
         (λ alt rest e'. retried next alt (reverse ops) rest (length old) (sym front ∙ e') t) h.blocks_are,
     there_put old new (reverse put) b made is,
   );
-  light = omega (arith, block_added old new put made, op_added ops put (op.Retry next) e, ops_reverse ops);
+  light = λ w. omega (arith, block_added w old new put made, op_added w ops put (op.Retry next) e, ops_reverse w ops);
 }
 
 pub after_first : (left : List (List Goal)) (b : ℕ) (tail : Option ℕ) (others : List Goal) → left ≡ [] → after_list left b tail others ≡ level.Inner (op.Branch b) others
@@ -486,28 +486,29 @@ after_neat : (new : List Block) (left : List (List Goal)) (b : ℕ) (tail : Opti
 after_neat new [] b tail others there t = tt
 after_neat new (p ∷ ps) b tail others there t = (there, t)
 
-after_light : (left : List (List Goal)) (b : ℕ) (tail : Option ℕ) (others : List Goal) → level_weight (after_list left b tail others) ≤ 32 + lists_weight left + body_weight others
-after_light [] b tail others = omega arith
-after_light (list ∷ lists) b tail others = omega arith
+after_light : (w : Weights) (left : List (List Goal)) (b : ℕ) (tail : Option ℕ) (others : List Goal) →
+    level_weight w (after_list left b tail others) ≤ w.opening + w.block + lists_weight w left + body_weight w others
+after_light w [] b tail others = omega arith
+after_light w (list ∷ lists) b tail others = omega arith
 
 pub closes_list : (old new : List Block) (before after : Work) (ops : List Op) (left popped : List (List Goal)) (list : List Goal) (alt tail : Option ℕ) (others : List Goal) (b : ℕ) → before.goals ≡ [] → left ≡ popped ++ list ∷ [] → Begins old new →
     ListLands old new (reverse before.ops.items) alt b → ops ≡ tail_ops tail → after.ops.items ≡ ops → after.goals ≡ list → after.levels ≡ before.levels ++ after_list popped b tail others ∷ [] → Moves old (with_level (level.Lists left alt tail others) before) new after
 closes_list old new before after ops left popped list alt tail others b none split on lands e ops_are goals_are levels_are = record {
   blocks = on;
-  light =
-      let l = lands.light in
+  light = λ w.
+      let l = lands.light w in
       omega (
         arith,
-        ops_reverse before.ops.items,
-        ap ops_weight ops_are,
-        tail_weight tail ops e,
-        ap body_weight goals_are,
-        ap body_weight none,
-        level_added before.levels after.levels (after_list popped b tail others) levels_are,
-        after_light popped b tail others,
-        level_added before.levels (before.levels ++ level.Lists left alt tail others ∷ []) (level.Lists left alt tail others) refl,
-        ap lists_weight split,
-        lists_append popped (list ∷ []),
+        ops_reverse w before.ops.items,
+        ap (ops_weight w) ops_are,
+        tail_weight w tail ops e,
+        ap (body_weight w) goals_are,
+        ap (body_weight w) none,
+        level_added w before.levels after.levels (after_list popped b tail others) levels_are,
+        after_light w popped b tail others,
+        level_added w before.levels (before.levels ++ level.Lists left alt tail others ∷ []) (level.Lists left alt tail others) refl,
+        ap (lists_weight w) split,
+        lists_append w popped (list ∷ []),
       );
   neat = λ h.
       let l : LevelsTidy old (level.Lists left alt tail others ∷ reverse before.levels) = subst (LevelsTidy old) (reverse-append before.levels (level.Lists left alt tail others ∷ [])) h.levels in
@@ -546,12 +547,12 @@ abbrev pub Carries : List Block → List Op → List Goal → List Block → Wor
 Carries first ops goals now work =
     Begins first now × ((rest : List Goal) (end : End) → StandsFor first (reverse ops) rest end → ComesTo now work (goals ++ rest) end)
     × (Neat first (reverse ops) → WorkTidy now work)
-    × (blocks_weight now + work_weight work ≤ blocks_weight first + ops_weight ops + body_weight goals)
+    × ((w : Weights) → blocks_weight w now + work_weight w work ≤ blocks_weight w first + ops_weight w ops + body_weight w goals)
 
 pub carries_on : (first : List Block) (ops : List Op) (goals : List Goal) (old new : List Block) (work before after : Work) → Carries first ops goals old work → work ≡ before → Moves old before new after →
     Carries first ops goals new after
 carries_on first ops goals old new work before after h e m =
-    (begins_on first old new h.0 m.blocks, λ rest end s. m.comes (goals ++ rest) end (subst (λ w. ComesTo old w (goals ++ rest) end) e (h.1 rest end s)), λ n. m.neat (subst (WorkTidy old) e (h.2 n)), (let l = m.light in omega (arith, ap work_weight e, h.3)))
+    (begins_on first old new h.0 m.blocks, λ rest end s. m.comes (goals ++ rest) end (subst (λ w. ComesTo old w (goals ++ rest) end) e (h.1 rest end s)), λ n. m.neat (subst (WorkTidy old) e (h.2 n)), λ w. (let l = m.light w in omega (arith, ap (work_weight w) e, h.3 w)))
 
 pub carries_to : (first : List Block) (ops : List Op) (goals : List Goal) (new now : List Block) (after work : Work) → Carries first ops goals new after → now ≡ new → work ≡ after → Carries first ops goals now work
 carries_to first ops goals new now after work h e e' = subst (λ b. Carries first ops goals b work) (sym e) (subst (Carries first ops goals new) (sym e') h)
@@ -566,7 +567,7 @@ carries_first blocks work none = (
     leads = subst (λ l. Leads blocks (reverse l) (work.goals ++ rest) end (work.goals ++ rest) end) (sym none) (refl, refl);
   },
   λ n. record { neat = n; levels = subst (λ l. LevelsTidy blocks (reverse l)) (sym none) tt },
-  omega (arith, ap levels_weight none),
+  λ w. omega (arith, ap (levels_weight w) none),
 )
 
 pub ends_written : (blocks : List Block) (work : Work) (wanted : List Goal) (last : End) → work.goals ≡ [] → work.levels ≡ [] → ComesTo blocks work wanted last → StandsFor blocks (reverse work.ops.items) wanted last

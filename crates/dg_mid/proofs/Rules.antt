@@ -26,7 +26,7 @@ use Rattle.dg_mid.specs.Tidying.{OpNeat, OpsNeat, BlockTidy, BlocksTidy}
 use Rattle.dg_mid.specs.Potential.{begins_goto, begins_return, OpTidy, OpsTidy, Tidy}
 use Rattle.dg_mid.specs.Writing.{StandsFor, Lands, PutsFirst, BodyFor, BodiesFor, RuleFor, RulesFor, PredsFor, starting}
 use Rattle.dg_mid.proofs.WritingLemmas.{reverse_put, block_made, made_begins, neat_tail, block_neat}
-use Rattle.dg_mid.specs.Weights.{ops_weight, blocks_weight, body_weight, rules_weight, preds_weight, closures_weight, IsLight}
+use Rattle.dg_mid.specs.Weights.{Weights, ops_weight, blocks_weight, body_weight, rules_weight, preds_weight, closures_weight, IsLight}
 use Rattle.dg_mid.proofs.Weights.{ops_reverse, block_added, op_added, op_alone, blocks_append, rules_append, preds_append, closures_append}
 use Rattle.dg_mid.proofs.Opening.{begins_here}
 
@@ -45,16 +45,16 @@ pub rule_neat : (old mid now : List Block) (rule : Rule) (only ops put : List Op
 rule_neat old mid now rule only ops put only_is puts e made h = block_neat mid now ops put (op.Enter rule.vars rule.head) e made tt (puts.neat (neat_tail old None only only_is h tt))
 
 pub rule_light : (old mid now : List Block) (rule : Rule) (only ops put : List Op) → only ≡ op.Return ∷ [] → PutsFirst rule.body old mid (reverse only) (reverse ops) → put ≡ ops ++ op.Enter rule.vars rule.head ∷ [] →
-    now ≡ mid ++ record { ops = reverse put } ∷ [] → blocks_weight now ≤ blocks_weight old + rules_weight (rule ∷ [])
-rule_light old mid now rule only ops put only_is puts e made =
-    let l = puts.light in
-    omega (arith, ops_reverse only, ops_reverse ops, op_alone only op.Return only_is, op_added ops put (op.Enter rule.vars rule.head) e, block_added mid now put made)
+    now ≡ mid ++ record { ops = reverse put } ∷ [] → (w : Weights) → blocks_weight w now ≤ blocks_weight w old + rules_weight w (rule ∷ [])
+rule_light old mid now rule only ops put only_is puts e made w =
+    let l = puts.light w in
+    omega (arith, ops_reverse w only, ops_reverse w ops, op_alone w only op.Return only_is, op_added w ops put (op.Enter rule.vars rule.head) e, block_added w mid now put made)
 
 -- Of these rules, those behind the ones that are left have code, and blocks stay tidy.
 pub record RulesDone (first now : List Block) (all left : List Rule) (codes : List RuleCode) : Type 0 where
   pub blocks : Begins first now
   pub neat : BlocksTidy first → BlocksTidy now
-  pub light : blocks_weight now + rules_weight left ≤ blocks_weight first + rules_weight all
+  pub light : (w : Weights) → blocks_weight w now + rules_weight w left ≤ blocks_weight w first + rules_weight w all
   pub done : List Rule
   pub is : all ≡ left ++ done
   pub stands : RulesFor now (reverse codes) done
@@ -63,18 +63,18 @@ pub rules_begun : (blocks : List Block) (all : List Rule) (codes : List RuleCode
 rules_begun blocks all codes none = record {
   blocks = begins_here blocks;
   neat = λ h. h;
-  light = omega arith;
+  light = λ w. omega arith;
   done = [];
   is = sym (append-nil all);
   stands = λ code begins. subst (λ l. RulesStand code (reverse l) []) (sym none) tt;
 }
 
-pub rules_more : (first old now : List Block) (all left others : List Rule) (rule : Rule) (codes more : List RuleCode) (c : RuleCode) → RulesDone first old all left codes → left ≡ others ++ rule ∷ [] → Begins old now → (BlocksTidy old → BlocksTidy now) → (blocks_weight now ≤ blocks_weight old + rules_weight (rule ∷ [])) → RuleFor now c rule → more ≡ codes ++ c ∷ [] →
+pub rules_more : (first old now : List Block) (all left others : List Rule) (rule : Rule) (codes more : List RuleCode) (c : RuleCode) → RulesDone first old all left codes → left ≡ others ++ rule ∷ [] → Begins old now → (BlocksTidy old → BlocksTidy now) → ((w : Weights) → blocks_weight w now ≤ blocks_weight w old + rules_weight w (rule ∷ [])) → RuleFor now c rule → more ≡ codes ++ c ∷ [] →
     RulesDone first now all others more
 rules_more first old now all left others rule codes more c h e on neat light f put = record {
   blocks = begins_on first old now h.blocks on;
   neat = λ n. neat (h.neat n);
-  light = let l = h.light in omega (arith, ap rules_weight e, rules_append others (rule ∷ []));
+  light = λ w. let l = h.light w in let m = light w in omega (arith, ap (rules_weight w) e, rules_append w others (rule ∷ []));
   done = rule ∷ h.done;
   is = h.is ∙ ap (λ l. l ++ h.done) e ∙ append_assoc others (rule ∷ []) h.done;
   stands = λ code begins. subst (λ l. RulesStand code l (rule ∷ h.done)) (sym (ap reverse put ∙ reverse-append codes (c ∷ []))) (f code begins, h.stands code (begins_on old now code.blocks on begins));
@@ -83,11 +83,14 @@ rules_more first old now all left others rule codes more c h e on neat light f p
 pub rules_all : (first now : List Block) (all left : List Rule) (codes : List RuleCode) → RulesDone first now all left codes → left ≡ [] → RulesFor now (reverse codes) all
 rules_all first now all left codes h none code begins = subst (RulesStand code (reverse codes)) (sym (h.is ∙ ap (λ l. l ++ h.done) none)) (h.stands code begins)
 
+pub rules_light : (first now : List Block) (all left : List Rule) (codes : List RuleCode) → RulesDone first now all left codes → left ≡ [] → (w : Weights) → blocks_weight w now ≤ blocks_weight w first + rules_weight w all
+rules_light first now all left codes h none w = let l = h.light w in omega (arith, ap (rules_weight w) none)
+
 -- The same for predicates.
 pub record PredsDone (first now : List Block) (all left : List Pred) (codes : List (List RuleCode)) : Type 0 where
   pub blocks : Begins first now
   pub neat : BlocksTidy first → BlocksTidy now
-  pub light : blocks_weight now + preds_weight left ≤ blocks_weight first + preds_weight all
+  pub light : (w : Weights) → blocks_weight w now + preds_weight w left ≤ blocks_weight w first + preds_weight w all
   pub done : List Pred
   pub is : all ≡ left ++ done
   pub stands : PredsFor now (reverse codes) done
@@ -96,7 +99,7 @@ pub preds_begun : (blocks : List Block) (all : List Pred) (codes : List (List Ru
 preds_begun blocks all codes none = record {
   blocks = begins_here blocks;
   neat = λ h. h;
-  light = omega arith;
+  light = λ w. omega arith;
   done = [];
   is = sym (append-nil all);
   stands = λ code begins pred. subst (λ l. RulesStand code (codes_of (slice_get (reverse l) pred)) []) (sym none) tt;
@@ -107,12 +110,12 @@ one_more : (code : Code) (codes : List (List RuleCode)) (preds : List Pred) (c :
 one_more code codes preds c p f h zero = f
 one_more code codes preds c p f h (suc n) = h n
 
-pub preds_more : (first old now : List Block) (all left others : List Pred) (p : Pred) (codes more : List (List RuleCode)) (c : List RuleCode) → PredsDone first old all left codes → left ≡ others ++ p ∷ [] → Begins old now → (BlocksTidy old → BlocksTidy now) → (blocks_weight now ≤ blocks_weight old + rules_weight p.rules) → RulesFor now c p.rules →
+pub preds_more : (first old now : List Block) (all left others : List Pred) (p : Pred) (codes more : List (List RuleCode)) (c : List RuleCode) → PredsDone first old all left codes → left ≡ others ++ p ∷ [] → Begins old now → (BlocksTidy old → BlocksTidy now) → ((w : Weights) → blocks_weight w now ≤ blocks_weight w old + rules_weight w p.rules) → RulesFor now c p.rules →
     more ≡ codes ++ c ∷ [] → PredsDone first now all others more
 preds_more first old now all left others p codes more c h e on neat light f put = record {
   blocks = begins_on first old now h.blocks on;
   neat = λ n. neat (h.neat n);
-  light = let l = h.light in omega (arith, ap preds_weight e, preds_append others (p ∷ []));
+  light = λ w. let l = h.light w in let m = light w in omega (arith, ap (preds_weight w) e, preds_append w others (p ∷ []));
   done = p ∷ h.done;
   is = h.is ∙ ap (λ l. l ++ h.done) e ∙ append_assoc others (p ∷ []) h.done;
   stands = λ code begins n. subst (λ l. RulesStand code (codes_of (slice_get l n)) (rules_of (slice_get (p ∷ h.done) n))) (sym (ap reverse put ∙ reverse-append codes (c ∷ [])))
@@ -122,11 +125,14 @@ preds_more first old now all left others p codes more c h e on neat light f put 
 pub preds_all : (first now : List Block) (all left : List Pred) (codes : List (List RuleCode)) → PredsDone first now all left codes → left ≡ [] → PredsFor now (reverse codes) all
 preds_all first now all left codes h none code begins n = subst (λ l. RulesStand code (codes_of (slice_get (reverse codes) n)) (rules_of (slice_get l n))) (sym (h.is ∙ ap (λ l. l ++ h.done) none)) (h.stands code begins n)
 
+pub preds_light : (first now : List Block) (all left : List Pred) (codes : List (List RuleCode)) → PredsDone first now all left codes → left ≡ [] → (w : Weights) → blocks_weight w now ≤ blocks_weight w first + preds_weight w all
+preds_light first now all left codes h none w = let l = h.light w in omega (arith, ap (preds_weight w) none)
+
 -- The same for the bodies of closures.
 pub record BodiesDone (first now : List Block) (all left : List ClosureBody) (codes : List BodyCode) : Type 0 where
   pub blocks : Begins first now
   pub neat : BlocksTidy first → BlocksTidy now
-  pub light : blocks_weight now + closures_weight left ≤ blocks_weight first + closures_weight all
+  pub light : (w : Weights) → blocks_weight w now + closures_weight w left ≤ blocks_weight w first + closures_weight w all
   pub done : List ClosureBody
   pub is : all ≡ left ++ done
   pub stands : BodiesFor now (reverse codes) done
@@ -135,7 +141,7 @@ pub bodies_begun : (blocks : List Block) (all : List ClosureBody) (codes : List 
 bodies_begun blocks all codes none = record {
   blocks = begins_here blocks;
   neat = λ h. h;
-  light = omega arith;
+  light = λ w. omega arith;
   done = [];
   is = sym (append-nil all);
   stands = λ code begins n. subst (λ l. BodyStands code (slice_get (reverse l) n) None) (sym none) tt;
@@ -146,12 +152,12 @@ body_more : (code : Code) (codes : List BodyCode) (closures : List ClosureBody) 
 body_more code codes closures c x f h zero = f
 body_more code codes closures c x f h (suc n) = h n
 
-pub bodies_more : (first old now : List Block) (all left others : List ClosureBody) (x : ClosureBody) (codes more : List BodyCode) (c : BodyCode) → BodiesDone first old all left codes → left ≡ others ++ x ∷ [] → Begins old now → (BlocksTidy old → BlocksTidy now) → (blocks_weight now ≤ blocks_weight old + closures_weight (x ∷ [])) → BodyFor now c x →
+pub bodies_more : (first old now : List Block) (all left others : List ClosureBody) (x : ClosureBody) (codes more : List BodyCode) (c : BodyCode) → BodiesDone first old all left codes → left ≡ others ++ x ∷ [] → Begins old now → (BlocksTidy old → BlocksTidy now) → ((w : Weights) → blocks_weight w now ≤ blocks_weight w old + closures_weight w (x ∷ [])) → BodyFor now c x →
     more ≡ codes ++ c ∷ [] → BodiesDone first now all others more
 bodies_more first old now all left others x codes more c h e on neat light f put = record {
   blocks = begins_on first old now h.blocks on;
   neat = λ n. neat (h.neat n);
-  light = let l = h.light in omega (arith, ap closures_weight e, closures_append others (x ∷ []));
+  light = λ w. let l = h.light w in let m = light w in omega (arith, ap (closures_weight w) e, closures_append w others (x ∷ []));
   done = x ∷ h.done;
   is = h.is ∙ ap (λ l. l ++ h.done) e ∙ append_assoc others (x ∷ []) h.done;
   stands = λ code begins n. subst (λ l. BodyStands code (slice_get l n) (slice_get (x ∷ h.done) n)) (sym (ap reverse put ∙ reverse-append codes (c ∷ [])))
@@ -160,6 +166,9 @@ bodies_more first old now all left others x codes more c h e on neat light f put
 
 pub bodies_all : (first now : List Block) (all left : List ClosureBody) (codes : List BodyCode) → BodiesDone first now all left codes → left ≡ [] → BodiesFor now (reverse codes) all
 bodies_all first now all left codes h none code begins n = subst (λ l. BodyStands code (slice_get (reverse codes) n) (slice_get l n)) (sym (h.is ∙ ap (λ l. l ++ h.done) none)) (h.stands code begins n)
+
+pub bodies_light : (first now : List Block) (all left : List ClosureBody) (codes : List BodyCode) → BodiesDone first now all left codes → left ≡ [] → (w : Weights) → blocks_weight w now ≤ blocks_weight w first + closures_weight w all
+bodies_light first now all left codes h none w = let l = h.light w in omega (arith, ap (closures_weight w) none)
 
 pub body_stands : (old mid now : List Block) (x : ClosureBody) (b : ℕ) (only ops : List Op) → only ≡ op.Return ∷ [] → PutsFirst x.body old mid (reverse only) (reverse ops) → Lands mid now (reverse ops) b → BodyFor now (record { own = x.own; block = b }) x
 body_stands old mid now x b only ops only_is puts lands code begins = (
@@ -171,15 +180,15 @@ pub body_neat : (old mid now : List Block) (x : ClosureBody) (b : ℕ) (only ops
 body_neat old mid now x b only ops only_is puts lands h = (lands.neat (puts.neat (neat_tail old None only only_is h tt))).blocks_are
 
 pub body_light : (old mid now : List Block) (x : ClosureBody) (b : ℕ) (only ops : List Op) → only ≡ op.Return ∷ [] → PutsFirst x.body old mid (reverse only) (reverse ops) → Lands mid now (reverse ops) b →
-    blocks_weight now ≤ blocks_weight old + closures_weight (x ∷ [])
-body_light old mid now x b only ops only_is puts lands =
-    let l = puts.light in
-    let m = lands.light in
-    omega (arith, ops_reverse only, ops_reverse ops, op_alone only op.Return only_is)
+    (w : Weights) → blocks_weight w now ≤ blocks_weight w old + closures_weight w (x ∷ [])
+body_light old mid now x b only ops only_is puts lands w =
+    let l = puts.light w in
+    let m = lands.light w in
+    omega (arith, ops_reverse w only, ops_reverse w ops, op_alone w only op.Return only_is)
 
-pub code_light : (program : CoreProgram) (code : Code) (first mid : List Block) → first ≡ starting program.entry → blocks_weight mid ≤ blocks_weight first + preds_weight program.preds →
-    blocks_weight code.blocks ≤ blocks_weight mid + closures_weight program.closures → IsLight program code
-code_light program code first mid begun preds closures = omega (arith, ap blocks_weight begun)
+pub code_light : (w : Weights) (program : CoreProgram) (code : Code) (first mid : List Block) → first ≡ starting program.entry → blocks_weight w mid ≤ blocks_weight w first + preds_weight w program.preds →
+    blocks_weight w code.blocks ≤ blocks_weight w mid + closures_weight w program.closures → IsLight w program code
+code_light w program code first mid begun preds closures = omega (arith, ap (blocks_weight w) begun)
 
 pub preds_later : (old new : List Block) (codes : List (List RuleCode)) (preds : List Pred) → Begins old new → PredsFor old codes preds → PredsFor new codes preds
 preds_later old new codes preds on h code begins = h code (begins_on old new code.blocks on begins)

@@ -17,7 +17,7 @@ use Rattle.dg_mid.specs.Potential.{begins_goto}
 use Rattle.dg_mid.specs.Codes.{End, Stands, selects, Branches, no_branch, a_branch}
 use Rattle.dg_mid.specs.Tidying.{OpsNeat, BlocksTidy, TailTidy, LevelsTidy, WorkTidy, LandsTidy}
 use Rattle.dg_mid.specs.Writing.{Lands, Leads, ComesTo, Moves, TailFor, BlockFor, Shares, EndsAt, AtBranch, tail_ops, with_goal, with_level}
-use Rattle.dg_mid.specs.Weights.{ops_weight, blocks_weight, body_weight, lists_weight, levels_weight, work_weight}
+use Rattle.dg_mid.specs.Weights.{Weights, ops_weight, blocks_weight, body_weight, lists_weight, levels_weight, work_weight}
 use Rattle.dg_mid.proofs.Weights.{ops_reverse, block_added, op_alone, goal_added, lists_append, level_added, weight_select}
 use Rattle.dg_mid.proofs.WritingLemmas.{tail_neat_later, levels_later, neat_alone, neat_tail, blocks_put}
 use Rattle.dg_mid.proofs.Opening.{tail_weight, tail_stands, tail_later, leads_later, with_leads, block_stands}
@@ -67,11 +67,11 @@ tail_lands old new ops b e made is = record {
   stands = λ rest end h. block_stands old new (reverse ops) b made is rest end (λ code begins. subst (λ l. Stands code (reverse l) rest end) (sym e) (h code begins));
   neat = λ h. blocks_put old new (reverse ops) made (ap (λ l. begins_goto (reverse l)) e) (λ code begins. subst (λ l. OpsNeat code (reverse l)) (sym e) (tt, tt))
       (λ alt rest e'. absurd (no_retry_here alt rest (sym (ap reverse e) ∙ e'))) h;
-  light = omega (arith, block_added old new ops made, op_alone ops op.Return e);
+  light = λ w. omega (arith, block_added w old new ops made, op_alone w ops op.Return e);
 }
 
 pub tail_is : (blocks : List Block) (b : ℕ) → EndsAt blocks blocks (Some b) b
-tail_is blocks b = record { stands = λ rest end h. h; neat = λ h. h; light = omega arith }
+tail_is blocks b = record { stands = λ rest end h. h; neat = λ h. h; light = λ w. omega arith }
 
 -- tidy where a branch is next, and where all are written
 pub neat_next : (blocks : List Block) (s t : Branching) (others : List Goal) (levels : List Level) (after : Work) → t.tail ≡ s.tail → after.ops.items ≡ tail_ops s.tail → after.levels ≡ levels ++ level.Branches t others ∷ [] →
@@ -92,16 +92,17 @@ pub opens_select : (old mid new : List Block) (before after : Work) (s : Branchi
     EndsAt mid new s.tail s.behind →
     ((wanted : List Goal) (last : End) → AtBranch new s before.goals (reverse before.levels) wanted last → ComesTo new after wanted last) →
     (BlocksTidy new → TailTidy new s.tail → LevelsTidy new (reverse before.levels) → WorkTidy new after) →
-    work_weight after ≤ 16 + lists_weight s.left + body_weight before.goals + levels_weight before.levels →
+    ((w : Weights) → work_weight w after ≤ w.own + lists_weight w s.left + body_weight w before.goals + levels_weight w before.levels) →
     Moves old (with_goal (goal.Select s.site s.mode s.left) before) new after
 opens_select old mid new before after s none on on' shares ends comes good light =
     let begins : Begins old new = begins_on old mid new on on' in
     record {
       blocks = begins;
-      light =
-          let l = shares.light in
-          let m = ends.light in
-          omega (arith, ops_reverse before.ops.items, goal_added before.goals (goal.Select s.site s.mode s.left), weight_select s.site s.mode s.left);
+      light = λ w.
+          let l = shares.light w in
+          let m = ends.light w in
+          let n = light w in
+          omega (arith, ops_reverse w before.ops.items, goal_added w before.goals (goal.Select s.site s.mode s.left), weight_select w s.site s.mode s.left);
       neat = λ h.
           let n : BlocksTidy mid × TailTidy mid s.tail = shares.neat h.neat in
           good (ends.neat n.0) (tail_neat_later mid new on' s.tail n.1) (levels_later old new begins (reverse before.levels) h.levels);
@@ -123,13 +124,14 @@ pub closes_branch : (old new : List Block) (before after : Work) (s t : Branchin
     t.blocks.items ≡ s.blocks.items ++ b ∷ [] →
     ((wanted : List Goal) (last : End) → AtBranch new (record s { blocks = t.blocks }) others (reverse before.levels) wanted last → ComesTo new after wanted last) →
     (BlocksTidy new → TailTidy new s.tail → LevelsTidy new (reverse before.levels) → WorkTidy new after) →
-    work_weight after ≤ 16 + lists_weight s.left + body_weight others + levels_weight before.levels →
+    ((w : Weights) → work_weight w after ≤ w.own + lists_weight w s.left + body_weight w others + levels_weight w before.levels) →
     Moves old (with_level (level.Branches s others) before) new after
 closes_branch old new before after s t others b none on lands put comes good light = record {
   blocks = on;
-  light =
-      let l = lands.light in
-      omega (arith, ops_reverse before.ops.items, ap body_weight none, level_added before.levels (before.levels ++ level.Branches s others ∷ []) (level.Branches s others) refl);
+  light = λ w.
+      let l = lands.light w in
+      let n = light w in
+      omega (arith, ops_reverse w before.ops.items, ap (body_weight w) none, level_added w before.levels (before.levels ++ level.Branches s others ∷ []) (level.Branches s others) refl);
   neat = λ h.
       let l : LevelsTidy old (level.Branches s others ∷ reverse before.levels) = subst (LevelsTidy old) (reverse-append before.levels (level.Branches s others ∷ [])) h.levels in
       let made : LandsTidy new (reverse before.ops.items) b = lands.neat h.neat in
@@ -155,21 +157,21 @@ closes_branch old new before after s t others b none on lands put comes good lig
 }
 
 -- what is next weighs no more than the branches that are left
-pub light_next : (s t : Branching) (popped : List (List Goal)) (list others : List Goal) (levels : List Level) (after : Work) → s.left ≡ popped ++ list ∷ [] → t.left ≡ popped →
+pub light_next : (w : Weights) (s t : Branching) (popped : List (List Goal)) (list others : List Goal) (levels : List Level) (after : Work) → s.left ≡ popped ++ list ∷ [] → t.left ≡ popped →
     after.ops.items ≡ tail_ops s.tail → after.goals ≡ list → after.levels ≡ levels ++ level.Branches t others ∷ [] →
-    work_weight after ≤ 16 + lists_weight s.left + body_weight others + levels_weight levels
-light_next s t popped list others levels after split same ops_are goals_are levels_are =
+    work_weight w after ≤ w.own + lists_weight w s.left + body_weight w others + levels_weight w levels
+light_next w s t popped list others levels after split same ops_are goals_are levels_are =
     omega (
       arith,
-      ap lists_weight split,
-      lists_append popped (list ∷ []),
-      ap lists_weight same,
-      tail_weight s.tail after.ops.items ops_are,
-      ap body_weight goals_are,
-      level_added levels after.levels (level.Branches t others) levels_are,
+      ap (lists_weight w) split,
+      lists_append w popped (list ∷ []),
+      ap (lists_weight w) same,
+      tail_weight w s.tail after.ops.items ops_are,
+      ap (body_weight w) goals_are,
+      level_added w levels after.levels (level.Branches t others) levels_are,
     )
 
-pub light_end : (s : Branching) (others : List Goal) (levels : List Level) (after : Work) → after.ops.items ≡ op.Select s.site s.mode (reverse s.blocks.items) s.behind ∷ [] → after.goals ≡ others → after.levels ≡ levels →
-    work_weight after ≤ 16 + lists_weight s.left + body_weight others + levels_weight levels
-light_end s others levels after ops_are goals_are levels_are =
-    omega (arith, op_alone after.ops.items (op.Select s.site s.mode (reverse s.blocks.items) s.behind) ops_are, ap body_weight goals_are, ap levels_weight levels_are)
+pub light_end : (w : Weights) (s : Branching) (others : List Goal) (levels : List Level) (after : Work) → after.ops.items ≡ op.Select s.site s.mode (reverse s.blocks.items) s.behind ∷ [] → after.goals ≡ others → after.levels ≡ levels →
+    work_weight w after ≤ w.own + lists_weight w s.left + body_weight w others + levels_weight w levels
+light_end w s others levels after ops_are goals_are levels_are =
+    omega (arith, op_alone w after.ops.items (op.Select s.site s.mode (reverse s.blocks.items) s.behind) ops_are, ap (body_weight w) goals_are, ap (levels_weight w) levels_are)

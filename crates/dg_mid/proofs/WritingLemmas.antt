@@ -22,7 +22,7 @@ use Rattle.dg_mid.specs.declared.writing.Level.TheVariants as level
 use Rattle.dg_mid.specs.Potential.{begins_goto, begins_return}
 use Rattle.dg_mid.specs.Tidying.{OpNeat, OpsNeat, BlocksTidy, DoesMore, FirstTidy, Neat, IsPlain, TailTidy, IsThere, LevelTidy, LevelsTidy, LandsTidy}
 use Rattle.dg_mid.specs.Weights.{ops_weight, blocks_weight}
-use Rattle.dg_mid.proofs.Weights.{ops_reverse, op_added, op_alone, body_one, action_light}
+use Rattle.dg_mid.proofs.Weights.{ops_reverse, op_added, op_alone, body_one, weight_ask, weight_query, action_light}
 use Rattle.dg_mid.specs.Writing.{PutsFirst, Lands, tail_ops}
 
 -- ## Lists
@@ -186,7 +186,7 @@ pub puts_act : (blocks : List Block) (x : Action) (ops new : List Op) → new �
 puts_act blocks x ops new e = record {
   stands = λ rest end s code begins. subst (λ l. Stands code l (goal_of x ∷ rest) end) (sym (ap reverse e ∙ reverse_put ops (op.Do x))) (acts x (reverse ops) rest end (s code begins));
   neat = λ h. neat_put blocks ops new (op.Do x) e tt h;
-  light = omega (arith, ops_reverse ops, ops_reverse new, op_added ops new (op.Do x) e, action_light x, body_one (goal_of x));
+  light = λ w. omega (arith, ops_reverse w ops, ops_reverse w new, op_added w ops new (op.Do x) e, action_light w x, body_one w (goal_of x));
 }
 
 pub puts_ask : (old now : List Block) (pred : ℕ) (terms : List Term) (many : Bool) (ops new : List Op) (next : ℕ) → Lands old now (reverse ops) next → (ops ≡ op.Return ∷ [] → ⊥) → new ≡ op.Ask pred terms many next ∷ [] →
@@ -197,9 +197,9 @@ puts_ask old now pred terms many ops new next lands not e = record {
       let l : LandsTidy now (reverse ops) next = lands.neat h in
       let m : DoesMore now next = l.more (no_answer_back old ops not h.first) in
       subst (λ k. Neat now (reverse k)) (sym e) (record { blocks_are = l.blocks_are; first = tt; queries = λ code begins. (m.more code begins, tt) });
-  light =
-      let l = lands.light in
-      omega (arith, ops_reverse ops, ops_reverse new, op_alone new (op.Ask pred terms many next) e, body_one (goal.Ask pred terms many));
+  light = λ w.
+      let l = lands.light w in
+      omega (arith, ops_reverse w ops, ops_reverse w new, op_alone w new (op.Ask pred terms many next) e, body_one w (goal.Ask pred terms many), weight_ask w pred terms many);
 }
 
 pub if_ok_map : {A E : Type 0} (r : Result A E) (P Q : A → Type 0) → ((x : A) → P x → Q x) → IfOk r P → IfOk r Q
@@ -222,7 +222,7 @@ puts_last old pred terms many ops new e e' = record {
       (subst (λ l. Stands code (op.LastAsk pred terms many ∷ []) (goal.Ask pred terms many ∷ l) end) (sym none.0)
       (subst (Stands code (op.LastAsk pred terms many ∷ []) (goal.Ask pred terms many ∷ [])) (sym none.1) (last_ask pred terms many [])));
   neat = λ h. neat_alone old new (op.LastAsk pred terms many) e' tt h.blocks_are;
-  light = omega (arith, ops_reverse ops, ops_reverse new, op_alone new (op.LastAsk pred terms many) e', body_one (goal.Ask pred terms many));
+  light = λ w. omega (arith, ops_reverse w ops, ops_reverse w new, op_alone w new (op.LastAsk pred terms many) e', body_one w (goal.Ask pred terms many), weight_ask w pred terms many);
 }
 
 -- ## Closures
@@ -234,9 +234,9 @@ puts_query old now a b many ops new next lands not e = record {
       let l : LandsTidy now (reverse ops) next = lands.neat h in
       let m : DoesMore now next = l.more (no_answer_back old ops not h.first) in
       subst (λ k. Neat now (reverse k)) (sym e) (record { blocks_are = l.blocks_are; first = tt; queries = λ code begins. (m.more code begins, tt) });
-  light =
-      let l = lands.light in
-      omega (arith, ops_reverse ops, ops_reverse new, op_alone new (op.Query a b many next) e, body_one (goal.Query a b many));
+  light = λ w.
+      let l = lands.light w in
+      omega (arith, ops_reverse w ops, ops_reverse w new, op_alone w new (op.Query a b many next) e, body_one w (goal.Query a b many), weight_query w a b many);
 }
 
 pub puts_last_query : (old : List Block) (a : Term) (b : Option Term) (many : Bool) (ops new : List Op) → ops ≡ op.Return ∷ [] → new ≡ op.LastQuery a b many ∷ [] → PutsFirst (goal.Query a b many ∷ []) old old (reverse ops) (reverse new)
@@ -247,5 +247,5 @@ puts_last_query old a b many ops new e e' = record {
       (subst (λ l. Stands code (op.LastQuery a b many ∷ []) (goal.Query a b many ∷ l) end) (sym none.0)
       (subst (Stands code (op.LastQuery a b many ∷ []) (goal.Query a b many ∷ [])) (sym none.1) (last_query a b many [])));
   neat = λ h. neat_alone old new (op.LastQuery a b many) e' tt h.blocks_are;
-  light = omega (arith, ops_reverse ops, ops_reverse new, op_alone new (op.LastQuery a b many) e', body_one (goal.Query a b many));
+  light = λ w. omega (arith, ops_reverse w ops, ops_reverse w new, op_alone w new (op.LastQuery a b many) e', body_one w (goal.Query a b many), weight_query w a b many);
 }

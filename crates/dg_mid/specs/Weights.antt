@@ -1,13 +1,16 @@
--- How much room code takes, and how much the goals have for it that it is written of: an instruction and a block weigh 16, an instruction that prints a
--- text 24, and a character of it 6.
-use Rattle.std.specs.Prelude.{◌≤◌, ℕ, ◌+◌, ◌*◌, List, [], ◌∷◌, length}
+-- How much room code takes, and how much the goals have for it that it is written of, whatever its parts weigh: so an engine gives bytes to them, or
+-- counts one part alone.
+use Rattle.std.specs.Prelude.{◌≤◌, ℕ, ◌+◌, ◌*◌, List, [], ◌∷◌}
 use Rattle.dg_base.specs.declared.program.Goal.{Goal, out-Goal}
 use Rattle.dg_base.specs.declared.program.Goal.TheOpen as form
+use Rattle.dg_base.specs.declared.program.Term.{Term, out-Term}
+use Rattle.dg_base.specs.declared.program.Term.TheOpen.{Term-F}
 use Rattle.dg_base.specs.declared.program.Rule.{Rule}
 use Rattle.dg_base.specs.declared.program.Pred.{Pred}
 use Rattle.dg_base.specs.declared.program.ClosureBody.{ClosureBody}
 use Rattle.dg_base.specs.declared.program.CoreProgram.{CoreProgram}
-use Rattle.dg_base.specs.Goals.{all_goals_of}
+use Rattle.dg_base.specs.Goals.{all_goals_of, terms_held, option_terms}
+use Rattle.dg_base.specs.Terms.{nodes}
 use Rattle.dg_meaning.specs.Render.{characters}
 use Rattle.dg_mid.specs.declared.code.Action.TheVariants as action
 use Rattle.dg_mid.specs.declared.code.Op.{Op}
@@ -17,26 +20,63 @@ use Rattle.dg_mid.specs.declared.code.Code.{Code}
 use Rattle.dg_mid.specs.declared.writing.Level.{Level}
 use Rattle.dg_mid.specs.declared.writing.Level.TheVariants as level
 use Rattle.dg_mid.specs.declared.writing.Work.{Work}
+use Rattle.dg_mid.specs.Actions.{terms_of}
+
+-- What the parts of code weigh.
+pub record Weights : Type 0 where
+  -- an instruction that does or asks something, begins a rule or a gathering, or chooses a branch, its terms apart
+  pub own : ℕ
+  -- one that opens a choice or an inner construct, or goes on with a choice
+  pub opening : ℕ
+  -- any other instruction
+  pub small : ℕ
+  -- a block, its instructions apart
+  pub block : ℕ
+  -- a node of a term, by its form
+  pub node : Term-F Term → ℕ
+  -- an instruction that prints a text, and a character of it
+  pub text : ℕ
+  pub character : ℕ
 
 -- ## Code
 
-abbrev pub op_weight : Op → ℕ
-op_weight (op.Do (action.Text text)) = 24 + 6 * characters text
-op_weight x = 16
+abbrev pub nodes_weight : Weights → List Term → ℕ
+nodes_weight w [] = 0
+nodes_weight w (term ∷ terms) = w.node (out-Term term) + nodes_weight w terms
 
-abbrev pub ops_weight : List Op → ℕ
-ops_weight [] = 0
-ops_weight (x ∷ ops) = op_weight x + ops_weight ops
+-- Terms, with their nodes at every depth.
+abbrev pub terms_weight : Weights → List Term → ℕ
+terms_weight w [] = 0
+terms_weight w (term ∷ terms) = nodes_weight w (nodes term) + terms_weight w terms
 
-abbrev pub blocks_weight : List Block → ℕ
-blocks_weight [] = 0
-blocks_weight (block ∷ blocks) = 16 + ops_weight block.ops + blocks_weight blocks
+abbrev pub op_weight : Weights → Op → ℕ
+op_weight w (op.Do (action.Text text)) = w.text + w.character * characters text
+op_weight w (op.Do a) = w.own + terms_weight w (terms_of a)
+op_weight w (op.Ask pred terms many next) = w.own + terms_weight w terms
+op_weight w (op.LastAsk pred terms many) = w.own + terms_weight w terms
+op_weight w (op.Query a b many next) = w.own + terms_weight w (a ∷ option_terms b)
+op_weight w (op.LastQuery a b many) = w.own + terms_weight w (a ∷ option_terms b)
+op_weight w (op.Find place terms many next) = w.own + terms_weight w terms
+op_weight w (op.Select site mode blocks behind) = w.own
+op_weight w (op.Collect term into alt) = w.own + terms_weight w (term ∷ into ∷ [])
+op_weight w (op.Enter vars head) = w.own + terms_weight w head
+op_weight w (op.Branch alt) = w.opening
+op_weight w op.Once = w.opening
+op_weight w (op.Try alt) = w.opening
+op_weight w (op.Shield alt) = w.opening
+op_weight w (op.Retry alt) = w.opening
+op_weight w (op.TakeOut whole into) = w.opening
+op_weight w x = w.small
+
+abbrev pub ops_weight : Weights → List Op → ℕ
+ops_weight w [] = 0
+ops_weight w (x ∷ ops) = op_weight w x + ops_weight w ops
+
+abbrev pub blocks_weight : Weights → List Block → ℕ
+blocks_weight w [] = 0
+blocks_weight w (block ∷ blocks) = w.block + ops_weight w block.ops + blocks_weight w blocks
 
 -- ## Goals
-
-abbrev pub text_weight : form.Goal-F Goal → ℕ
-text_weight (form.Text text) = 6 * characters text
-text_weight goal = 0
 
 -- The lists of goals that a goal holds.
 abbrev pub lists_in : form.Goal-F Goal → List (List Goal)
@@ -51,58 +91,77 @@ lists_in (form.Stoppable goals) = goals ∷ []
 lists_in (form.Select site mode lists) = lists
 lists_in goal = []
 
--- A goal by itself has room for six instructions, and each list that it holds for four.
-abbrev pub goal_weight : form.Goal-F Goal → ℕ
-goal_weight goal = 96 + text_weight goal + 64 * length (lists_in goal)
+-- What a goal has room for beside its lists: one that only holds lists for what comes behind them, any other for its own instruction, two blocks and
+-- what leads to them.
+abbrev pub own_weight : Weights → form.Goal-F Goal → ℕ
+own_weight w (form.Text text) = w.text + w.character * characters text
+own_weight w form.Forever = w.opening + w.small + w.block
+own_weight w (form.Either lists) = w.small + w.block
+own_weight w (form.Once goals) = w.small + w.block
+own_weight w (form.Not goals) = w.small + w.block
+own_weight w (form.If test first other) = w.small + w.block
+own_weight w (form.Exhaust goals) = w.small + w.block
+own_weight w (form.Stoppable goals) = w.small + w.block
+own_weight w goal = w.own + 3 * w.small + 2 * w.block + terms_weight w (terms_held goal)
 
-abbrev pub goals_weight : List Goal → ℕ
-goals_weight [] = 0
-goals_weight (goal ∷ goals) = goal_weight (out-Goal goal) + goals_weight goals
+-- What the lists of a goal have room for beside their goals.
+abbrev pub ways_weight : Weights → List (List Goal) → ℕ
+ways_weight w [] = 0
+ways_weight w (goals ∷ lists) = w.opening + w.small + w.block + ways_weight w lists
+
+abbrev pub goal_weight : Weights → form.Goal-F Goal → ℕ
+goal_weight w goal = own_weight w goal + ways_weight w (lists_in goal)
+
+abbrev pub goals_weight : Weights → List Goal → ℕ
+goals_weight w [] = 0
+goals_weight w (goal ∷ goals) = goal_weight w (out-Goal goal) + goals_weight w goals
 
 -- A body, with its goals at every depth.
-abbrev pub body_weight : List Goal → ℕ
-body_weight body = goals_weight (all_goals_of body)
+abbrev pub body_weight : Weights → List Goal → ℕ
+body_weight w body = goals_weight w (all_goals_of body)
 
--- Lists that a goal holds.
-abbrev pub lists_weight : List (List Goal) → ℕ
-lists_weight [] = 0
-lists_weight (goals ∷ lists) = 64 + body_weight goals + lists_weight lists
+-- Lists that a goal holds, with their goals.
+abbrev pub lists_weight : Weights → List (List Goal) → ℕ
+lists_weight w [] = 0
+lists_weight w (goals ∷ lists) = w.opening + w.small + w.block + body_weight w goals + lists_weight w lists
 
 -- A goal with all that is in it.
-abbrev pub whole_weight : Goal → ℕ
-whole_weight goal = 96 + text_weight (out-Goal goal) + lists_weight (lists_in (out-Goal goal))
+abbrev pub whole_weight : Weights → Goal → ℕ
+whole_weight w goal = own_weight w (out-Goal goal) + lists_weight w (lists_in (out-Goal goal))
 
 -- ## Programs
 
--- A rule has room for three instructions, and the body of a closure for two.
-abbrev pub rules_weight : List Rule → ℕ
-rules_weight [] = 0
-rules_weight (rule ∷ rules) = 48 + body_weight rule.body + rules_weight rules
+-- A rule has room for its head, its answer and their block, and the body of a closure for its answer and the block.
+abbrev pub rules_weight : Weights → List Rule → ℕ
+rules_weight w [] = 0
+rules_weight w (rule ∷ rules) = w.own + w.small + w.block + terms_weight w rule.head + body_weight w rule.body + rules_weight w rules
 
-abbrev pub preds_weight : List Pred → ℕ
-preds_weight [] = 0
-preds_weight (pred ∷ preds) = rules_weight pred.rules + preds_weight preds
+abbrev pub preds_weight : Weights → List Pred → ℕ
+preds_weight w [] = 0
+preds_weight w (pred ∷ preds) = rules_weight w pred.rules + preds_weight w preds
 
-abbrev pub closures_weight : List ClosureBody → ℕ
-closures_weight [] = 0
-closures_weight (closure ∷ closures) = 32 + body_weight closure.body + closures_weight closures
+abbrev pub closures_weight : Weights → List ClosureBody → ℕ
+closures_weight w [] = 0
+closures_weight w (closure ∷ closures) = w.small + w.block + body_weight w closure.body + closures_weight w closures
 
 -- The code of a program takes no more room than its goals, rules and closures have, and the first three blocks.
-abbrev pub IsLight : CoreProgram → Code → Type 0
-IsLight program code = blocks_weight code.blocks ≤ 96 + preds_weight program.preds + closures_weight program.closures
+abbrev pub IsLight : Weights → CoreProgram → Code → Type 0
+IsLight w program code =
+    blocks_weight w code.blocks ≤ w.own + 2 * w.small + 3 * w.block + preds_weight w program.preds + closures_weight w program.closures
 
 -- ## What is being written
 
 -- What is open, with room for what is still to be written of it.
-abbrev pub level_weight : Level → ℕ
-level_weight (level.Inner x others) = op_weight x + body_weight others
-level_weight (level.Other test first tail others) = 64 + body_weight test + body_weight first + body_weight others
-level_weight (level.Lists left alt tail others) = 32 + lists_weight left + body_weight others
-level_weight (level.Branches s others) = 32 + lists_weight s.left + body_weight others
+abbrev pub level_weight : Weights → Level → ℕ
+level_weight w (level.Inner x others) = op_weight w x + body_weight w others
+level_weight w (level.Other test first tail others) =
+    w.opening + 2 * w.small + w.block + body_weight w test + body_weight w first + body_weight w others
+level_weight w (level.Lists left alt tail others) = w.opening + w.block + lists_weight w left + body_weight w others
+level_weight w (level.Branches s others) = w.own + w.block + lists_weight w s.left + body_weight w others
 
-abbrev pub levels_weight : List Level → ℕ
-levels_weight [] = 0
-levels_weight (l ∷ levels) = level_weight l + levels_weight levels
+abbrev pub levels_weight : Weights → List Level → ℕ
+levels_weight w [] = 0
+levels_weight w (l ∷ levels) = level_weight w l + levels_weight w levels
 
-abbrev pub work_weight : Work → ℕ
-work_weight work = ops_weight work.ops.items + body_weight work.goals + levels_weight work.levels
+abbrev pub work_weight : Weights → Work → ℕ
+work_weight w work = ops_weight w work.ops.items + body_weight w work.goals + levels_weight w work.levels

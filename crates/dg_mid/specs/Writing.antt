@@ -1,6 +1,6 @@
 -- What code that is being written stands for: it is written from the last goal to the first, and what was written stays. Hold it against the Dialog
 -- manual, chapter "Choice points".
-use Rattle.std.specs.Prelude.{ℕ, ◌+◌, ◌≤◌, List, [], ◌∷◌, ◌++◌, ◌≡◌, Option, Some, None, Bool, false, reverse}
+use Rattle.std.specs.Prelude.{ℕ, ◌+◌, ◌*◌, ◌≤◌, List, [], ◌∷◌, ◌++◌, ◌≡◌, Option, Some, None, Bool, false, reverse}
 use Rattle.std.specs.List.{slice_get}
 use Rattle.dg_base.specs.declared.program.Goal.{Goal}
 use Rattle.dg_base.specs.declared.program.Goal.TheVariants as goal
@@ -25,7 +25,7 @@ use Rattle.dg_mid.specs.declared.branches.Branching.{Branching}
 use Rattle.dg_mid.specs.Code.{block_at, codes_of}
 use Rattle.dg_mid.specs.Seeking.{LeavesFirst}
 use Rattle.dg_mid.specs.Tidying.{BlocksTidy, Neat, LandsTidy, TailTidy, IsThere, WorkTidy}
-use Rattle.dg_mid.specs.Weights.{ops_weight, blocks_weight, body_weight, work_weight}
+use Rattle.dg_mid.specs.Weights.{Weights, ops_weight, blocks_weight, body_weight, work_weight}
 use Rattle.dg_mid.specs.Codes.{End, Stands, RuleStands, RulesStand, Others, Branches, BodyStands, found_goals, found_end}
 
 -- ## Growing
@@ -38,7 +38,7 @@ StandsFor blocks ops goals end = (code : Code) → Begins blocks code.blocks →
 pub record PutsFirst (goals : List Goal) (old new : List Block) (before after : List Op) : Type 0 where
   pub stands : (rest : List Goal) (end : End) → StandsFor old before rest end → StandsFor new after (goals ++ rest) end
   pub neat : Neat old before → Neat new after
-  pub light : blocks_weight new + ops_weight after ≤ blocks_weight old + ops_weight before + body_weight goals
+  pub light : (w : Weights) → blocks_weight w new + ops_weight w after ≤ blocks_weight w old + ops_weight w before + body_weight w goals
 
 -- In every code that begins with these blocks, the block stands for the goals and what comes behind them.
 abbrev pub BlockFor : List Block → ℕ → List Goal → End → Type 0
@@ -48,7 +48,7 @@ BlockFor blocks b goals end = (code : Code) → Begins blocks code.blocks → St
 pub record Lands (old new : List Block) (ops : List Op) (b : ℕ) : Type 0 where
   pub stands : (rest : List Goal) (end : End) → StandsFor old ops rest end → BlockFor new b rest end
   pub neat : Neat old ops → LandsTidy new ops b
-  pub light : blocks_weight new ≤ blocks_weight old + 16 + ops_weight ops
+  pub light : (w : Weights) → blocks_weight w new ≤ blocks_weight w old + w.block + ops_weight w ops
 
 -- What two ways end with stands for these goals: the answer of a rule, or a block.
 abbrev pub TailFor : List Block → Option ℕ → List Goal → End → Type 0
@@ -59,7 +59,7 @@ TailFor blocks (Some b) goals end = BlockFor blocks b goals end
 pub record Shares (old new : List Block) (ops : List Op) (tail : Option ℕ) : Type 0 where
   pub stands : (rest : List Goal) (end : End) → StandsFor old ops rest end → TailFor new tail rest end
   pub neat : Neat old ops → BlocksTidy new × TailTidy new tail
-  pub light : blocks_weight new ≤ blocks_weight old + 16 + ops_weight ops
+  pub light : (w : Weights) → blocks_weight w new ≤ blocks_weight w old + w.block + ops_weight w ops
 
 -- Where a block stands for goals, another stands for them where an object is found: it leaves an inner construct first, where one answer is wanted. The
 -- blocks stay tidy.
@@ -68,13 +68,13 @@ pub record FoundAt (old new : List Block) (many : Bool) (behind b : ℕ) : Type 
   pub stands : (rest : List Goal) (end : End) → BlockFor old behind rest end → BlockFor new b (found_goals many rest) (found_end many rest end)
   pub leaves : (code : Code) → Begins new code.blocks → LeavesFirst code many b
   pub neat : BlocksTidy old → BlocksTidy new
-  pub light : blocks_weight new ≤ blocks_weight old + 48
+  pub light : (w : Weights) → blocks_weight w new ≤ blocks_weight w old + 2 * w.small + w.block
 
 -- The block stands for what two ways end with; the blocks stay tidy.
 pub record EndsAt (old new : List Block) (tail : Option ℕ) (b : ℕ) : Type 0 where
   pub stands : (rest : List Goal) (end : End) → TailFor old tail rest end → BlockFor new b rest end
   pub neat : BlocksTidy old → BlocksTidy new
-  pub light : blocks_weight new ≤ blocks_weight old + 32
+  pub light : (w : Weights) → blocks_weight w new ≤ blocks_weight w old + w.small + w.block
 
 -- The instructions of what a way ends with.
 abbrev pub tail_ops : Option ℕ → List Op
@@ -91,7 +91,7 @@ pub record ListLands (old new : List Block) (ops : List Op) (alt : Option ℕ) (
   pub stands : (list : List Goal) (lists : List (List Goal)) (rest : List Goal) (end : End) → StandsFor old ops (list ++ rest) end →
       OthersFor old alt lists rest end → OthersFor new (Some b) (list ∷ lists) rest end
   pub neat : Neat old ops → IsThere old alt → BlocksTidy new × IsThere new (Some b)
-  pub light : blocks_weight new ≤ blocks_weight old + 32 + ops_weight ops
+  pub light : (w : Weights) → blocks_weight w new ≤ blocks_weight w old + w.opening + w.block + ops_weight w ops
 
 -- What comes behind a list of a choice: the choice itself where it is the first, else the lists in front of it.
 abbrev pub after_list : List (List Goal) → ℕ → Option ℕ → List Goal → Level
@@ -152,7 +152,7 @@ pub record ComesTo (blocks : List Block) (work : Work) (wanted : List Goal) (las
 pub record Moves (old : List Block) (before : Work) (new : List Block) (after : Work) : Type 0 where
   pub blocks : Begins old new
   pub neat : WorkTidy old before → WorkTidy new after
-  pub light : blocks_weight new + work_weight after ≤ blocks_weight old + work_weight before
+  pub light : (w : Weights) → blocks_weight w new + work_weight w after ≤ blocks_weight w old + work_weight w before
   pub comes : (wanted : List Goal) (last : End) → ComesTo old before wanted last → ComesTo new after wanted last
 
 -- What is being written, with one more goal to write first.

@@ -8,7 +8,7 @@ ghost use Rattle.dg_mid.specs.declared.code.Block.{Block};
 ghost use Rattle.dg_mid.specs.declared.code.Op.TheVariants as op;
 ghost use Rattle.dg_mid.specs.declared.writing.Level.TheVariants as level;
 ghost use Rattle.dg_mid.specs.Tidying.{BlocksTidy, LevelsTidy, TailTidy, WorkTidy};
-ghost use Rattle.dg_mid.specs.Weights.{body_weight, levels_weight, lists_weight, work_weight};
+ghost use Rattle.dg_mid.specs.Weights.{Weights, body_weight, levels_weight, lists_weight, work_weight};
 ghost use Rattle.dg_mid.specs.Writing.{AtBranch, ComesTo, EndsAt, Moves, with_goal, with_level};
 
 use crate::code::Op;
@@ -99,7 +99,8 @@ fn at_branch(
         AtBranch blocks select others (reverse levels) wanted last → ComesTo blocks new wanted last) }
     ensures neat { IfOk result (λ new. (blocks : List Block) →
         BlocksTidy blocks → TailTidy blocks select.tail → LevelsTidy blocks (reverse levels) → WorkTidy blocks new) }
-    ensures light { IfOk result (λ new. work_weight new ≤ 16 + lists_weight select.left + body_weight others + levels_weight levels) }
+    ensures light { IfOk result (λ new. (w : Weights) →
+        work_weight w new ≤ w.own + lists_weight w select.left + body_weight w others + levels_weight w levels) }
 {
     let mut select = select;
     let Some(list) = select.left.pop() else {

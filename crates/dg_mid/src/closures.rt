@@ -3,7 +3,7 @@ ghost use Rattle.std.specs.Prelude.{◌+◌, ◌≤◌, ◌≡◌, [], ◌∷◌
 ghost use Rattle.dg_base.specs.declared.program.Goal.TheVariants as goal;
 ghost use Rattle.dg_base.specs.Begins.{Begins};
 ghost use Rattle.dg_mid.specs.Tidying.{BlocksTidy};
-ghost use Rattle.dg_mid.specs.Weights.{blocks_weight, closures_weight};
+ghost use Rattle.dg_mid.specs.Weights.{Weights, blocks_weight, closures_weight};
 ghost use Rattle.dg_mid.specs.Writing.{BodiesFor, BodyFor, Moves, PutsFirst, with_goal};
 
 use crate::code::{BodyCode, Op};
@@ -52,7 +52,8 @@ impl Writer {
         ensures blocks { OnOk result (Begins self.old.blocks self.new.blocks) }
         ensures stands { IfOk result (λ c. BodyFor self.new.blocks c closure) }
         ensures neat { OnOk result (BlocksTidy self.old.blocks → BlocksTidy self.new.blocks) }
-        ensures light { OnOk result (blocks_weight self.new.blocks ≤ blocks_weight self.old.blocks + closures_weight (closure ∷ [])) }
+        ensures light { OnOk result ((w : Weights) →
+            blocks_weight w self.new.blocks ≤ blocks_weight w self.old.blocks + closures_weight w (closure ∷ [])) }
     {
         let ClosureBody {
             captured: _captured,
@@ -70,7 +71,8 @@ impl Writer {
         ensures blocks { OnOk result (Begins self.old.blocks self.new.blocks) }
         ensures stand { IfOk result (λ codes. BodiesFor self.new.blocks codes closures) }
         ensures neat { OnOk result (BlocksTidy self.old.blocks → BlocksTidy self.new.blocks) }
-        ensures light { OnOk result (blocks_weight self.new.blocks ≤ blocks_weight self.old.blocks + closures_weight closures) }
+        ensures light { OnOk result ((w : Weights) →
+            blocks_weight w self.new.blocks ≤ blocks_weight w self.old.blocks + closures_weight w closures) }
     {
         let mut closures = closures;
         let mut codes = Vec::new(self.alloc);

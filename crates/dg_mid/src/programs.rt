@@ -4,7 +4,7 @@ ghost use Rattle.dg_mid.specs.Codes.{Codes};
 ghost use Rattle.dg_base.specs.Sound.{IsSound};
 ghost use Rattle.dg_mid.specs.Potential.{Tidy};
 ghost use Rattle.dg_mid.specs.Seeking.{BlocksLeave};
-ghost use Rattle.dg_mid.specs.Weights.{IsLight};
+ghost use Rattle.dg_mid.specs.Weights.{IsLight, Weights};
 
 use crate::code::Code;
 use crate::release::let_go_places;
@@ -18,7 +18,7 @@ pub fn to_mid(program: CoreProgram, alloc: Global) -> Result<Code, AllocError>
     ensures codes { IfOk result (λ code. Codes program code) }
     ensures tidy { IfOk result (λ code. Tidy code) }
     ensures leave { IfOk result (λ code. BlocksLeave code) }
-    ensures light { IfOk result (λ code. IsLight program code) }
+    ensures light { IfOk result (λ code. (w : Weights) → IsLight w program code) }
 {
     let CoreProgram {
         preds,

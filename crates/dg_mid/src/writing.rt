@@ -8,7 +8,7 @@ ghost use Rattle.dg_mid.specs.declared.code.Block.{Block};
 ghost use Rattle.dg_mid.specs.declared.code.Op.TheVariants as op;
 ghost use Rattle.dg_mid.specs.declared.writing.Level.TheVariants as level;
 ghost use Rattle.dg_mid.specs.Tidying.{BlocksTidy};
-ghost use Rattle.dg_mid.specs.Weights.{blocks_weight, preds_weight, rules_weight};
+ghost use Rattle.dg_mid.specs.Weights.{Weights, blocks_weight, preds_weight, rules_weight};
 ghost use Rattle.dg_mid.specs.Writing.{PutsFirst, Lands, Moves, with_goal, with_level, gathers, Shares, tail_ops, RuleFor, RulesFor, PredsFor, starting, ListLands, after_list};
 ghost use Rattle.dg_mid.specs.Code.{label_of, first_label};
 ghost use Rattle.dg_meaning.specs.Selection.{label_at};
@@ -430,7 +430,8 @@ impl Writer {
         ensures blocks { OnOk result (Begins self.old.blocks self.new.blocks) }
         ensures stands { IfOk result (λ c. RuleFor self.new.blocks c rule) }
         ensures neat { OnOk result (BlocksTidy self.old.blocks → BlocksTidy self.new.blocks) }
-        ensures light { OnOk result (blocks_weight self.new.blocks ≤ blocks_weight self.old.blocks + rules_weight (rule ∷ [])) }
+        ensures light { OnOk result ((w : Weights) →
+            blocks_weight w self.new.blocks ≤ blocks_weight w self.old.blocks + rules_weight w (rule ∷ [])) }
     {
         let Rule { vars, head, body } = rule;
         let key = key_of(head.as_slice());
@@ -446,7 +447,8 @@ impl Writer {
         ensures blocks { OnOk result (Begins self.old.blocks self.new.blocks) }
         ensures stand { IfOk result (λ codes. RulesFor self.new.blocks codes rules) }
         ensures neat { OnOk result (BlocksTidy self.old.blocks → BlocksTidy self.new.blocks) }
-        ensures light { OnOk result (blocks_weight self.new.blocks ≤ blocks_weight self.old.blocks + rules_weight rules) }
+        ensures light { OnOk result ((w : Weights) →
+            blocks_weight w self.new.blocks ≤ blocks_weight w self.old.blocks + rules_weight w rules) }
     {
         let mut rules = rules;
         let mut codes = Vec::new(self.alloc);
@@ -465,7 +467,8 @@ impl Writer {
         ensures blocks { OnOk result (Begins self.old.blocks self.new.blocks) }
         ensures stand { IfOk result (λ codes. PredsFor self.new.blocks codes preds) }
         ensures neat { OnOk result (BlocksTidy self.old.blocks → BlocksTidy self.new.blocks) }
-        ensures light { OnOk result (blocks_weight self.new.blocks ≤ blocks_weight self.old.blocks + preds_weight preds) }
+        ensures light { OnOk result ((w : Weights) →
+            blocks_weight w self.new.blocks ≤ blocks_weight w self.old.blocks + preds_weight w preds) }
     {
         let mut preds = preds;
         let mut codes = Vec::new(self.alloc);

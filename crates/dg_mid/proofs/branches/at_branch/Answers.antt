@@ -22,11 +22,11 @@ returns-clause-neat c blocks h tail l =
     neat_next blocks c.args.select t c.args.others c.args.levels after refl c.in_ok-ops.ensures c.in_ok-push.ensures.ok h tail l
 
 pub returns-in_default-clause-light : goal.returns-in_default-clause-light
-returns-in_default-clause-light c =
-    light_end c.args.select c.args.others c.args.levels c.in_ok-behind_branches.field-0 c.in_ok-behind_branches.ensures.ops c.in_ok-behind_branches.ensures.goals c.in_ok-behind_branches.ensures.levels
+returns-in_default-clause-light c w =
+    light_end w c.args.select c.args.others c.args.levels c.in_ok-behind_branches.field-0 c.in_ok-behind_branches.ensures.ops c.in_ok-behind_branches.ensures.goals c.in_ok-behind_branches.ensures.levels
 
 pub returns-clause-light : goal.returns-clause-light
-returns-clause-light c =
+returns-clause-light c w =
     let t : Branching = record c.args.select { left = c.pop.new.self } in
     let after : Work = record { ops = c.in_ok-ops.ops; goals = c.in-Some.list; levels = c.push.new.self } in
-    light_next c.args.select t c.pop.new.self c.in-Some.list c.args.others c.args.levels after c.in-Some.ensures refl c.in_ok-ops.ensures refl c.in_ok-push.ensures.ok
+    light_next w c.args.select t c.pop.new.self c.in-Some.list c.args.others c.args.levels after c.in-Some.ensures refl c.in_ok-ops.ensures refl c.in_ok-push.ensures.ok

@@ -29,7 +29,7 @@ returns-clause-leave c =
     leaves_made code (subst BlocksTidy (sym c.blocks-2.ensures) (c.in_ok-closures.ensures.neat (c.in_ok-preds.ensures.neat (subst BlocksTidy (sym c.in_ok-writer.ensures) (starting_neat c.args.program.entry)))))
 
 pub returns-clause-light : goal.returns-clause-light
-returns-clause-light c =
+returns-clause-light c w =
     let code : Code = record { blocks = c.blocks-2.result; preds = c.in_ok-preds.preds; closures = c.in_ok-closures.closures } in
-    code_light c.args.program code c.in_ok-writer.writer.blocks c.preds-2.new.self.blocks c.in_ok-writer.ensures c.in_ok-preds.ensures.light
-    (subst (λ (l : List Block). blocks_weight l ≤ blocks_weight c.preds-2.new.self.blocks + closures_weight c.args.program.closures) (sym c.blocks-2.ensures) c.in_ok-closures.ensures.light)
+    code_light w c.args.program code c.in_ok-writer.writer.blocks c.preds-2.new.self.blocks c.in_ok-writer.ensures (c.in_ok-preds.ensures.light w)
+    (subst (λ (l : List Block). blocks_weight w l ≤ blocks_weight w c.preds-2.new.self.blocks + closures_weight w c.args.program.closures) (sym c.blocks-2.ensures) (c.in_ok-closures.ensures.light w))

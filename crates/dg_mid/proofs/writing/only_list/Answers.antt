@@ -8,5 +8,5 @@ use Rattle.dg_mid.proofs.writing.only_list.Goals as goal
 pub returns : goal.returns
 returns c blocks =
     opens blocks blocks c.args.work c.in_ok-open.field-0 c.args.work.ops.items (goals.Either (c.args.list ∷ [])) op.Take c.args.list (begins_here blocks) c.in_ok-open.ensures.ops c.in_ok-open.ensures.goals c.in_ok-open.ensures.levels tt (λ h. h)
-    (omega (arith, weight_either (c.args.list ∷ [])))
+    (λ w. omega (arith, weight_either w (c.args.list ∷ [])))
     (open_only blocks c.args.work.ops.items c.args.list)

@@ -5,6 +5,7 @@ use Rattle.dg_mid.specs.declared.code.Op.TheVariants as op
 use Rattle.dg_meaning.proofs.OneRun.{begins_on}
 use Rattle.dg_mid.specs.Codes.{objects}
 use Rattle.dg_mid.proofs.Opening.{puts_moves, puts_find}
+use Rattle.dg_mid.proofs.Weights.{weight_is_object}
 use Rattle.dg_mid.proofs.writing.Writer.is_object.Goals as goal
 
 pub returns : goal.returns
@@ -14,4 +15,5 @@ returns c =
     (begins_on c.args.self.now.blocks c.finish.new.self.blocks c.found_block.new.self.blocks c.in_ok-behind.ensures.blocks c.in_ok-found.ensures.blocks)
     (puts_find c.args.self.now.blocks c.finish.new.self.blocks c.found_block.new.self.blocks c.args.work.ops.items c.in_ok-ops.ops.items c.in_ok-ops-2.ops.items None (c.args.term ∷ [])
     (goals.IsObject c.args.term c.args.many) c.in_ok-behind.behind c.in_ok-found.found c.args.many (λ code xs rest end s o. objects c.args.term c.args.many c.in_ok-found.found xs rest end s o)
+    (λ w. weight_is_object w c.args.term c.args.many)
     c.in_ok-behind.ensures.lands c.in_ok-found.ensures c.in_ok-ops.ensures (c.in_ok-ops-2.ensures ∙ ap (λ (l : List Term). c.in_ok-ops.ops.items ++ op.Find None l c.args.many c.in_ok-found.found ∷ []) alone))

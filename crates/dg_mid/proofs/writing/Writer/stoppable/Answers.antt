@@ -9,6 +9,6 @@ pub returns : goal.returns
 returns c =
     opens c.args.self.now.blocks _ c.args.work c.in_ok-open.field-0 c.in_ok-ops-2.ops.items (goals.Stoppable c.args.inner) (op.Shield c.in_ok-alt.alt) c.args.inner c.in_ok-alt.ensures.blocks c.in_ok-open.ensures.ops c.in_ok-open.ensures.goals c.in_ok-open.ensures.levels tt
     (λ h. neat_leave _ c.in_ok-ops.ops.items c.in_ok-ops-2.ops.items c.in_ok-alt.alt c.in_ok-ops.ensures c.in_ok-ops-2.ensures (c.in_ok-alt.ensures.lands.neat h).blocks_are)
-    (let l = c.in_ok-alt.ensures.lands.light in
-    omega (arith, ops_reverse c.args.work.ops.items, op_alone c.in_ok-ops.ops.items (op.Goto c.in_ok-alt.alt) c.in_ok-ops.ensures, op_added c.in_ok-ops.ops.items c.in_ok-ops-2.ops.items op.Leave c.in_ok-ops-2.ensures, weight_stoppable c.args.inner))
+    (λ w. let l = c.in_ok-alt.ensures.lands.light w in
+    omega (arith, ops_reverse w c.args.work.ops.items, op_alone w c.in_ok-ops.ops.items (op.Goto c.in_ok-alt.alt) c.in_ok-ops.ensures, op_added w c.in_ok-ops.ops.items c.in_ok-ops-2.ops.items op.Leave c.in_ok-ops-2.ensures, weight_stoppable w c.args.inner))
     (open_stoppable c.args.self.now.blocks _ c.args.work.ops.items c.in_ok-ops.ops.items c.in_ok-ops-2.ops.items c.args.inner c.in_ok-alt.alt c.in_ok-alt.ensures.lands c.in_ok-ops.ensures c.in_ok-ops-2.ensures)

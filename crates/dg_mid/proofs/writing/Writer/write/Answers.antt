@@ -18,7 +18,7 @@ returns-in-None-pop-clause-first c =
     record {
       stands = λ rest end s. ends_written c.loop-turn.self.blocks c.loop-turn.work (c.args.goals ++ rest) end none no_levels (c.loop-turn.invariant.1 rest end s);
       neat = λ h. (c.loop-turn.invariant.2 h).neat;
-      light = omega (arith, c.loop-turn.invariant.3, ops_reverse c.loop-turn.work.ops.items, ops_reverse c.args.ops.items, ap body_weight none, ap levels_weight no_levels);
+      light = λ w. omega (arith, c.loop-turn.invariant.3 w, ops_reverse w c.loop-turn.work.ops.items, ops_reverse w c.args.ops.items, ap (body_weight w) none, ap (levels_weight w) no_levels);
     }
 
 pub loop-turn-preserved : goal.loop-turn-preserved
