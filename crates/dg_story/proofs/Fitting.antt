@@ -3,32 +3,47 @@ use Rattle.std.proofs.Common.{◌≡◌, ℕ, suc, ◌+◌, ◌*◌, ◌≤◌, 
 use Rattle.std.specs.List.{slice_get}
 use Rattle.dg_base.specs.declared.program.Goal.{Goal, out-Goal}
 use Rattle.dg_base.specs.declared.program.Goal.TheOpen as form
+use Rattle.dg_base.specs.declared.program.Term.{Term}
 use Rattle.dg_base.specs.declared.program.Rule.{Rule}
 use Rattle.dg_base.specs.declared.program.Pred.{Pred}
 use Rattle.dg_base.specs.declared.program.ClosureBody.{ClosureBody}
 use Rattle.dg_base.specs.declared.program.CoreProgram.{CoreProgram}
-use Rattle.dg_base.specs.Goals.{all_goals_of}
+use Rattle.dg_base.specs.Goals.{all_goals_of, terms_held}
+use Rattle.dg_base.specs.Terms.{nodes}
 use Rattle.dg_meaning.specs.Moves.{rules_of}
 use Rattle.dg_mid.specs.declared.code.RuleCode.{RuleCode}
 use Rattle.dg_mid.specs.declared.code.Code.{Code}
 use Rattle.dg_mid.specs.Code.{codes_of}
 use Rattle.dg_mid.specs.Codes.{Codes, RulesStand}
-use Rattle.dg_mid.specs.Weights.{text_weight, lists_in, goal_weight, goals_weight, body_weight, rules_weight, preds_weight, closures_weight, blocks_weight, IsLight}
+use Rattle.dg_mid.specs.Weights.{nodes_weight, terms_weight, lists_in, own_weight, ways_weight, goal_weight, goals_weight, body_weight, rules_weight, preds_weight, closures_weight, blocks_weight, IsLight}
 use Rattle.z_asm.specs.Story as image
 use Rattle.z_story.specs.Parts.{image_of}
-use Rattle.dg_story.specs.Sizes.{text_size, lists_held, goal_size, goals_size, body_size, rules_size, preds_size, closures_size}
+use Rattle.dg_story.specs.Sizes.{terms_size, text_size, lists_held, goal_size, goals_size, body_size, rules_size, preds_size, closures_size}
 use Rattle.dg_story.specs.Refusals.{build_refusal}
 use Rattle.dg_story.specs.Numbers.{numbers_of, rules_count, block_number, routine_count}
 use Rattle.dg_story.specs.Routines.{runtime, preds_routines, blocks_routines, all_routines}
 use Rattle.dg_story.specs.Built.{story_parts, rule_count, HasNoStory}
 use Rattle.dg_story.proofs.RefusalLemmas.{story_fits}
-use Rattle.dg_story.proofs.Rooms.{rooms, rooms_append, end_within, blocks_room, preds_room, runtime_room, blocks_few}
+use Rattle.dg_story.proofs.Rooms.{bytes, rooms, rooms_append, end_within, blocks_room, preds_room, runtime_room, blocks_few}
 
 -- ## What goals weigh and count
 
-texts_alike : (layer : form.Goal-F Goal) → text_weight layer ≡ text_size layer
-texts_alike (form.Text text) = refl
-texts_alike layer = refl
+-- terms take no room in a plain story
+nodes_free : (ts : List Term) → nodes_weight bytes ts ≡ 0
+nodes_free [] = refl
+nodes_free (t ∷ ts) = omega (arith, nodes_free ts)
+
+terms_free : (ts : List Term) → terms_weight bytes ts ≡ 0
+terms_free [] = refl
+terms_free (t ∷ ts) = omega (arith, nodes_free (nodes t), terms_free ts)
+
+own_counts : (layer : form.Goal-F Goal) → own_weight bytes layer ≤ 100 + text_size layer + terms_size (terms_held layer)
+own_counts (form.Text text) = omega arith
+own_counts layer = omega (arith, terms_free (terms_held layer))
+
+ways_count : (lists : List (List Goal)) → ways_weight bytes lists ≤ 100 * length lists
+ways_count [] = omega arith
+ways_count (goals ∷ lists) = omega (arith, ways_count lists)
 
 lists_alike : (layer : form.Goal-F Goal) → length (lists_in layer) ≡ length (lists_held layer)
 lists_alike (form.Either lists) = refl
@@ -42,25 +57,25 @@ lists_alike (form.Stoppable goals) = refl
 lists_alike (form.Select site mode lists) = refl
 lists_alike layer = refl
 
-goal_counts : (layer : form.Goal-F Goal) → goal_weight layer ≤ goal_size layer
-goal_counts layer = omega (arith, texts_alike layer, lists_alike layer)
+goal_counts : (layer : form.Goal-F Goal) → goal_weight bytes layer ≤ goal_size layer
+goal_counts layer = omega (arith, own_counts layer, ways_count (lists_in layer), lists_alike layer)
 
-goals_count : (gs : List Goal) → goals_weight gs ≤ goals_size gs
+goals_count : (gs : List Goal) → goals_weight bytes gs ≤ goals_size gs
 goals_count [] = omega arith
 goals_count (g ∷ gs) = omega (arith, goal_counts (out-Goal g), goals_count gs)
 
-body_counts : (gs : List Goal) → body_weight gs ≤ body_size gs
+body_counts : (gs : List Goal) → body_weight bytes gs ≤ body_size gs
 body_counts gs = goals_count (all_goals_of gs)
 
-rules_count_so : (rs : List Rule) → rules_weight rs + 16 * length rs ≤ rules_size rs
+rules_count_so : (rs : List Rule) → rules_weight bytes rs + 16 * length rs ≤ rules_size rs
 rules_count_so [] = omega arith
-rules_count_so (r ∷ rs) = omega (arith, body_counts r.body, rules_count_so rs)
+rules_count_so (r ∷ rs) = omega (arith, terms_free r.head, body_counts r.body, rules_count_so rs)
 
-preds_count : (ps : List Pred) → preds_weight ps + 16 * rule_count ps ≤ preds_size ps
+preds_count : (ps : List Pred) → preds_weight bytes ps + 16 * rule_count ps ≤ preds_size ps
 preds_count [] = omega arith
 preds_count (p ∷ ps) = omega (arith, rules_count_so p.rules, preds_count ps)
 
-closures_count : (cs : List ClosureBody) → closures_weight cs ≤ closures_size cs
+closures_count : (cs : List ClosureBody) → closures_weight bytes cs ≤ closures_size cs
 closures_count [] = omega arith
 closures_count (c ∷ cs) = omega (arith, body_counts c.body, closures_count cs)
 
@@ -83,11 +98,11 @@ rules_many program code codes = all_many code.preds program.preds (λ n. as_many
 
 -- ## The whole
 
-module _ (program : CoreProgram) (code : Code) (codes : Codes program code) (light : IsLight program code) (fits : build_refusal program ≡ None) where
+module _ (program : CoreProgram) (code : Code) (codes : Codes program code) (light : IsLight bytes program code) (fits : build_refusal program ≡ None) where
   -- what the program counts suffices for its code and its rules
-  counted : blocks_weight code.blocks + 16 * rules_count code.preds ≤ 440096
+  counted : blocks_weight bytes code.blocks + 16 * rules_count code.preds ≤ 440096
   counted =
-      let l : blocks_weight code.blocks ≤ 96 + preds_weight program.preds + closures_weight program.closures = light in
+      let l : blocks_weight bytes code.blocks ≤ 96 + preds_weight bytes program.preds + closures_weight bytes program.closures = light in
       omega (arith, story_fits program fits, preds_count program.preds, closures_count program.closures, rules_many program code codes)
 
   numbered : routine_count code ≤ 65535

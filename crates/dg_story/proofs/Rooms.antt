@@ -8,7 +8,7 @@ use Rattle.dg_mid.specs.declared.code.Op.{Op}
 use Rattle.dg_mid.specs.declared.code.Op.TheVariants as op
 use Rattle.dg_mid.specs.declared.code.Block.{Block}
 use Rattle.dg_mid.specs.declared.code.RuleCode.{RuleCode}
-use Rattle.dg_mid.specs.Weights.{op_weight, ops_weight, blocks_weight}
+use Rattle.dg_mid.specs.Weights.{Weights, op_weight, ops_weight, blocks_weight}
 use Rattle.z_asm.specs.Layout.{aligned, end_from, code_size}
 use Rattle.z_lang.specs.declared.act.Act.{Act}
 use Rattle.z_lang.specs.declared.act.Act.TheVariants as acts
@@ -154,8 +154,12 @@ pieces_room zero number body way = omega (arith, going_room body way)
 pieces_room (suc further) number body way =
     omega (arith, going_room (take 1000 body) (number + 1), pieces_room further (number + 1) (drop 1000 body) way, bytes_cut 1000 body)
 
+-- the bytes of a plain story: an instruction and a block take 16 at most, one that prints a text 24, and 6 for each character
+abbrev pub bytes : Weights
+bytes = record { own = 16; opening = 16; small = 16; block = 16; node = λ layer. 0; text = 24; character = 6 }
+
 -- an instruction takes no more room than it weighs
-op_room : (numbers : Numbers) (k : ℕ) (x : Op) → rooms (op_routines numbers k x) ≤ op_weight x
+op_room : (numbers : Numbers) (k : ℕ) (x : Op) → rooms (op_routines numbers k x) ≤ op_weight bytes x
 op_room numbers k (op.Do (action.Text text)) =
     let body = text_acts text in
     omega (arith, pieces_room (length body / 1000) k body (k + routines_of_op (op.Do (action.Text text))), text_bytes text, text_many text)
@@ -164,12 +168,12 @@ op_room numbers k (op.LastAsk pred terms all) = omega arith
 op_room numbers k (op.Enter vars head) = omega arith
 op_room numbers k x = omega arith
 
-ops_room : (numbers : Numbers) (k : ℕ) (ops : List Op) → rooms (ops_routines numbers k ops) ≤ 16 + ops_weight ops
+ops_room : (numbers : Numbers) (k : ℕ) (ops : List Op) → rooms (ops_routines numbers k ops) ≤ 16 + ops_weight bytes ops
 ops_room numbers k [] = omega arith
 ops_room numbers k (x ∷ ops) =
     omega (arith, rooms_append (op_routines numbers k x) (ops_routines numbers (k + routines_of_op x) ops), op_room numbers k x, ops_room numbers (k + routines_of_op x) ops)
 
-pub blocks_room : (numbers : Numbers) (k : ℕ) (blocks : List Block) → rooms (blocks_routines numbers k blocks) ≤ blocks_weight blocks
+pub blocks_room : (numbers : Numbers) (k : ℕ) (blocks : List Block) → rooms (blocks_routines numbers k blocks) ≤ blocks_weight bytes blocks
 blocks_room numbers k [] = omega arith
 blocks_room numbers k (block ∷ blocks) =
     omega (
@@ -198,14 +202,14 @@ runtime_room false first = omega arith
 
 -- ## Numbers
 
-op_few : (x : Op) → 16 * routines_of_op x ≤ op_weight x
+op_few : (x : Op) → 16 * routines_of_op x ≤ op_weight bytes x
 op_few (op.Do (action.Text text)) = omega (arith, text_many text)
 op_few x = omega arith
 
-ops_few : (ops : List Op) → 16 * routines_of_ops ops ≤ 16 + ops_weight ops
+ops_few : (ops : List Op) → 16 * routines_of_ops ops ≤ 16 + ops_weight bytes ops
 ops_few [] = omega arith
 ops_few (x ∷ ops) = omega (arith, op_few x, ops_few ops)
 
-pub blocks_few : (blocks : List Block) → 16 * blocks_size blocks ≤ blocks_weight blocks
+pub blocks_few : (blocks : List Block) → 16 * blocks_size blocks ≤ blocks_weight bytes blocks
 blocks_few [] = omega arith
 blocks_few (block ∷ blocks) = omega (arith, ops_few block.ops, blocks_few blocks)

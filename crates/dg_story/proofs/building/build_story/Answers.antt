@@ -7,6 +7,7 @@ use Rattle.dg_story.specs.declared.refusal.BuildFault.{BuildFault}
 use Rattle.dg_story.specs.declared.refusal.BuildFault.TheVariants.{OutOfMemory}
 use Rattle.dg_story.specs.Numbers.{too_large}
 use Rattle.dg_story.proofs.Fitting.{has_story}
+use Rattle.dg_story.proofs.Rooms.{bytes}
 use Rattle.dg_story.proofs.RefusalLemmas.{rules_few, rules_plain}
 use Rattle.dg_story.proofs.Agreeing.{agrees}
 use Rattle.dg_story.proofs.building.build_story.Goals as goal
@@ -32,7 +33,7 @@ rule_count-rule_routines-requires c = omega (arith, ap rule_count c.as_slice.ens
 
 pub returns-in-Err-story-clause-fits : goal.returns-in-Err-story-clause-fits
 returns-in-Err-story-clause-fits c e =
-    let h = has_story c.args.program c.in_ok-code.code c.in_ok-code.ensures.codes c.in_ok-code.ensures.light c.requires.fits in
+    let h = has_story c.args.program c.in_ok-code.code c.in_ok-code.ensures.codes (c.in_ok-code.ensures.light bytes) c.requires.fits in
     let f = same_fault c.in-Err-story.fault e in
     elim c.match-keeps.branch [
       | in-Ok w ↦ h w.in-Ok.keeps (w.story_of-story.ensures.large (sym w.story-is ∙ c.in-Err-story.is ∙ ap failed f))
@@ -43,7 +44,7 @@ returns-in-Err-story-clause-fits c e =
 
 pub returns-in-Ok-story-clause-agrees : goal.returns-in-Ok-story-clause-agrees
 returns-in-Ok-story-clause-agrees c =
-    let small : (keeps : Bool) → IsTooLarge (image_of (story_parts c.in_ok-code.code keeps)) → ⊥ = λ keeps h. has_story c.args.program c.in_ok-code.code c.in_ok-code.ensures.codes c.in_ok-code.ensures.light c.requires.fits keeps (inr h) in
+    let small : (keeps : Bool) → IsTooLarge (image_of (story_parts c.in_ok-code.code keeps)) → ⊥ = λ keeps h. has_story c.args.program c.in_ok-code.code c.in_ok-code.ensures.codes (c.in_ok-code.ensures.light bytes) c.requires.fits keeps (inr h) in
     elim c.match-keeps.branch [
       | in-Ok w ↦
           agrees c.args.program c.in_ok-code.code c.requires.sound (rules_plain c.args.program c.requires.fits) c.in_ok-code.ensures.codes c.in_ok-code.ensures.tidy c.code_runs_as_searched.ensures c.code_costs_its_work.ensures.cost c.code_moves_on.ensures
