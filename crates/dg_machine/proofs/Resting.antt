@@ -10,7 +10,9 @@ use Rattle.dg_lasting.specs.Resting.{extent_resting, RestsFor}
 use Rattle.dg_lasting.specs.declared.lack.Lack.{Lack}
 use Rattle.dg_lasting.specs.declared.resting.Resting.{Resting}
 use Rattle.dg_mid.specs.Codes.{Codes}
+use Rattle.dg_mid.specs.Potential.{Tidy}
 use Rattle.dg_mid.specs.declared.code.Code.{Code}
+use Rattle.dg_machine.specs.Built.{IsBuilt}
 use Rattle.dg_machine.specs.Program.{Rests, IsReady}
 use Rattle.dg_machine.specs.Tables.{IsOf}
 use Rattle.dg_machine.specs.declared.tables.Tables.{Tables}
@@ -32,20 +34,24 @@ rests_again p l old new h start large = record { starts = subst (StartsWorld p l
 pub ready_again : (p : CoreProgram) (l l' : Limits) (code code' : Code) (t t' : Tables) (o : Option Resting) (old new : Resting) → l' ≡ l → code' ≡ code → t' ≡ t → Some old ≡ o → new.start ≡ old.start → extent_resting new ≡ extent_resting old → IsReady p l code t o →
     IsReady p l' code' t' (Some new)
 ready_again p l l' code code' t t' o old new limits coded tabled is start large h = record {
+  built = subst IsBuilt (sym coded) h.built;
+  tidy = subst Tidy (sym coded) h.tidy;
   codes = subst (Codes p) (sym coded) h.codes;
   tabled = subst (IsOf p) (sym tabled) h.tabled;
   rests = subst (λ (x : Limits). RestsFor p x new) (sym limits) (rests_again p l old new (something p l o old is h.rests) start large);
 }
 
 -- a new machine is ready where what it is made of is
-pub ready_new : (p : CoreProgram) (l : Limits) (code : Code) (t : Tables) (o : Option Resting) (result : Result Machine AllocError) → IfOk result (λ (m : Machine). m.code ≡ code) → IfOk result (λ (m : Machine). m.tables ≡ t) → IfOk result (λ (m : Machine). m.limits ≡ l) → IfOk result (λ (m : Machine). m.resting ≡ o) → IsReady p l code t o →
+pub ready_new : (p : CoreProgram) (l : Limits) (code : Code) (t : Tables) (o : Option Resting) (result : Result Machine AllocError) → IfOk result (λ (m : Machine). m.code ≡ code) → IfOk result (λ (m : Machine). m.tables ≡ t) → IfOk result (λ (m : Machine). m.limits ≡ l) → IfOk result (λ (m : Machine). m.resting ≡ o) → IfOk result (λ (m : Machine). IsBuilt m.code) → Tidy code → Codes p code → IsOf p t → Rests p l o →
     IfOk result (λ (m : Machine). IsReady p m.limits m.code m.tables m.resting)
-ready_new p l code t o (Ok m) coded tabled limits rested h =
-    let rests = subst (IsReady p l code t) (sym rested) h in
-    let tables = subst (λ (x : Tables). IsReady p l code x m.resting) (sym tabled) rests in
-    let codes = subst (λ (x : Code). IsReady p l x m.tables m.resting) (sym coded) tables in
-    subst (λ (x : Limits). IsReady p x m.code m.tables m.resting) (sym limits) codes
-ready_new p l code t o (Err e) coded tabled limits rested h = tt
+ready_new p l code t o (Ok m) coded tabled limits rested built tidy codes is_of rests = record {
+  built = built;
+  tidy = subst Tidy (sym coded) tidy;
+  codes = subst (Codes p) (sym coded) codes;
+  tabled = subst (IsOf p) (sym tabled) is_of;
+  rests = subst (λ (x : Limits). Rests p x m.resting) (sym limits) (subst (Rests p l) (sym rested) rests);
+}
+ready_new p l code t o (Err e) coded tabled limits rested built tidy codes is_of rests = tt
 
 -- an answer means what follows from it
 pub if_answered : (result : Result Outcome Fault) (P Q : Outcome → Type 0) → IfOk result P → ((outcome : Outcome) → P outcome → Q outcome) → IfOk result Q

@@ -15,7 +15,9 @@ use Rattle.dg_meaning.specs.Facts.{kinds_of, kept_size, start_facts}
 use Rattle.dg_lasting.specs.Resting.{RestsFor}
 use Rattle.dg_lasting.specs.declared.resting.Resting.{Resting}
 use Rattle.dg_mid.specs.Codes.{Codes}
+use Rattle.dg_mid.specs.Potential.{Tidy}
 use Rattle.dg_mid.specs.declared.code.Code.{Code}
+use Rattle.dg_machine.specs.Built.{IsBuilt}
 use Rattle.dg_machine.specs.Tables.{IsOf}
 use Rattle.dg_machine.specs.declared.tables.Tables.{Tables}
 
@@ -24,8 +26,10 @@ abbrev pub Rests : CoreProgram → Limits → Option Resting → Type 0
 Rests program limits None = limits.keep < kept_size (kinds_of program) (start_facts program.places)
 Rests program limits (Some resting) = RestsFor program limits resting
 
--- Code, tables and what lasts are those of a program.
+-- Code, tables and what lasts are those of a program, and the code is code that a machine runs.
 pub record IsReady (program : CoreProgram) (limits : Limits) (code : Code) (tables : Tables) (resting : Option Resting) : Type 0 where
+  pub built : IsBuilt code
+  pub tidy : Tidy code
   pub codes : Codes program code
   pub tabled : IsOf program tables
   pub rests : Rests program limits resting

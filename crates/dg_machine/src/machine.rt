@@ -38,8 +38,6 @@ pub struct Machine {
     limits: Limits,
     memory: Memory,
     resting: Option<Resting>,
-    ghost built: { IsBuilt code },
-    ghost tidy: { Tidy code },
     ghost roomy: { Roomy limits memory },
 }
 
@@ -61,7 +59,8 @@ fn line(ending: Ending) -> &'static [u8]
 
 /// Writes the text of a run that ends before its first goal, since more starts kept than may be.
 fn write_keep<K: Sink>(sink: &mut K) -> Result<Outcome, Fault>
-    ensures shows { (p : CoreProgram) → (dice : List ℕ) → (l : TheLimits) → l.keep < kept_size (kinds_of p) (start_facts p.places) → (i : SourceView) →
+    ensures shows { (p : CoreProgram) → (dice : List ℕ) → (l : TheLimits) →
+        l.keep < kept_size (kinds_of p) (start_facts p.places) → (i : SourceView) →
         IfOk result (λ outcome. ForTyped i.left (λ typed. HasShown (game p dice) typed l outcome (left_told i i) (K.view sink.old) (K.view sink.new))) }
     ensures output { IsErrOf result Fault.Write → (p : CoreProgram) → (dice : List ℕ) → (l : TheLimits) →
         l.keep < kept_size (kinds_of p) (start_facts p.places) → (i : SourceView) →
@@ -87,7 +86,7 @@ impl Machine {
         resting: Option<Resting>,
         limits: &Limits,
     ) -> Result<Machine, AllocError>
-        requires tidy { Tidy code }
+        ensures built { IfOk result (λ m. IsBuilt m.code) }
         ensures code { IfOk result (λ m. m.code ≡ code) }
         ensures tables { IfOk result (λ m. m.tables ≡ tables) }
         ensures limits { IfOk result (λ m. m.limits ≡ limits.now) }
@@ -124,6 +123,8 @@ impl Machine {
         source: &mut S,
         sink: &mut K,
     ) -> Result<Outcome, Fault>
+        requires built { IsBuilt self.old.code }
+        requires tidy { Tidy self.old.code }
         requires lasting { (p : CoreProgram) × (dice : List ℕ) × IsOf p self.old.tables × StartsLasting p self.old.limits dice lasting.old }
         ensures shows { IfOk result (λ outcome. (p : CoreProgram) → (dice : List ℕ) → Codes p self.old.code → IsOf p self.old.tables →
             StartsLasting p self.old.limits dice lasting.old → ForTyped (S.view source.old).left (λ typed. HasShown (game p dice) typed

@@ -46,7 +46,15 @@ returns-in_default-clause-output g c is p ready =
 
 pub returns-in_default-clause-ready : goal.returns-in_default-clause-ready
 returns-in_default-clause-ready g c p ready = record {
+  built = ready.built;
+  tidy = ready.tidy;
   codes = ready.codes;
   tabled = ready.tabled;
   rests = subst (Rests p c.args.self.now.limits) (sym (c.in_default.ensures.after ∙ c.in_default.ensures.value)) ready.rests;
 }
+
+pub run_with-result-requires-clause-built : goal.run_with-result-requires-clause-built
+run_with-result-requires-clause-built g c = c.requires.ready.1.built
+
+pub run_with-result-requires-clause-tidy : goal.run_with-result-requires-clause-tidy
+run_with-result-requires-clause-tidy g c = c.requires.ready.1.tidy
