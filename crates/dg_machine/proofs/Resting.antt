@@ -1,13 +1,12 @@
 -- What rests between the runs of a machine.
-use Rattle.std.proofs.Common.{◌≡◌, ◌∙◌, ◌<◌, List, ℕ, Option, Some, None, Result, Ok, Err, IfOk, IfErr, sym, subst}
+use Rattle.std.proofs.Common.{◌≡◌, ◌∙◌, ◌<◌, Option, Some, None, Result, Ok, Err, IfOk, IfErr, sym, subst}
 use Rattle.dg_base.specs.declared.program.CoreProgram.{CoreProgram}
 use Rattle.dg_base.specs.declared.run.Limits.{Limits}
 use Rattle.dg_base.specs.declared.run.Fault.{Fault}
 use Rattle.dg_base.specs.declared.run.Outcome.{Outcome}
 use Rattle.dg_meaning.specs.Facts.{kinds_of, kept_size, start_facts}
-use Rattle.dg_lasting.specs.Lasting.{StartsWorld, LacksAtStart}
+use Rattle.dg_lasting.specs.Lasting.{StartsWorld}
 use Rattle.dg_lasting.specs.Resting.{extent_resting, RestsFor}
-use Rattle.dg_lasting.specs.declared.lack.Lack.{Lack}
 use Rattle.dg_lasting.specs.declared.resting.Resting.{Resting}
 use Rattle.dg_mid.specs.Codes.{Codes}
 use Rattle.dg_mid.specs.Potential.{Tidy}
@@ -16,8 +15,6 @@ use Rattle.dg_machine.specs.Built.{IsBuilt}
 use Rattle.dg_machine.specs.Program.{Rests, IsReady}
 use Rattle.dg_machine.specs.Tables.{IsOf}
 use Rattle.dg_machine.specs.declared.tables.Tables.{Tables}
-use Rattle.dg_machine.specs.declared.machine.Machine.{Machine}
-use Rattle.std.specs.declared.alloc.AllocError.{AllocError}
 
 -- where something lasts, it rests for the program
 pub something : (p : CoreProgram) (l : Limits) (o : Option Resting) (r : Resting) → Some r ≡ o → Rests p l o → RestsFor p l r
@@ -40,18 +37,6 @@ ready_again p l l' code code' t t' o old new limits coded tabled is start large 
   tabled = subst (IsOf p) (sym tabled) h.tabled;
   rests = subst (λ (x : Limits). RestsFor p x new) (sym limits) (rests_again p l old new (something p l o old is h.rests) start large);
 }
-
--- a new machine is ready where what it is made of is
-pub ready_new : (p : CoreProgram) (l : Limits) (code : Code) (t : Tables) (o : Option Resting) (result : Result Machine AllocError) → IfOk result (λ (m : Machine). m.code ≡ code) → IfOk result (λ (m : Machine). m.tables ≡ t) → IfOk result (λ (m : Machine). m.limits ≡ l) → IfOk result (λ (m : Machine). m.resting ≡ o) → IfOk result (λ (m : Machine). IsBuilt m.code) → Tidy code → Codes p code → IsOf p t → Rests p l o →
-    IfOk result (λ (m : Machine). IsReady p m.limits m.code m.tables m.resting)
-ready_new p l code t o (Ok m) coded tabled limits rested built tidy codes is_of rests = record {
-  built = built;
-  tidy = subst Tidy (sym coded) tidy;
-  codes = subst (Codes p) (sym coded) codes;
-  tabled = subst (IsOf p) (sym tabled) is_of;
-  rests = subst (λ (x : Limits). Rests p x m.resting) (sym limits) (subst (Rests p l) (sym rested) rests);
-}
-ready_new p l code t o (Err e) coded tabled limits rested built tidy codes is_of rests = tt
 
 -- an answer means what follows from it
 pub if_answered : (result : Result Outcome Fault) (P Q : Outcome → Type 0) → IfOk result P → ((outcome : Outcome) → P outcome → Q outcome) → IfOk result Q

@@ -3,8 +3,8 @@ use Rattle.dg_machine.specs.Program.{Rests}
 use Rattle.dg_machine.proofs.Resting.{something, nothing, ready_again, if_answered, for_each_program}
 use Rattle.dg_machine.proofs.machine.Machine.run.Goals as goal
 
-pub begin-requires-clause-may : goal.begin-requires-clause-may
-begin-requires-clause-may g c =
+pub begin-lasting-requires-clause-may : goal.begin-lasting-requires-clause-may
+begin-lasting-requires-clause-may g c =
     let some = c.requires.ready in
     let l = c.args.self.now.limits in
     (some.0, l, something some.0 l _ c.in-Some.resting c.in-Some.ensures.value some.1.rests)
@@ -13,28 +13,28 @@ pub run_with-result-requires-clause-lasting : goal.run_with-result-requires-clau
 run_with-result-requires-clause-lasting g c =
     let some = c.requires.ready in
     let l = c.args.self.now.limits in
-    (some.0, c.args.dice.now, some.1.tabled, c.begin.ensures.starts some.0 l (something some.0 l _ c.in-Some.resting c.in-Some.ensures.value some.1.rests))
+    (some.0, c.args.dice.now, some.1.tabled, c.begin-lasting.ensures.starts some.0 l (something some.0 l _ c.in-Some.resting c.in-Some.ensures.value some.1.rests))
 
 pub returns-clause-shows : goal.returns-clause-shows
 returns-clause-shows g c =
     let l = c.args.self.now.limits in
     if_answered c.run_with-result.result _ _ c.run_with-result.ensures.shows
-    (λ outcome shown p ready. shown p c.args.dice.now ready.codes ready.tabled (c.begin.ensures.starts p l (something p l _ c.in-Some.resting c.in-Some.ensures.value ready.rests)))
+    (λ outcome shown p ready. shown p c.args.dice.now ready.codes ready.tabled (c.begin-lasting.ensures.starts p l (something p l _ c.in-Some.resting c.in-Some.ensures.value ready.rests)))
 
 pub returns-clause-input : goal.returns-clause-input
 returns-clause-input g c is p ready =
     let l = c.args.self.now.limits in
-    c.run_with-result.ensures.input is p c.args.dice.now ready.codes ready.tabled (c.begin.ensures.starts p l (something p l _ c.in-Some.resting c.in-Some.ensures.value ready.rests))
+    c.run_with-result.ensures.input is p c.args.dice.now ready.codes ready.tabled (c.begin-lasting.ensures.starts p l (something p l _ c.in-Some.resting c.in-Some.ensures.value ready.rests))
 
 pub returns-clause-output : goal.returns-clause-output
 returns-clause-output g c is p ready =
     let l = c.args.self.now.limits in
-    c.run_with-result.ensures.output is p c.args.dice.now ready.codes ready.tabled (c.begin.ensures.starts p l (something p l _ c.in-Some.resting c.in-Some.ensures.value ready.rests))
+    c.run_with-result.ensures.output is p c.args.dice.now ready.codes ready.tabled (c.begin-lasting.ensures.starts p l (something p l _ c.in-Some.resting c.in-Some.ensures.value ready.rests))
 
 pub returns-clause-ready : goal.returns-clause-ready
 returns-clause-ready g c p ready =
     ready_again p _ _ _ _ _ _ _ c.in-Some.resting c.rest.result c.run_with-result.ensures.limits c.run_with-result.ensures.code c.run_with-result.ensures.tables c.in-Some.ensures.value
-    (c.rest.ensures.start ∙ c.begin.ensures.start) (c.rest.ensures.extent ∙ c.run_with-result.ensures.extent ∙ c.begin.ensures.extent) ready
+    (c.rest.ensures.start ∙ c.begin-lasting.ensures.start) (c.rest.ensures.extent ∙ c.run_with-result.ensures.extent ∙ c.begin-lasting.ensures.extent) ready
 
 pub returns-in_default-clause-shows : goal.returns-in_default-clause-shows
 returns-in_default-clause-shows g c =
