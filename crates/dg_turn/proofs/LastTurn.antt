@@ -111,11 +111,11 @@ module _ (t : Telling) {outer : ℕ → ℕ} (has : HasRunTime t.p) (f w : ℕ) 
         runs = subst (λ (x : ℕ). ActsRun t.p f w TAIL_CALL_ACTS TAIL_CALL_ACTS (state memory (end ∷ 0 ∷ []) typed drawn output) (Returns x) (state k.memory' k.locals' typed drawn output) k.count) end_is k.runs;
       }
 
-  tailed : At fr.many
+  pub tailed : At fr.many
   tailed = by_many fr.many refl
 
 -- without a frame it is as where one answer is wanted
-tailed_alone : (t : Telling) {outer : ℕ → ℕ} → HasRunTime t.p → (f w : ℕ) (typed output : List ℕ) (drawn : ℕ) (sh : Shape) (memory : List ℕ) (c : ℕ → ℕ) (trail : List ℕ) (m : Mid) → Holds t.p.world.layout memory c → MidIn t outer sh c trail m → m.frames ≡ [] → (end : ℕ) → end ≡ t.at_block 0 → end < 65536 →
+pub tailed_alone : (t : Telling) {outer : ℕ → ℕ} → HasRunTime t.p → (f w : ℕ) (typed output : List ℕ) (drawn : ℕ) (sh : Shape) (memory : List ℕ) (c : ℕ → ℕ) (trail : List ℕ) (m : Mid) → Holds t.p.world.layout memory c → MidIn t outer sh c trail m → m.frames ≡ [] → (end : ℕ) → end ≡ t.at_block 0 → end < 65536 →
     Tailed t outer f w memory typed output drawn sh c trail (record m { inner = [] }) end (t.at_block 0)
 tailed_alone t has f w typed output drawn sh memory c trail m holds mid none end end_is small =
     let empty : c 4 ≡ 0 = subst (FramesIn t sh m.stops (c 4)) none mid.frames in
@@ -136,7 +136,7 @@ tailed_alone t has f w typed output drawn sh memory c trail m holds mid none end
     }
 
 -- the state of the store stays
-same_state : (b : Bool) (f : Frame) (fs : List Frame) (m : Mid) → (left_at b f fs m).state ≡ m.state
+pub same_state : (b : Bool) (f : Frame) (fs : List Frame) (m : Mid) → (left_at b f fs m).state ≡ m.state
 same_state true f fs m = refl
 same_state false f fs m = refl
 

@@ -39,5 +39,10 @@ pub mod LastTurn
 pub mod Between
 pub mod ShieldTurn
 pub mod StopTurn
+pub mod Captures
+pub mod QueryTurn
+pub mod LastQueryTurn
+pub mod FindTurn
+pub mod BodyTurn
 pub mod Begun
 pub mod Paid

@@ -1,20 +1,27 @@
 -- What the turns cost is paid for.
-use Rattle.std.proofs.Common.{◌≡◌, ℕ, ◌+◌, ◌*◌, ◌≤◌, Bool, List, [], ◌∷◌, length, Option, Some, None, refl, ap, arith}
+use Rattle.std.proofs.Common.{◌≡◌, ℕ, ◌+◌, ◌*◌, ◌≤◌, Bool, List, [], ◌∷◌, ◌++◌, length, map, Option, Some, None, refl, ap, arith}
 use Rattle.dg_base.specs.declared.program.CoreProgram.{CoreProgram}
+use Rattle.std.specs.List.{zip}
 use Rattle.dg_base.specs.declared.program.Term.{Term, out-Term}
+use Rattle.dg_base.specs.Goals.{option_terms}
 use Rattle.dg_base.specs.declared.program.Term.TheOpen as term
 use Rattle.dg_meaning.specs.Cells.{nodes_of}
+use Rattle.dg_meaning.specs.Moves.{new_vars}
+use Rattle.dg_meaning.specs.Values.{Value, value_of}
 use Rattle.dg_meaning.specs.World.{Print}
 use Rattle.dg_mid.specs.declared.code.Action.TheVariants as action
+use Rattle.dg_mid.specs.declared.code.BodyCode.{BodyCode}
 use Rattle.dg_mid.specs.declared.code.Op.{Op}
 use Rattle.dg_mid.specs.declared.code.Op.TheVariants as op
 use Rattle.dg_mid.specs.declared.code.RuleCode.{RuleCode}
-use Rattle.dg_mid.specs.State.{Place, Frame, Stop, Call, Calls, Mid, cut_of, stop_to, Enters, Runs, Resumes, Fails}
-use Rattle.dg_mid.specs.Step.{Setting, more}
-use Rattle.dg_mid.specs.Units.{units_of, selects_at, entering, dropped_in, dropped, dropped_once, undone, unwound, unwound_to}
+use Rattle.dg_mid.specs.State.{Place, Frame, Stop, Call, Target, ToBody, Calls, Mid, cut_of, stop_to, Enters, Runs, Resumes, Fails}
+use Rattle.dg_mid.specs.Step.{Setting, more, values, parameter, asked_by}
+use Rattle.dg_mid.specs.Units.{units_of, query_work, selects_at, entering, dropped_in, dropped, dropped_once, undone, unwound, unwound_to}
 use Rattle.dg_turn.specs.Terms.{IsNode, AreNodes, capturing, all_capturing}
 use Rattle.dg_turn.specs.Turns.{entering_most, equal_most}
+use Rattle.dg_rt.specs.Unifies.{price}
 use Rattle.dg_turn.specs.Queries.{asking_most}
+use Rattle.dg_turn.specs.Bodies.{querying_most, body_most}
 use Rattle.dg_turn.specs.Paid.{paid, TurnsArePaid}
 
 -- a node costs less than 600 beside the others
@@ -84,6 +91,24 @@ stop_is_paid g ps m ops e = let k = ap (λ (l : List Op). units_of g ps l m) e i
 just_is_paid : (g : Setting) (ps : List Print) (m : Mid) (f : Frame) (fs : List Frame) (ops : List Op) → m.ops ≡ op.Do action.Just ∷ ops → m.frames ≡ f ∷ fs → 4 * dropped f.cut m.choices + 10 ≤ paid g ps (Runs m)
 just_is_paid g ps m f fs ops e i = let k = ap (λ (l : List Op). units_of g ps l m) e in let d = ap (λ (l : List Frame). dropped (cut_of l) m.choices) i in omega arith
 
+query_is_paid : (g : Setting) (ps : List Print) (m : Mid) (a : Term) (b : Option Term) (many : Bool) (next : ℕ) (ops : List Op) (c : BodyCode) (captured : List Value) (call : Call) (depth : ℕ) → m.ops ≡ op.Query a b many next ∷ ops → asked_by g a m ≡ Some (ToBody c captured) → call.args ≡ values g m (option_terms b) →
+    AreNodes g.game.program (nodes_of (a ∷ option_terms b)) → c.own ≤ 300 → depth ≤ 14 → querying_most g.game.program a b m + 4 * depth + body_most g.game.program captured c.own call m ≤ paid g ps (Runs m)
+query_is_paid g ps m a b many next ops c captured call depth e asked args nodes own few =
+    let k = ap (λ (l : List Op). units_of g ps l m) e in
+    let q = ap (λ (o : Option Target). query_work g o (values g m (option_terms b)) m.state.subst m.state.vars) asked in
+    let p = ap (λ (xs : List Value). price m.state.subst (zip xs (map (value_of g.game.program (captured ++ new_vars c.own m.state.vars)) (parameter captured xs)))) args in
+    let n = all_few g.game.program (nodes_of (a ∷ option_terms b)) nodes in
+    omega arith
+
+last_query_is_paid : (g : Setting) (ps : List Print) (m : Mid) (a : Term) (b : Option Term) (many : Bool) (ops : List Op) (c : BodyCode) (captured : List Value) (call : Call) (depth : ℕ) → m.ops ≡ op.LastQuery a b many ∷ ops → asked_by g a m ≡ Some (ToBody c captured) → call.args ≡ values g m (option_terms b) →
+    AreNodes g.game.program (nodes_of (a ∷ option_terms b)) → c.own ≤ 300 → depth ≤ 14 → querying_most g.game.program a b m + 4 * depth + body_most g.game.program captured c.own call m ≤ paid g ps (Runs m)
+last_query_is_paid g ps m a b many ops c captured call depth e asked args nodes own few =
+    let k = ap (λ (l : List Op). units_of g ps l m) e in
+    let q = ap (λ (o : Option Target). query_work g o (values g m (option_terms b)) m.state.subst m.state.vars) asked in
+    let p = ap (λ (xs : List Value). price m.state.subst (zip xs (map (value_of g.game.program (captured ++ new_vars c.own m.state.vars)) (parameter captured xs)))) args in
+    let n = all_few g.game.program (nodes_of (a ∷ option_terms b)) nodes in
+    omega arith
+
 pub turns_are_paid : TurnsArePaid
 turns_are_paid = record {
   enter = λ g ps call m vars head ops e nodes few short. enter_is_paid g ps call m vars head ops e nodes few short;
@@ -102,4 +127,6 @@ turns_are_paid = record {
   refuse = λ g ps m place places ops e i. refuse_is_paid g ps m place places ops e i;
   stop = λ g ps m ops e. stop_is_paid g ps m ops e;
   just = λ g ps m f fs ops e i. just_is_paid g ps m f fs ops e i;
+  query = λ g ps m a b many next ops c captured call depth e asked args nodes own few. query_is_paid g ps m a b many next ops c captured call depth e asked args nodes own few;
+  last_query = λ g ps m a b many ops c captured call depth e asked args nodes own few. last_query_is_paid g ps m a b many ops c captured call depth e asked args nodes own few;
 }

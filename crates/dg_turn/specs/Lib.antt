@@ -10,4 +10,5 @@ pub mod Choices
 pub mod Leaving
 pub mod LastQueries
 pub mod Stopping
+pub mod Bodies
 pub mod Paid

@@ -1,19 +1,23 @@
 -- What the turns cost is within what code is paid for: 800 instructions a unit, and 9,000 where rules are looked at. Hold it against
 -- dg_mid/specs/Units.antt.
-use Rattle.std.specs.Prelude.{◌≡◌, ℕ, ◌+◌, ◌*◌, ◌≤◌, List, [], ◌∷◌, length, Bool}
+use Rattle.std.specs.Prelude.{◌≡◌, ℕ, ◌+◌, ◌*◌, ◌≤◌, List, [], ◌∷◌, length, Option, Some, Bool}
 use Rattle.dg_base.specs.declared.program.Term.{Term}
+use Rattle.dg_base.specs.Goals.{option_terms}
+use Rattle.dg_meaning.specs.Values.{Value}
 use Rattle.dg_meaning.specs.World.{Print}
 use Rattle.dg_meaning.specs.Cells.{nodes_of}
 use Rattle.dg_mid.specs.declared.code.Action.TheVariants as action
+use Rattle.dg_mid.specs.declared.code.BodyCode.{BodyCode}
 use Rattle.dg_mid.specs.declared.code.Op.{Op}
 use Rattle.dg_mid.specs.declared.code.Op.TheVariants as op
 use Rattle.dg_mid.specs.declared.code.RuleCode.{RuleCode}
-use Rattle.dg_mid.specs.State.{Place, Frame, Call, Calls, Mid, Status, Runs, Enters, Resumes, Fails}
-use Rattle.dg_mid.specs.Step.{Setting}
+use Rattle.dg_mid.specs.State.{Place, Frame, Call, ToBody, Calls, Mid, Status, Runs, Enters, Resumes, Fails}
+use Rattle.dg_mid.specs.Step.{Setting, values, asked_by}
 use Rattle.dg_mid.specs.Units.{units, selects, dropped, dropped_once, undone, unwound}
 use Rattle.dg_turn.specs.Terms.{AreNodes}
 use Rattle.dg_turn.specs.Turns.{entering_most, equal_most}
 use Rattle.dg_turn.specs.Queries.{asking_most}
+use Rattle.dg_turn.specs.Bodies.{querying_most, body_most}
 
 -- What a step may cost.
 abbrev pub paid : Setting → List Print → Status → ℕ
@@ -53,3 +57,11 @@ pub record TurnsArePaid : Type 0 where
       3 + (6 * unwound m.stop m + 20) ≤ paid g ps (Runs m)
   pub just : (g : Setting) (ps : List Print) (m : Mid) (f : Frame) (fs : List Frame) (ops : List Op) → m.ops ≡ op.Do action.Just ∷ ops →
       m.frames ≡ f ∷ fs → 4 * dropped f.cut m.choices + 10 ≤ paid g ps (Runs m)
+  pub query : (g : Setting) (ps : List Print) (m : Mid) (a : Term) (b : Option Term) (many : Bool) (next : ℕ) (ops : List Op) (c : BodyCode)
+      (captured : List Value) (call : Call) (depth : ℕ) → m.ops ≡ op.Query a b many next ∷ ops → asked_by g a m ≡ Some (ToBody c captured) →
+      call.args ≡ values g m (option_terms b) → AreNodes g.game.program (nodes_of (a ∷ option_terms b)) → c.own ≤ 300 → depth ≤ 14 →
+      querying_most g.game.program a b m + 4 * depth + body_most g.game.program captured c.own call m ≤ paid g ps (Runs m)
+  pub last_query : (g : Setting) (ps : List Print) (m : Mid) (a : Term) (b : Option Term) (many : Bool) (ops : List Op) (c : BodyCode)
+      (captured : List Value) (call : Call) (depth : ℕ) → m.ops ≡ op.LastQuery a b many ∷ ops → asked_by g a m ≡ Some (ToBody c captured) →
+      call.args ≡ values g m (option_terms b) → AreNodes g.game.program (nodes_of (a ∷ option_terms b)) → c.own ≤ 300 → depth ≤ 14 →
+      querying_most g.game.program a b m + 4 * depth + body_most g.game.program captured c.own call m ≤ paid g ps (Runs m)

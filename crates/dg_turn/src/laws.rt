@@ -1,4 +1,5 @@
 // What the code of a story does to its memory: each function's clause is a law.
+ghost use Rattle.dg_turn.specs.Bodies.{BodyTurns, FindTurns, LastQueryTurns, QueryTurns};
 ghost use Rattle.dg_turn.specs.Choices.{BackTurns, BranchTurns, OnceTurns};
 ghost use Rattle.dg_turn.specs.LastQueries.{LastTurns};
 ghost use Rattle.dg_turn.specs.Leaving.{JustTurns, ReturnTurns};
@@ -77,6 +78,26 @@ pub fn last_turns()
 /// A whole query is asked and begun.
 pub fn ask_begins()
     ensures { AskBegins }
+{}
+
+/// Asking a closure is a turn.
+pub fn query_turns()
+    ensures { QueryTurns }
+{}
+
+/// Asking a closure last in a rule is a turn.
+pub fn last_query_turns()
+    ensures { LastQueryTurns }
+{}
+
+/// The body of a closure is found by its key.
+pub fn find_turns()
+    ensures { FindTurns }
+{}
+
+/// Entering the body of a closure is a turn.
+pub fn body_turns()
+    ensures { BodyTurns }
 {}
 
 /// Going back to further rules is a turn.
