@@ -1,12 +1,12 @@
 -- What undoing gives back of an older choice is given back from what it gives of a newer stoppable part.
-use Rattle.std.proofs.Common.{◌≡◌, ◌≢◌, ℕ, suc, ◌+◌, ◌<◌, ◌≤◌, inl, inr, List, [], ◌∷◌, length, Some, None, refl, sym, ap, ◌∙◌, subst, arith}
+use Rattle.std.proofs.Common.{◌≡◌, ◌≢◌, ℕ, suc, ◌+◌, ◌<◌, ◌≤◌, inl, inr, List, [], ◌∷◌, length, Some, refl, sym, ap, ◌∙◌, subst, arith}
 use Rattle.std.proofs.lemmas.Bool.{cases_lt}
 use Rattle.dg_mid.specs.State.{Choice}
 use Rattle.dg_rt.proofs.Backs.{back_between}
 use Rattle.dg_rt.specs.Back.{Saved, Grown, GivesBack}
 use Rattle.dg_rt.specs.Shapes.{Shape, IsShape, IsFixed, Cell}
 use Rattle.dg_turn.proofs.Resting.{length_open, open_in}
-use Rattle.dg_turn.specs.Lies.{CellsAre, StateIn, BoxesStay, StopsIn, EndsBefore, ChoicesIn}
+use Rattle.dg_turn.specs.Lies.{CellsAre, BoxesStay, StopsIn, EndsBefore, ChoicesIn}
 use Rattle.dg_turn.specs.Rest.{newest, open_to}
 use Rattle.dg_turn.specs.Told.{Telling}
 

@@ -1,21 +1,19 @@
 -- The body of a closure is entered: one turn of the story.
-use Rattle.std.proofs.Common.{◌≡◌, ◌≢◌, ℕ, suc, ◌+◌, ◌-◌, ◌*◌, ◌<◌, ◌≤◌, true, false, List, [], ◌∷◌, ◌++◌, length, map, get_or, Some, None, refl, sym, ap, ◌∙◌, subst, arith}
-use Rattle.std.specs.Prelude.{◌==◌}
+use Rattle.std.proofs.Common.{◌≡◌, ◌≢◌, ℕ, suc, ◌+◌, ◌-◌, ◌<◌, ◌≤◌, true, false, List, [], ◌∷◌, ◌++◌, length, map, get_or, Some, None, refl, sym, ap, ◌∙◌, subst, arith}
 use Rattle.std.specs.List.{zip, slice_get}
-use Rattle.std.proofs.lemmas.Bool.{eq-eqb, ne_eqb}
+use Rattle.std.proofs.lemmas.Bool.{eq-eqb}
 use Rattle.dg_base.specs.declared.program.CoreProgram.{CoreProgram}
-use Rattle.dg_base.specs.declared.program.Term.{Term, out-Term}
+use Rattle.dg_base.specs.declared.program.Term.{out-Term}
 use Rattle.dg_base.specs.declared.program.Term.TheVariants.{Var as Var-Term}
 use Rattle.dg_base.specs.declared.run.Ending.TheVariants.{HeapLimit, TrailLimit}
 use Rattle.dg_meaning.specs.Cells.{captured_count}
 use Rattle.dg_meaning.specs.Copies.{values_of}
 use Rattle.dg_meaning.specs.Moves.{new_vars}
 use Rattle.dg_meaning.specs.Unify.{Unified, solve}
-use Rattle.dg_meaning.specs.ValueCells.{count_of}
 use Rattle.dg_meaning.specs.Values.{Closure, Nil, Value, Node, Values, leaf, value_of, value_of_var}
 use Rattle.dg_mid.specs.declared.code.BodyCode.{BodyCode}
-use Rattle.dg_mid.specs.State.{Call, Mid, vars_of}
-use Rattle.dg_mid.specs.Step.{bound, trail_more, parameter, body_frame}
+use Rattle.dg_mid.specs.State.{Call, Mid}
+use Rattle.dg_mid.specs.Step.{bound, trail_more, parameter}
 use Rattle.z_model.specs.declared.end.Halt.TheVariants.{AtQuit}
 use Rattle.z_model.specs.Run.{ZState}
 use Rattle.z_lang.specs.declared.act.Act.{Act}
@@ -30,11 +28,11 @@ use Rattle.z_lang.specs.Runs.{ActsRun, ActsOutcome, Returns, Stops, taken, passe
 use Rattle.dg_rt.specs.declared.numbers.TheConstants.{VAR, BODY}
 use Rattle.dg_rt.specs.inside.Walks.{steps}
 use Rattle.dg_rt.specs.Cells.{with_cell, replaced, Holds, bit}
-use Rattle.dg_rt.specs.Areas.{heap_at, trail_at, state}
+use Rattle.dg_rt.specs.Areas.{trail_at, state}
 use Rattle.dg_rt.specs.Back.{at_place}
-use Rattle.dg_rt.specs.Frames.{Captured, Finds}
+use Rattle.dg_rt.specs.Frames.{Captured}
 use Rattle.dg_rt.specs.Queries.{EntersBody}
-use Rattle.dg_rt.specs.Shapes.{Shape, Shows}
+use Rattle.dg_rt.specs.Shapes.{Shows}
 use Rattle.dg_rt.specs.Unifies.{price}
 use Rattle.dg_rt.specs.Closings.{closing, closing_most}
 use Rattle.dg_rt.proofs.Bodies.{body_works}
@@ -47,7 +45,7 @@ use Rattle.dg_turn.specs.Told.{Telling}
 use Rattle.dg_turn.specs.Lies.{MidIn}
 use Rattle.dg_turn.specs.Plays.{Playing, Outside, Represented, Comes, Closes}
 use Rattle.dg_turn.specs.Turns.{agreed_next, match_acts, last_acts}
-use Rattle.dg_turn.specs.Bodies.{FindsAt, body_routine, BodyAt, parameter_equations, body_unified, entered_body, body_most, BodyTurns}
+use Rattle.dg_turn.specs.Bodies.{FindsAt, body_routine, BodyAt, entered_body, body_most, BodyTurns}
 use Rattle.dg_turn.proofs.Standing.{body_at, var_at}
 use Rattle.dg_turn.proofs.Captures.{captured_by, captured_few}
 use Rattle.dg_turn.proofs.Ends.{next_small, concludes}

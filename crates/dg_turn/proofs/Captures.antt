@@ -1,8 +1,8 @@
 -- The box of a closure has what it has captured in a row.
-use Rattle.std.proofs.Common.{◌≡◌, ℕ, suc, ◌+◌, ◌<◌, ◌≤◌, List, length, refl, sym, ap, ◌∙◌, subst, arith}
+use Rattle.std.proofs.Common.{◌≡◌, ℕ, suc, ◌+◌, ◌<◌, ◌≤◌, length, refl, sym, ◌∙◌, subst, arith}
 use Rattle.dg_meaning.specs.Copies.{values_of}
 use Rattle.dg_meaning.specs.ValueCells.{count_of}
-use Rattle.dg_meaning.specs.Values.{Closure, Value, Node, Values, NoMore, More}
+use Rattle.dg_meaning.specs.Values.{Closure, Node, Values, NoMore, More}
 use Rattle.dg_rt.specs.Frames.{InCells, ClosureIn, Captured}
 use Rattle.dg_rt.specs.Shapes.{Shape, Cell, Shows, boxed, closure_in, AllShow, no_more, one_more}
 

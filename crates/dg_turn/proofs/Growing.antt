@@ -1,5 +1,5 @@
 -- What stands for frames, inner constructs and choices stands for them in a grown shape.
-use Rattle.std.proofs.Common.{◌≡◌, ℕ, zero, suc, ◌+◌, ◌<◌, ◌≤◌, Bool, true, false, List, [], ◌∷◌, ◌++◌, length, Option, Some, None, sym, ap, ◌∙◌, subst, arith}
+use Rattle.std.proofs.Common.{◌≡◌, ℕ, zero, suc, ◌+◌, ◌<◌, ◌≤◌, Bool, true, false, List, [], ◌∷◌, length, Option, Some, None, sym, ap, ◌∙◌, subst, arith}
 use Rattle.std.specs.Prelude.{nat_lt, if◌then◌else◌}
 use Rattle.dg_meaning.specs.Substitutions.{Substitution}
 use Rattle.dg_meaning.specs.Values.{Value}
@@ -10,7 +10,7 @@ use Rattle.dg_rt.specs.Areas.{heap_at}
 use Rattle.dg_rt.specs.Back.{Saved, Grown, GivesBack}
 use Rattle.dg_rt.specs.Frames.{InRow, InCells, Captured}
 use Rattle.dg_rt.specs.Shapes.{Shape, Shows, Stands}
-use Rattle.dg_turn.specs.Lies.{NamesStop, StopNamed, GathersIn, InnersIn, FramesIn, CellsAre, BoxesStay, StopsIn, StopsUnder, ChoicesIn, NewestUnder, EndsBefore, AreApart}
+use Rattle.dg_turn.specs.Lies.{StopNamed, GathersIn, InnersIn, FramesIn, CellsAre, BoxesStay, StopsIn, StopsUnder, ChoicesIn, NewestUnder, EndsBefore, AreApart}
 use Rattle.dg_turn.specs.Rest.{newest, open_to}
 use Rattle.dg_turn.specs.Told.{Telling}
 use Rattle.dg_turn.proofs.Resting.{length_open, open_in}

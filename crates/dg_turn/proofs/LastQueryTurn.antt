@@ -1,10 +1,10 @@
 -- The last query of a rule, where it is one of a closure: one turn of the story.
-use Rattle.std.proofs.Common.{◌≡◌, ◌≢◌, ℕ, suc, ◌+◌, ◌<◌, ◌≤◌, Bool, List, [], ◌∷◌, ◌++◌, Option, Some, refl, ap, ◌∙◌, subst, arith}
+use Rattle.std.proofs.Common.{◌≡◌, ℕ, suc, Bool, List, [], ◌∷◌, Option, Some, refl, ap, ◌∙◌, subst, arith}
 use Rattle.dg_base.specs.declared.program.Term.{Term}
 use Rattle.dg_base.specs.Goals.{option_terms}
 use Rattle.dg_meaning.specs.Cells.{cells as cells_of}
 use Rattle.dg_unify.specs.Store.{State as State'}
-use Rattle.dg_mid.specs.State.{Frame, Mid}
+use Rattle.dg_mid.specs.State.{Mid}
 use Rattle.dg_mid.specs.Step.{more}
 use Rattle.z_model.specs.Run.{ZState}
 use Rattle.z_lang.specs.declared.act.Act.{Act}
@@ -13,13 +13,13 @@ use Rattle.z_lang.specs.declared.act.Args.TheVariants as args
 use Rattle.z_lang.specs.declared.act.Atom.TheVariants as atoms
 use Rattle.z_lang.specs.Runs.{calls, left_with}
 use Rattle.dg_rt.specs.declared.numbers.TheConstants.{TAIL_CALL}
-use Rattle.dg_rt.specs.Cells.{with_cell, replaced, Holds}
+use Rattle.dg_rt.specs.Cells.{with_cell, replaced}
 use Rattle.dg_rt.specs.Areas.{state}
 use Rattle.dg_rt.specs.Shapes.{Shape}
 use Rattle.dg_rt.proofs.Cells.{other_cell, same_cell}
 use Rattle.dg_rt.proofs.Following.{puts}
 use Rattle.dg_turn.specs.Told.{Telling}
-use Rattle.dg_turn.specs.Lies.{FramesIn, MidIn}
+use Rattle.dg_turn.specs.Lies.{FramesIn}
 use Rattle.dg_turn.specs.Plays.{Playing, Outside, Represented}
 use Rattle.dg_turn.specs.LastQueries.{left_at, next_of}
 use Rattle.dg_turn.specs.Bodies.{last_query_routine, LastQueryTurns}

@@ -22,7 +22,7 @@ use Rattle.dg_rt.specs.Rules.{KeyIs}
 use Rattle.dg_rt.specs.RunTime.{routine_of}
 use Rattle.dg_rt.specs.Closings.{closing_most}
 use Rattle.dg_rt.proofs.Cells.{other_cell, same_cell}
-use Rattle.dg_rt.proofs.Following.{word as word_is, copies, register, puts}
+use Rattle.dg_rt.proofs.Following.{copies, register, puts}
 use Rattle.dg_rt.proofs.Keying.{key_works}
 use Rattle.dg_rt.proofs.Showing.{word_small}
 use Rattle.dg_rt.proofs.Standing.{walk_at, key_of_at}

@@ -1,12 +1,12 @@
 -- What is gathered and what is outside stays, and going back leaves the oldest gatherings.
-use Rattle.std.proofs.Common.{◌≡◌, ◌≢◌, ℕ, zero, suc, ◌+◌, ◌-◌, ◌<◌, ◌≤◌, List, [], ◌∷◌, ◌++◌, length, drop, refl, sym, ap, ◌∙◌, subst, arith}
+use Rattle.std.proofs.Common.{◌≡◌, ◌≢◌, ℕ, zero, suc, ◌+◌, ◌-◌, ◌<◌, ◌≤◌, List, [], ◌∷◌, length, drop, refl, sym, ap, ◌∙◌, arith}
 use Rattle.std.proofs.Math.Seq.{drop-nil}
 use Rattle.std.proofs.lemmas.List.{length-drop}
 use Rattle.dg_meaning.specs.World.{Gathering, gathered_size}
 use Rattle.dg_mid.specs.Step.{gathered_to}
 use Rattle.dg_rt.specs.Copies.{Row}
 use Rattle.dg_turn.specs.Told.{Telling}
-use Rattle.dg_turn.specs.Rest.{aux_at, gather_words, newest, open_to, rows_of, GatheringIn, GatheringsIn, RestIn}
+use Rattle.dg_turn.specs.Rest.{aux_at, gather_words, newest, open_to, rows_of, GatheringsIn, RestIn}
 
 -- ## The oldest, so many
 

@@ -1,5 +1,5 @@
 -- A stoppable part is begun: one turn of the story.
-use Rattle.std.proofs.Common.{◌≡◌, ◌≢◌, ℕ, suc, ◌+◌, ◌<◌, ◌≤◌, List, [], ◌∷◌, length, Option, Some, refl, sym, ap, ◌∙◌, subst, arith}
+use Rattle.std.proofs.Common.{◌≡◌, ℕ, suc, ◌+◌, ◌<◌, ◌≤◌, List, [], ◌∷◌, length, Some, refl, sym, ap, ◌∙◌, subst, arith}
 use Rattle.dg_base.specs.declared.run.Ending.TheVariants.{HeapLimit}
 use Rattle.dg_mid.specs.State.{Goes, Stop, Mid, place_of}
 use Rattle.dg_mid.specs.Step.{inside, new_stop, shielded}
@@ -16,8 +16,8 @@ use Rattle.dg_rt.proofs.Cells.{other_cell, same_cell}
 use Rattle.dg_rt.proofs.Following.{word as word_is, copies, register, puts}
 use Rattle.dg_rt.proofs.Opening.{open_works}
 use Rattle.dg_turn.specs.Told.{Telling}
-use Rattle.dg_turn.specs.Lies.{StopNamed, FramesIn, InnersIn, StopIn, StopsIn, AreApart, EndsBefore, MidIn}
-use Rattle.dg_turn.specs.Rest.{gather_words, open_to}
+use Rattle.dg_turn.specs.Lies.{StopNamed, FramesIn, InnersIn, StopsIn, EndsBefore, MidIn}
+use Rattle.dg_turn.specs.Rest.{gather_words}
 use Rattle.dg_turn.specs.Plays.{Playing, Outside, Represented, Comes, Closes}
 use Rattle.dg_turn.specs.Choices.{OpensAt}
 use Rattle.dg_turn.specs.Stopping.{shield_routine, ShieldTurns}

@@ -1,7 +1,7 @@
 -- A machine stands in memory whose registers have changed.
 use Rattle.std.proofs.Common.{◌≡◌, ◌≢◌, ℕ, ◌+◌, ◌<◌, ◌≤◌, List, Option, sym, ◌∙◌, subst, arith}
 use Rattle.dg_mid.specs.declared.code.Op.{Op}
-use Rattle.dg_mid.specs.State.{Place, Frame, Stop, Lasting, Mid}
+use Rattle.dg_mid.specs.State.{Place, Frame, Lasting, Mid}
 use Rattle.dg_rt.specs.Areas.{heap_at, trail_at}
 use Rattle.dg_rt.specs.Shapes.{Shape}
 use Rattle.dg_rt.proofs.Backs.{grown_none, back_grown, trail_stays}

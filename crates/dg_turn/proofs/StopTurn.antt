@@ -1,16 +1,16 @@
 -- A stoppable part is stopped, or without one the run: one turn of the story.
-use Rattle.std.proofs.Common.{◌≡◌, ◌≢◌, ℕ, suc, ◌+◌, ◌-◌, ◌*◌, ◌<◌, ◌≤◌, Bool, true, false, inl, inr, List, [], ◌∷◌, ◌++◌, length, Option, Some, None, refl, sym, ap, ◌∙◌, subst, arith, length-append}
-use Rattle.std.specs.Prelude.{nat_lt, eqb, if◌then◌else◌}
+use Rattle.std.proofs.Common.{◌≡◌, ℕ, suc, ◌+◌, ◌-◌, ◌*◌, ◌<◌, ◌≤◌, inl, inr, List, [], ◌∷◌, ◌++◌, length, Option, Some, None, refl, sym, ap, ◌∙◌, subst, arith, length-append}
+use Rattle.std.specs.Prelude.{nat_lt, eqb}
 use Rattle.std.proofs.lemmas.Bool.{eq-eqb, ne_eqb, lt-ltb, le-ltb, cond-true, cond-false, cases_lt}
 use Rattle.dg_base.specs.declared.run.Ending.TheVariants.{Done, Stopped}
 use Rattle.dg_mid.specs.Code.{block_at}
-use Rattle.dg_mid.specs.State.{Place, Stop, Choice, Mid, Runs, cut_choices, stop_to}
+use Rattle.dg_mid.specs.State.{Place, Stop, Choice, Mid, cut_choices, stop_to}
 use Rattle.dg_mid.specs.Step.{Setting, gathered_to, stopped}
 use Rattle.dg_mid.specs.Units.{dropped, unwound, unwound_to}
-use Rattle.dg_mid.specs.Heights.{AgreeAll, StopsNamed, ChoicesNamed, MidOrdered, StatusOrdered}
-use Rattle.dg_mid.specs.Trails.{TrailsAgreeAll, StopsTrailed, MidTrailed, StatusTrailed}
+use Rattle.dg_mid.specs.Heights.{AgreeAll, StopsNamed, ChoicesNamed, MidOrdered}
+use Rattle.dg_mid.specs.Trails.{TrailsAgreeAll, StopsTrailed, MidTrailed}
 use Rattle.z_model.specs.Run.{ZState}
-use Rattle.z_lang.specs.Runs.{ActsRun, Returns, returns}
+use Rattle.z_lang.specs.Runs.{ActsRun, Returns}
 use Rattle.dg_rt.specs.declared.numbers.TheConstants.{DONE, STOPPED, UNSTOP, FAIL, LEAVE}
 use Rattle.dg_rt.specs.declared.choices.TheConstants.{UNSTOP_ACTS}
 use Rattle.dg_rt.specs.declared.closings.TheConstants.{DONE_ACTS, STOPPED_ACTS}
@@ -24,12 +24,11 @@ use Rattle.dg_rt.proofs.Stopping.{unstop_works}
 use Rattle.dg_rt.proofs.Leaving.{leave_works}
 use Rattle.dg_rt.proofs.Closing.{closings_work}
 use Rattle.dg_turn.specs.Told.{Telling}
-use Rattle.dg_turn.specs.Lies.{NamesStop, StopNamed, FramesIn, InnersIn, StopsIn, StopsUnder, EndsBefore, AreApart, ChoicesIn, MidIn}
-use Rattle.dg_turn.specs.Rest.{aux_at, gather_words, open_to}
+use Rattle.dg_turn.specs.Lies.{NamesStop, StopNamed, FramesIn, InnersIn, StopsIn, StopsUnder, AreApart, ChoicesIn, MidIn}
+use Rattle.dg_turn.specs.Rest.{gather_words, open_to}
 use Rattle.dg_turn.specs.Plays.{Playing, Outside, Represented, Comes}
 use Rattle.dg_turn.specs.Stopping.{StopTurns, DoneTurns, NoRuleTurns}
 use Rattle.dg_turn.proofs.Standing.{leave_at, unstop_at, stopped_at, done_at}
-use Rattle.dg_turn.proofs.Resting.{length_words}
 use Rattle.dg_turn.proofs.Staying.{mid_alike}
 use Rattle.dg_turn.proofs.Growing.{StopsThere, stops_drop, apart_cut, ChoicesThere}
 use Rattle.dg_turn.proofs.Between.{choices_left}

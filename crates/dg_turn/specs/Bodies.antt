@@ -26,8 +26,7 @@ use Rattle.z_lang.specs.declared.act.Routine.{Routine}
 use Rattle.dg_rt.specs.declared.numbers.TheConstants.{WALK, FAIL, VAR, TAIL_CALL, BODY, KEY_OF}
 use Rattle.dg_rt.specs.declared.registers.TheConstants.{BACK, MANY, KEY, CLASH, ARGS, PARAMETERS}
 use Rattle.dg_rt.specs.Areas.{back_reg, many_reg, key_reg, args_reg, parameters_reg}
-use Rattle.dg_rt.specs.Back.{at_place}
-use Rattle.dg_rt.specs.Shapes.{Shape, Shows}
+use Rattle.dg_rt.specs.Shapes.{Shows}
 use Rattle.dg_rt.specs.Rules.{KeyIs}
 use Rattle.dg_rt.specs.RunTime.{routine_of}
 use Rattle.dg_rt.specs.Unifies.{price}
