@@ -1,5 +1,5 @@
 -- The routine that prints the first character of a piece does so.
-use Rattle.std.proofs.Common.{◌≡◌, ◌≢◌, ℕ, suc, ◌+◌, ◌-◌, ◌/◌, ◌<◌, ◌≤◌, inl, inr, Bool, true, false, List, [], ◌∷◌, ◌++◌, drop, Some, refl, sym, ap, ◌∙◌, subst, arith}
+use Rattle.std.proofs.Common.{◌≡◌, ◌≢◌, ℕ, suc, ◌+◌, ◌-◌, ◌/◌, ◌<◌, ◌≤◌, inl, inr, Bool, true, false, List, [], ◌∷◌, ◌++◌, drop, Some, None, refl, sym, ap, ◌∙◌, subst, arith}
 use Rattle.std.specs.Prelude.{◌==◌, ◌&&◌, not, nat_lt, nat_le, if◌then◌else◌, encode_utf8}
 use Rattle.std.specs.List.{list_any}
 use Rattle.std.proofs.lemmas.Bool.{ne_eqb, lt-ltb, le-ltb, lt-leb, le-leb, cases_lt}
@@ -7,13 +7,18 @@ use Rattle.std.proofs.Math.Utf8.{encode}
 use Rattle.dg_meaning.specs.World.{Print}
 use Rattle.dg_meaning.specs.Render.{is_upper, upper, capital}
 use Rattle.z_model.specs.Zscii.{is_character}
+use Rattle.z_lang.specs.declared.act.Act.{Act}
+use Rattle.z_lang.specs.declared.act.Act.TheVariants as acts
+use Rattle.z_lang.specs.declared.act.Args.TheVariants as args
+use Rattle.z_lang.specs.declared.act.Atom.{Atom}
 use Rattle.z_lang.specs.declared.act.Atom.TheVariants as atoms
 use Rattle.z_lang.specs.declared.act.Comparison.TheVariants as comparisons
 use Rattle.z_lang.specs.declared.act.Function.TheVariants as functions
 use Rattle.z_lang.specs.declared.act.Print.TheVariants as prints
-use Rattle.z_lang.specs.State.{State, Program}
+use Rattle.z_lang.specs.State.{State, Program, value}
 use Rattle.z_lang.specs.Acts.{answer_of, print_output}
-use Rattle.z_lang.specs.Runs.{ActsRun as Runs, Returns, at_label, taken, passed, done, returns, behind_label}
+use Rattle.z_lang.specs.Runs.{ActsRun as Runs, ActsOutcome as Outcome, Returns, at_label, taken, passed, done, calls, returns, behind_label}
+use Rattle.dg_rt.specs.declared.numbers.TheConstants.{FIRST}
 use Rattle.dg_rt.specs.declared.gaps.TheConstants.{FIRST_ACTS}
 use Rattle.dg_rt.specs.Cells.{compared, with_cell, replaced, Holds, bit}
 use Rattle.dg_rt.specs.Areas.{state}
@@ -23,10 +28,11 @@ use Rattle.dg_rt.proofs.Cells.{some_list, other_cell, same_cell}
 use Rattle.dg_rt.proofs.Closing.{itself}
 use Rattle.dg_rt.proofs.Following.{word, tested, computes, copies, says, register, puts, local_1, put_1}
 use Rattle.dg_rt.proofs.Locals.{subtracts, less_by, not_less_by, more_by, not_more_by, high_is_less}
+use Rattle.dg_rt.proofs.Standing.{first_at}
 
 -- ## Capitals
 
-upper_low : (b : ℕ) → b < 97 → upper b ≡ b
+pub upper_low : (b : ℕ) → b < 97 → upper b ≡ b
 upper_low b lt = rw (lt-leb 97 b lt) refl
 
 upper_high : (b : ℕ) → 122 < b → upper b ≡ b
@@ -36,14 +42,14 @@ upper_letter : (b : ℕ) → 97 ≤ b → b ≤ 122 → upper b ≡ b - 32
 upper_letter b le le' = rw (le-leb 97 b le, le-leb b 122 le') refl
 
 -- what isn't asked to be a capital
-as_it_is : (gap : List Print) (bs : List ℕ) → list_any is_upper gap ≡ false → capital gap bs ≡ bs
+pub as_it_is : (gap : List Print) (bs : List ℕ) → list_any is_upper gap ≡ false → capital gap bs ≡ bs
 as_it_is gap [] e = refl
 as_it_is gap (b ∷ bs) e = rw e refl
 
 capital_of : (gap : List Print) (b : ℕ) (bs : List ℕ) → list_any is_upper gap ≡ true → capital gap (b ∷ bs) ≡ upper b ∷ bs
 capital_of gap b bs e = rw e refl
 
-same_capital : (gap : List Print) (b : ℕ) (bs : List ℕ) → list_any is_upper gap ≡ true → upper b ≡ b → capital gap (b ∷ bs) ≡ b ∷ bs
+pub same_capital : (gap : List Print) (b : ℕ) (bs : List ℕ) → list_any is_upper gap ≡ true → upper b ≡ b → capital gap (b ∷ bs) ≡ b ∷ bs
 same_capital gap b bs e same = capital_of gap b bs e ∙ ap (λ (x : ℕ). x ∷ bs) same
 
 -- a character that is no letter of ASCII
@@ -170,3 +176,9 @@ module _ (p : Program) (has : HasRunTime p) (f w : ℕ) (memory typed output : L
 
 pub first_works : FirstWorks
 first_works p has f w memory typed output drawn first cells h small is_one gap e = by_upper p has f w memory typed output drawn first cells h small is_one gap (list_any is_upper gap) refl e
+
+-- It is called with a character.
+pub calls_first : (p : Program) (has : HasRunTime p) (f w : ℕ) → 1 ≤ f → 1 ≤ w → (body rest : List Act) (a : Atom) (memory locals typed output : List ℕ) (drawn first : ℕ) (cells : ℕ → ℕ) (gap : List Print) (r : PrintsFirst p 0 0 memory typed output drawn first cells gap) → value p (state memory locals typed drawn output) a ≡ word first →
+    (o : Outcome) (s' : State) (n : ℕ) → Runs p f w body rest (state r.memory' locals typed drawn (output ++ capital gap (encode first))) o s' n → Runs p f w body (acts.Call None (atoms.Routine FIRST) (args.One a) ∷ rest) (state memory locals typed drawn output) o s' (suc r.count + n)
+calls_first p has f w some enough body rest a memory locals typed output drawn first cells gap r e o s' n q =
+    calls {f' = 0} {w' = 0} {n = r.count} {n' = n} {xs = (first, 0, 0)} {s1 = state r.memory' r.locals' typed drawn (output ++ capital gap (encode first))} {s2 = state r.memory' locals typed drawn (output ++ capital gap (encode first))} refl (rw e refl) (first_at p has) some enough r.runs refl q

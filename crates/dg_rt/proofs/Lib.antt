@@ -56,3 +56,6 @@ pub mod Tables
 pub mod Flags
 pub mod Separating
 pub mod First
+pub mod Marks
+pub mod Moving
+pub mod Counting

@@ -19,7 +19,7 @@ use Rattle.dg_rt.proofs.Following.{word, some_state}
 negative : (k : ℕ) → k < 32768 → signed_16 (32768 + k) ≡ negsuc (32767 - k)
 negative k lt = rw (le-ltb (32768 + k) 32768 (omega arith)) (omega (arith, ints))
 
-positive : (x : ℕ) → x < 32768 → signed_16 x ≡ pos x
+pub positive : (x : ℕ) → x < 32768 → signed_16 x ≡ pos x
 positive x lt = rw (lt-ltb x 32768 lt) refl
 
 pub reference : (k : ℕ) → k < 16384 → compared comparisons.Less (32768 + k) 49152 ≡ true

@@ -6,41 +6,46 @@ use Rattle.std.proofs.lemmas.Bool.{eq-eqb, ne_eqb, lt-ltb}
 use Rattle.std.proofs.lemmas.List.{append-nil}
 use Rattle.dg_meaning.specs.Render.{is_line, is_par, spaces_from, last_asked, opens, closes, space_for, separator, Met}
 use Rattle.z_lang.specs.declared.act.Act.{Act}
+use Rattle.z_lang.specs.declared.act.Act.TheVariants as acts
+use Rattle.z_lang.specs.declared.act.Args.TheVariants as args
+use Rattle.z_lang.specs.declared.act.Atom.{Atom}
 use Rattle.z_lang.specs.declared.act.Atom.TheVariants as atoms
 use Rattle.z_lang.specs.declared.act.Comparison.TheVariants as comparisons
 use Rattle.z_lang.specs.declared.act.Function.TheVariants as functions
 use Rattle.z_lang.specs.declared.act.Print.TheVariants as prints
 use Rattle.z_lang.specs.State.{State, Program, value}
 use Rattle.z_lang.specs.Acts.{answer_of, does, with_output}
-use Rattle.z_lang.specs.Runs.{ActsRun as Runs, Returns, at_label, taken, passed, done, goes, returns, behind_label}
+use Rattle.z_lang.specs.Runs.{ActsRun as Runs, ActsOutcome as Outcome, Returns, at_label, taken, passed, done, goes, calls, returns, behind_label}
+use Rattle.dg_rt.specs.declared.numbers.TheConstants.{SEPARATE}
 use Rattle.dg_rt.specs.declared.gaps.TheConstants.{SEPARATE_ACTS}
 use Rattle.dg_rt.specs.Cells.{with_cell, replaced, Holds}
 use Rattle.dg_rt.specs.Areas.{state}
 use Rattle.dg_rt.specs.RunTime.{HasRunTime}
-use Rattle.dg_rt.specs.Gaps.{last_word, break_word, asked_word, Meets, SeparateWorks}
+use Rattle.dg_rt.specs.Gaps.{last_word, break_word, asked_word, Meets, Separates, SeparateWorks}
 use Rattle.dg_rt.specs.inside.Walks.{steps}
 use Rattle.dg_rt.proofs.Cells.{other_cell, same_cell}
 use Rattle.dg_rt.proofs.Closing.{say, letter_printed, newline_printed}
 use Rattle.dg_rt.proofs.Following.{word, some_state, tested, computes, copies, says, register, puts, local_1}
 use Rattle.dg_rt.proofs.Locals.{subtracts}
+use Rattle.dg_rt.proofs.Standing.{separate_at}
 use Rattle.dg_rt.proofs.UnifySteps.{steps_are}
 
 -- three further tests of a list
-or_three : (a b c d : Bool) → (a || (b || (c || d))) ≡ ((a || (b || c)) || d)
+pub or_three : (a b c d : Bool) → (a || (b || (c || d))) ≡ ((a || (b || c)) || d)
 or_three true b c d = refl
 or_three false true c d = refl
 or_three false false true d = refl
 or_three false false false d = refl
 
-or_nothing : (t : Bool) → (t || false) ≡ t
+pub or_nothing : (t : Bool) → (t || false) ≡ t
 or_nothing true = refl
 or_nothing false = refl
 
 -- one of three characters
-abbrev among : ℕ → ℕ → ℕ → ℕ → Bool
+abbrev pub among : ℕ → ℕ → ℕ → ℕ → Bool
 among c x y z = (c == x) || ((c == y) || (c == z))
 
-closes_by : (c : ℕ) → closes c ≡ (among c 46 44 59 || (among c 58 33 63 || among c 41 93 125))
+pub closes_by : (c : ℕ) → closes c ≡ (among c 46 44 59 || (among c 58 33 63 || among c 41 93 125))
 closes_by c =
     let third : (eqb c 41 || (eqb c 93 || (eqb c 125 || false))) ≡ among c 41 93 125 = or_three (eqb c 41) (eqb c 93) (eqb c 125) false ∙ or_nothing (among c 41 93 125) in
     or_three (eqb c 46) (eqb c 44) (eqb c 59) (eqb c 58 || (eqb c 33 || (eqb c 63 || (eqb c 41 || (eqb c 93 || (eqb c 125 || false))))))
@@ -242,3 +247,9 @@ pub separate_works : SeparateWorks
 separate_works p has f w memory typed output drawn first cells h m meets =
     let r = by_last p has f w typed drawn first memory cells h m meets output m.last refl in
     record { memory' = r.memory'; cells' = r.cells'; holds = r.holds; lines = r.lines; spaces = r.spaces; asked = r.asked; others = r.others; count = r.count; few = r.few; runs = r.runs }
+
+-- It is called with the first character of a piece.
+pub calls_separate : (p : Program) (has : HasRunTime p) (f w : ℕ) → 1 ≤ f → 1 ≤ w → (body rest : List Act) (a : Atom) (memory locals typed output : List ℕ) (drawn first : ℕ) (cells : ℕ → ℕ) (m : Met) (r : Separates p 0 0 memory typed output drawn first cells m) → value p (state memory locals typed drawn output) a ≡ word first →
+    (o : Outcome) (s' : State) (n : ℕ) → Runs p f w body rest (state r.memory' locals typed drawn (output ++ separator m.gap m.last first)) o s' n → Runs p f w body (acts.Call None (atoms.Routine SEPARATE) (args.One a) ∷ rest) (state memory locals typed drawn output) o s' (suc r.count + n)
+calls_separate p has f w some enough body rest a memory locals typed output drawn first cells m r e o s' n q =
+    calls {f' = 0} {w' = 0} {n = r.count} {n' = n} {xs = (first, 0, 0)} {s1 = state r.memory' (first ∷ []) typed drawn (output ++ separator m.gap m.last first)} {s2 = state r.memory' locals typed drawn (output ++ separator m.gap m.last first)} refl (rw e refl) (separate_at p has) some enough r.runs refl q

@@ -1,7 +1,7 @@
 -- Where the routines of the run-time stand.
 use Rattle.std.proofs.Common.{◌≡◌, Some, refl}
 use Rattle.z_lang.specs.State.{Program}
-use Rattle.dg_rt.specs.declared.numbers.TheConstants.{WALK, BIND, OCCURS, UNIFY, UNDO, COPY_OUT, COPY_IN, NEWLINE, HEAP_LIMIT, TRAIL_LIMIT, CUT, KEY_OF, FULL, FLAG, SET_FLAG}
+use Rattle.dg_rt.specs.declared.numbers.TheConstants.{WALK, BIND, OCCURS, UNIFY, UNDO, COPY_OUT, COPY_IN, NEWLINE, HEAP_LIMIT, TRAIL_LIMIT, CUT, KEY_OF, FULL, FLAG, SET_FLAG, SEPARATE, FIRST}
 use Rattle.dg_rt.specs.declared.unify.TheConstants.{WALK_ACTS, BIND_ACTS, OCCURS_ACTS, UNIFY_ACTS, UNDO_ACTS}
 use Rattle.dg_rt.specs.declared.copies.TheConstants.{COPY_OUT_ACTS, COPY_IN_ACTS}
 use Rattle.dg_rt.specs.declared.closings.TheConstants.{NEWLINE_ACTS, HEAP_LIMIT_ACTS, TRAIL_LIMIT_ACTS}
@@ -9,6 +9,7 @@ use Rattle.dg_rt.specs.declared.choices.TheConstants.{CUT_ACTS}
 use Rattle.dg_rt.specs.declared.rules.TheConstants.{KEY_OF_ACTS}
 use Rattle.dg_rt.specs.declared.operands.TheConstants.{FULL_ACTS}
 use Rattle.dg_rt.specs.declared.world.TheConstants.{FLAG_ACTS, SET_FLAG_ACTS}
+use Rattle.dg_rt.specs.declared.gaps.TheConstants.{SEPARATE_ACTS, FIRST_ACTS}
 use Rattle.dg_rt.specs.RunTime.{routine_of, HasRunTime}
 
 module _ (p : Program) (has : HasRunTime p) where
@@ -56,3 +57,9 @@ module _ (p : Program) (has : HasRunTime p) where
 
   pub set_flag_at : p.routine_at (p.names.routine SET_FLAG) ≡ Some (routine_of 4 SET_FLAG_ACTS)
   set_flag_at = has.each 43 (routine_of 4 SET_FLAG_ACTS) refl
+
+  pub separate_at : p.routine_at (p.names.routine SEPARATE) ≡ Some (routine_of 1 SEPARATE_ACTS)
+  separate_at = has.each 45 (routine_of 1 SEPARATE_ACTS) refl
+
+  pub first_at : p.routine_at (p.names.routine FIRST) ≡ Some (routine_of 1 FIRST_ACTS)
+  first_at = has.each 46 (routine_of 1 FIRST_ACTS) refl

@@ -18,5 +18,7 @@ pub mod Queries
 pub mod Operands
 pub mod Tables
 pub mod Gaps
+pub mod Pieces
+pub mod Moves
 pub mod Fits
 pub mod inside

@@ -56,7 +56,8 @@ pub record LooksUp (p : Program) (f w : ℕ) (acts : List Act) (memory typed out
 -- A routine answers so of every value, and changes nothing.
 abbrev pub Tells : List Act → (Value → ℕ) → Type 0
 Tells acts answer = (p : Program) → HasRunTime p → (f w : ℕ) → 1 ≤ f → 4 ≤ w → (memory typed output : List ℕ) (drawn : ℕ) (sh : Shape) →
-    IsShape sh → (cells : ℕ → ℕ) → Holds p.world.layout memory cells → (S : Substitution) → Stands sh cells S → (x : ℕ) (v : Value) → Shows sh x v →
+    IsShape sh → (cells : ℕ → ℕ) → Holds p.world.layout memory cells → (S : Substitution) → Stands sh cells S → (x : ℕ) (v : Value) →
+    Shows sh x v →
     LooksUp p f w acts memory typed output drawn x S v answer
 
 -- The three routines do so.

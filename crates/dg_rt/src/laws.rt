@@ -7,7 +7,9 @@ ghost use Rattle.dg_rt.specs.Choices.{CommitWorks, CutWorks, FailWorks, OpenInne
 ghost use Rattle.dg_rt.specs.Frames.{CaptureWorks, EnterWorks, VarWorks};
 ghost use Rattle.dg_rt.specs.Fits.{RuntimeFits};
 ghost use Rattle.dg_rt.specs.Gaps.{FirstWorks, SeparateWorks};
+ghost use Rattle.dg_rt.specs.Moves.{CellsWorks, MoveWorks};
 ghost use Rattle.dg_rt.specs.Operands.{FullWorks, OperandsWork};
+ghost use Rattle.dg_rt.specs.Pieces.{PiecesWork};
 ghost use Rattle.dg_rt.specs.Queries.{AskWorks, BodyWorks, LeaveWorks, TailCallWorks};
 ghost use Rattle.dg_rt.specs.Rules.{FoundWorks, KeyWorks, MatchWorks, MatchedWorks, NoneWorks};
 ghost use Rattle.dg_rt.specs.Tables.{WorldWorks};
@@ -162,6 +164,21 @@ pub fn separate_works()
 /// The routine that prints the first character of a piece does so.
 pub fn first_works()
     ensures { FirstWorks }
+{}
+
+/// The routines that print a piece of a value do so.
+pub fn pieces_work()
+    ensures { PiecesWork }
+{}
+
+/// The routine that moves words does so.
+pub fn move_works()
+    ensures { MoveWorks }
+{}
+
+/// The routine that tells how much a copy takes does so.
+pub fn cells_works()
+    ensures { CellsWorks }
 {}
 
 /// The routines can be assembled.

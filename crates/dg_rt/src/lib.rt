@@ -8,9 +8,11 @@ mod copies;
 mod frames;
 mod gaps;
 mod heap;
+mod keeping;
 mod laws;
 pub mod numbers;
 mod operands;
+mod pieces;
 mod queries;
 pub mod registers;
 mod routines;
@@ -28,14 +30,17 @@ pub use copies::{COPY_IN_ACTS, COPY_OUT_ACTS};
 pub use frames::{CAPTURE_ACTS, ENTER_ACTS, VAR_ACTS};
 pub use gaps::{FIRST_ACTS, SEPARATE_ACTS};
 pub use heap::CHARGE_ACTS;
+pub use keeping::{CELLS_ACTS, MOVE_ACTS};
 pub use laws::{
-    ask_works, body_works, capture_works, charge_works, closings_work, commit_works, copy_in_works,
-    copy_works, cut_works, enter_works, fail_works, first_works, found_works, full_works,
-    key_works, leave_works, match_works, matched_works, none_works, open_inner_works, open_works,
-    operands_work, runtime_fits, separate_works, tail_call_works, undo_gives_back, undo_unwinds,
-    unify_works, unstop_works, var_works, world_works,
+    ask_works, body_works, capture_works, cells_works, charge_works, closings_work, commit_works,
+    copy_in_works, copy_works, cut_works, enter_works, fail_works, first_works, found_works,
+    full_works, key_works, leave_works, match_works, matched_works, move_works, none_works,
+    open_inner_works, open_works, operands_work, pieces_work, runtime_fits, separate_works,
+    tail_call_works, undo_gives_back, undo_unwinds, unify_works, unstop_works, var_works,
+    world_works,
 };
 pub use operands::{FULL_ACTS, NUMBER_ACTS, OBJECT_ACTS, SIMPLE_ACTS};
+pub use pieces::{PRINT_MARK_ACTS, PRINT_NUMBER_ACTS};
 pub use queries::{ASK_ACTS, BODY_ACTS, LEAVE_ACTS, TAIL_CALL_ACTS};
 pub use routines::runtime;
 pub use rules::{FOUND_ACTS, KEY_OF_ACTS, MATCH_ACTS, MATCHED_ACTS, NONE_ACTS};

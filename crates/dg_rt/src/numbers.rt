@@ -140,3 +140,15 @@ pub const SEPARATE: u16 = 46;
 
 /// Prints the first character of a piece.
 pub const FIRST: u16 = 47;
+
+/// Prints a piece of one character.
+pub const PRINT_MARK: u16 = 48;
+
+/// Prints a number as a piece.
+pub const PRINT_NUMBER: u16 = 49;
+
+/// Moves words of an area.
+pub const MOVE: u16 = 50;
+
+/// How many cells of the heap a copy takes.
+pub const CELLS: u16 = 51;

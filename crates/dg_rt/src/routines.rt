@@ -11,7 +11,9 @@ use crate::copies::{COPY_IN_ACTS, COPY_OUT_ACTS};
 use crate::frames::{CAPTURE_ACTS, ENTER_ACTS, VAR_ACTS};
 use crate::gaps::{FIRST_ACTS, SEPARATE_ACTS};
 use crate::heap::CHARGE_ACTS;
+use crate::keeping::{CELLS_ACTS, MOVE_ACTS};
 use crate::operands::{FULL_ACTS, NUMBER_ACTS, OBJECT_ACTS, SIMPLE_ACTS};
+use crate::pieces::{PRINT_MARK_ACTS, PRINT_NUMBER_ACTS};
 use crate::queries::{ASK_ACTS, BODY_ACTS, LEAVE_ACTS, TAIL_CALL_ACTS};
 use crate::rules::{FOUND_ACTS, KEY_OF_ACTS, MATCH_ACTS, MATCHED_ACTS, NONE_ACTS};
 use crate::unify::{BIND_ACTS, OCCURS_ACTS, UNDO_ACTS, UNIFY_ACTS, WALK_ACTS};
@@ -138,6 +140,17 @@ impl Writer {
     {
         self.put(1, &SEPARATE_ACTS)?;
         self.put(1, &FIRST_ACTS)?;
+        self.put(1, &PRINT_MARK_ACTS)?;
+        self.put(1, &PRINT_NUMBER_ACTS)?;
+        Ok(())
+    }
+
+    // Those of kept values.
+    fn put_keeping(&mut self) -> Result<(), AllocError>
+        ensures { OnOk result (self.new.all ≡ self.old.all ++ spec.keeping_routines) }
+    {
+        self.put(4, &MOVE_ACTS)?;
+        self.put(4, &CELLS_ACTS)?;
         Ok(())
     }
 }
@@ -158,5 +171,6 @@ pub fn runtime(alloc: Global) -> Result<Items<Routine>, AllocError>
     writer.put_operands()?;
     writer.put_world()?;
     writer.put_printing()?;
+    writer.put_keeping()?;
     Ok(writer.all)
 }

@@ -1,5 +1,6 @@
 use Rattle.std.proofs.Common.{[], ◌∷◌}
 use Rattle.dg_rt.specs.declared.gaps.TheConstants.{SEPARATE_ACTS, FIRST_ACTS}
+use Rattle.dg_rt.specs.declared.pieces.TheConstants.{PRINT_MARK_ACTS, PRINT_NUMBER_ACTS}
 use Rattle.dg_rt.specs.RunTime.{routine_of}
 use Rattle.dg_rt.proofs.Puts.{one_more}
 use Rattle.dg_rt.proofs.routines.Writer.put_printing.Goals as goal
@@ -9,4 +10,9 @@ returns c =
     let old = c.args.self.now.all in
     let r0 = routine_of 1 SEPARATE_ACTS in
     let r1 = routine_of 1 FIRST_ACTS in
-    one_more old (r0 ∷ []) c.put.new.self.all c.put-2.new.self.all r1 c.in_ok-put.ensures c.in_ok-put-2.ensures
+    let r2 = routine_of 1 PRINT_MARK_ACTS in
+    let r3 = routine_of 1 PRINT_NUMBER_ACTS in
+    let e0 = c.in_ok-put.ensures in
+    let e1 = one_more old (r0 ∷ []) c.put.new.self.all c.put-2.new.self.all r1 e0 c.in_ok-put-2.ensures in
+    let e2 = one_more old (r0 ∷ r1 ∷ []) c.put-2.new.self.all c.put-3.new.self.all r2 e1 c.in_ok-put-3.ensures in
+    one_more old (r0 ∷ r1 ∷ r2 ∷ []) c.put-3.new.self.all c.put-4.new.self.all r3 e2 c.in_ok-put-4.ensures
