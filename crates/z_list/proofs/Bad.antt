@@ -105,16 +105,16 @@ no_listing count text ls w at left rest s stuck open_end story h =
 pub stuck_is_bad : (count : ℕ) (text : List ℕ) (ls : List Line) (w : Where) (at left : ℕ) (rest : List ℕ) → Stands count text ls w at left rest → IsStuck (IsNext w at left) rest →
     (rest ≡ [] → IsOutside first_clamped w → left ≡ 0 → ⊥) → IsBadAt text (length ls + 2)
 stuck_is_bad count text ls w at left rest s stuck open_end =
-  let one : length ls + 2 - 1 ≡ suc (length ls + 0) = omega arith in
-  let two : length ls + 2 ≡ suc (length ls + 1) = omega arith in
-  record {
-  some = omega arith;
-  before = subst Begin (sym (ap (λ (k : ℕ). first_lines k text) one ∙ front_lines count text ls w at left rest s 0))
-      (subst (λ (t : List ℕ). BeginsListing (story_line count ++ t)) (sym (append-nil (texts ls))) (begins count text ls w at left rest s));
-  bad = λ b. by_line (first_lines 1 rest) refl
-      (subst Begin (ap (λ (k : ℕ). first_lines k text) two ∙ front_lines count text ls w at left rest s 1) b);
-  none = no_listing count text ls w at left rest s stuck open_end;
-}
+    let one : length ls + 2 - 1 ≡ suc (length ls + 0) = omega arith in
+    let two : length ls + 2 ≡ suc (length ls + 1) = omega arith in
+    record {
+      some = omega arith;
+      before = subst Begin (sym (ap (λ (k : ℕ). first_lines k text) one ∙ front_lines count text ls w at left rest s 0))
+          (subst (λ (t : List ℕ). BeginsListing (story_line count ++ t)) (sym (append-nil (texts ls))) (begins count text ls w at left rest s));
+      bad = λ b. by_line (first_lines 1 rest) refl
+          (subst Begin (ap (λ (k : ℕ). first_lines k text) two ∙ front_lines count text ls w at left rest s 1) b);
+      none = no_listing count text ls w at left rest s stuck open_end;
+    }
   where
     by_line : (o : Option (List ℕ)) → first_lines 1 rest ≡ o → Begin (option_map (λ x. story_line count ++ (texts ls ++ x)) o) → ⊥
     by_line None e b = b

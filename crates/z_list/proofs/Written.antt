@@ -98,7 +98,7 @@ last_written all made rest_made end_made at done bs (Ok x) within e not_ok is on
 last_written all made rest_made end_made at done bs (Err fault) within e not_ok is one two =
     let end : at + done + length (drop done bs) ≡ at + length bs = omega (arith, length-drop done bs, within) in
     let lines_are : instructions first_length (length (drop done bs)) (at + done) (drop done bs) ≡ rows (at + done) [] (drop done bs) ++ End (at + length bs) ∷ []
-            = none_first (at + done) (drop done bs) fault e ∙ ap (λ (k : ℕ). rows (at + done) [] (drop done bs) ++ End k ∷ []) end in
+    = none_first (at + done) (drop done bs) fault e ∙ ap (λ (k : ℕ). rows (at + done) [] (drop done bs) ++ End k ∷ []) end in
     let left = lines_written all made rest_made (rows (at + done) [] (drop done bs)) (End (at + length bs) ∷ []) (is ∙ ap (λ (ls : List Line). made ++ texts ls) lines_are) one in
     two ∙ sym (left ∙ ap (λ (t : List ℕ). rest_made ++ t) (append-nil (line_text (End (at + length bs)))))
 
@@ -136,9 +136,9 @@ mark_written all made rows_made mark_made at story m ms from some is one two =
     let behind : drop (m.from - at) (drop at story) ≡ drop m.from story = drop-drop (m.from - at) at story ∙ ap (λ (k : ℕ). drop k story) to_from in
     let others : drop (m.to - at) (drop at story) ≡ drop m.to story = drop-drop (m.to - at) at story ∙ ap (λ (k : ℕ). drop k story) to_end in
     let mine : marked first_length m (take (m.to - m.from) (drop (m.from - at) (drop at story))) ++ lines first_length m.to (drop (m.to - at) (drop at story)) ms
-            ≡ marked first_length m (slice_range story m.from m.to) ++ lines first_length m.to (drop m.to story) ms
-            = ap (λ (l : List ℕ). marked first_length m (take (m.to - m.from) l) ++ lines first_length m.to (drop (m.to - at) (drop at story)) ms) behind
-            ∙ ap (λ (l : List ℕ). marked first_length m (slice_range story m.from m.to) ++ lines first_length m.to l ms) others in
+    ≡ marked first_length m (slice_range story m.from m.to) ++ lines first_length m.to (drop m.to story) ms
+    = ap (λ (l : List ℕ). marked first_length m (take (m.to - m.from) l) ++ lines first_length m.to (drop (m.to - at) (drop at story)) ms) behind
+    ∙ ap (λ (l : List ℕ). marked first_length m (slice_range story m.from m.to) ++ lines first_length m.to l ms) others in
     lines_written all rows_made mark_made (marked first_length m (slice_range story m.from m.to)) (lines first_length m.to (drop m.to story) ms)
     (lines_written all made rows_made (rows at [] (slice_range story at m.from)) _ is one ∙ ap (λ (ls : List Line). rows_made ++ texts ls) mine) two
 

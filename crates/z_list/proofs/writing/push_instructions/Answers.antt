@@ -50,5 +50,5 @@ returns c =
     let rest_put = c.in_ok-push_rows.ensures ∙ ap (λ (l : List ℕ). c.loop-found.text.items ++ texts (rows (at + done) [] l)) (range_rest bytes done within) in
     on_ok c.push_end.result _ _
     (λ put. last_written _ c.loop-found.text.items c.push_rows.new.text.items c.push_end.new.text.items at done bytes c.decode.result within
-        (of_rest bytes done c.decode.result c.decode.result within refl c.decode.ensures.op) (λ x is. c.in_default.not-Ok x is) c.loop-found.invariant.rest rest_put put)
+    (of_rest bytes done c.decode.result c.decode.result within refl c.decode.ensures.op) (λ x is. c.in_default.not-Ok x is) c.loop-found.invariant.rest rest_put put)
     c.push_end.ensures
