@@ -40,25 +40,25 @@ use Rattle.dg_turn.specs.Turns.{HEAD, agreed_next, match_acts, last_acts}
 
 -- ## Asking
 
--- The register of the closure that is asked, in front of that of the argument, as a variable and as a word.
-abbrev pub ASKED : ℕ
-ASKED = 31
+-- The register of the closure that is called, in front of that of the argument, as a variable and as a word.
+abbrev pub CALLED : ℕ
+CALLED = 31
 
-abbrev pub asked_reg : ℕ
-asked_reg = 15
+abbrev pub called_reg : ℕ
+called_reg = 15
 
 -- Whether all answers are wanted and how many arguments there are is put into registers, the value is looked up, with its key, and the routine that finds
 -- the body comes next.
 abbrev pub look_acts : Option Term → Bool → ℕ → List Act
 look_acts b many find =
     acts.Copy MANY (atoms.Num (bit_of many)) ∷ acts.Copy PARAMETERS (atoms.Num (length (option_terms b)))
-    ∷ acts.Call (Some KEY) (atoms.Routine KEY_OF) (args.One (atoms.Var ASKED))
-    ∷ acts.Call (Some ASKED) (atoms.Routine WALK) (args.One (atoms.Var ASKED)) ∷ acts.Return (atoms.Routine find) ∷ []
+    ∷ acts.Call (Some KEY) (atoms.Routine KEY_OF) (args.One (atoms.Var CALLED))
+    ∷ acts.Call (Some CALLED) (atoms.Routine WALK) (args.One (atoms.Var CALLED)) ∷ acts.Return (atoms.Routine find) ∷ []
 
 -- The routine of a query of a closure: its words are put into their registers, and the routine that comes behind it.
 abbrev pub query_routine : CoreProgram → Term → Option Term → ℕ → Bool → ℕ → Routine
 query_routine program a b behind many find =
-    routine_of 0 (terms_acts program ASKED (a ∷ option_terms b) ++ (acts.Copy BACK (atoms.Routine behind) ∷ look_acts b many find))
+    routine_of 0 (terms_acts program CALLED (a ∷ option_terms b) ++ (acts.Copy BACK (atoms.Routine behind) ∷ look_acts b many find))
 
 -- The call of a query of a closure, in the machine that asks it.
 abbrev pub query_call : CoreProgram → Term → Option Term → Bool → ℕ → Mid → Call
@@ -77,7 +77,7 @@ querying_most program a b m =
 -- The player is in front of the routine of a number: a call is in registers, whose value is in one, looked up, with its key in another.
 pub record FindsAt (t : Telling) (out : Outside) (number : ℕ) (call : Call) (v : Value) (m : Mid) (z : ZState) : Type 0 where
   pub rep : Represented t out (t.p.names.routine number) m z
-  pub shown : Shows rep.sh (rep.cells asked_reg) v
+  pub shown : Shows rep.sh (rep.cells called_reg) v
   pub key_is : KeyIs v (rep.cells key_reg)
   pub args_are : WordsIn rep.sh (registers rep.cells args_reg (length call.args)) call.args
   pub count_is : rep.cells parameters_reg ≡ length call.args
@@ -108,7 +108,7 @@ pub record QueryTurns : Type 0 where
 -- wanted its frame is left.
 abbrev pub last_query_routine : CoreProgram → Term → Option Term → ℕ → Bool → ℕ → Routine
 last_query_routine program a b end many find =
-    routine_of 0 (terms_acts program ASKED (a ∷ option_terms b)
+    routine_of 0 (terms_acts program CALLED (a ∷ option_terms b)
     ++ (acts.Call (Some BACK) (atoms.Routine TAIL_CALL) (args.One (atoms.Routine end)) ∷ look_acts b many find))
 
 -- In one turn it is asked inside a rule, or where there is none; or the heap's limit is met.
@@ -144,7 +144,7 @@ fork_routine place left right =
 abbrev pub body_routine : (place own captured block : ℕ) → Routine
 body_routine place own captured block =
     routine_of 0 (acts.When (record { comparison = comparisons.Equal; first = atoms.Var KEY; second = atoms.Num (49152 + place); answer = true }) 0
-    ∷ acts.Return (atoms.Routine FAIL) ∷ acts.Label 0 ∷ acts.Call None (atoms.Routine BODY) (args.Two (atoms.Num own) (atoms.Var ASKED))
+    ∷ acts.Return (atoms.Routine FAIL) ∷ acts.Label 0 ∷ acts.Call None (atoms.Routine BODY) (args.Two (atoms.Num own) (atoms.Var CALLED))
     ∷ acts.Copy CLASH (atoms.Num 0)
     ∷ acts.When (record { comparison = comparisons.Equal; first = atoms.Var PARAMETERS; second = atoms.Num 0; answer = true }) 1
     ∷ acts.Call (Some HEAD) (atoms.Routine VAR) (args.One (atoms.Num captured))
@@ -222,8 +222,8 @@ pub record BodyTurns : Type 0 where
   pub meets_heap : (t : Telling) → Playing t → (out : Outside) (number place : ℕ) (c : BodyCode) (call : Call) (parts : Values) (m : Mid) (z : ZState) →
       BodyAt t number place c → FindsAt t out number call (Node (Closure place) parts) m z → 10000 < m.state.heap + (6 + c.own) →
       Closes t out HeapLimit (15 + closing_most) z
-  pub meets_trail : (t : Telling) → Playing t → (out : Outside) (number place : ℕ) (c : BodyCode) (call : Call) (parts : Values) (m : Mid) (z : ZState) →
-      BodyAt t number place c → length call.args ≤ 1 → call.cut.height ≡ m.state.heap →
+  pub meets_trail : (t : Telling) → Playing t → (out : Outside) (number place : ℕ) (c : BodyCode) (call : Call) (parts : Values) (m : Mid)
+      (z : ZState) → BodyAt t number place c → length call.args ≤ 1 → call.cut.height ≡ m.state.heap →
       FindsAt t out number call (Node (Closure place) parts) m z → m.state.heap + (6 + c.own) ≤ 10000 →
       2000 < trail_more m.state (body_unified t.program (values_of parts) c.own call m) →
       Closes t out TrailLimit (body_most t.program (values_of parts) c.own call m + closing_most) z

@@ -202,12 +202,14 @@ pub record Meets (t : Telling) (f w : ℕ) (body all : List Act) (memory typed o
 -- Terms are written where there is room for them; else the limit is met.
 pub record TermsWork : Type 0 where
   pub writes : (t : Telling) (outer : ℕ → ℕ) → HasRunTime t.p → (f w : ℕ) → 0 < f → 8 ≤ w → (sh : Shape)
-      (memory typed output : List ℕ) (drawn : ℕ) (c : ℕ → ℕ) (trail : List ℕ) (m : Mid) → Holds t.p.world.layout memory c → MidIn t outer sh c trail m →
+      (memory typed output : List ℕ) (drawn : ℕ) (c : ℕ → ℕ) (trail : List ℕ) (m : Mid) → Holds t.p.world.layout memory c →
+      MidIn t outer sh c trail m →
       (body rest : List Act) (v : ℕ) (ts : List Term) → 31 ≤ v → v + length ts ≤ 240 → (44 < v + length ts → 52 ≤ v) →
       AreNodes t.program (nodes_of ts) → m.state.heap + cells t.program ts ≤ 10000 →
       Wrote t outer f w body rest (terms_acts t.program v ts ++ rest) sh memory typed output drawn c trail m (cells t.program ts) v
       (map (value_of t.program (vars_of m.frames)) ts) (written_in t.program ts + 6)
   pub meets : (t : Telling) (outer : ℕ → ℕ) → HasRunTime t.p → (f w : ℕ) → 3 ≤ f → 1 ≤ w → (sh : Shape)
-      (memory typed output : List ℕ) (drawn : ℕ) (c : ℕ → ℕ) (trail : List ℕ) (m : Mid) → Holds t.p.world.layout memory c → MidIn t outer sh c trail m →
+      (memory typed output : List ℕ) (drawn : ℕ) (c : ℕ → ℕ) (trail : List ℕ) (m : Mid) → Holds t.p.world.layout memory c →
+      MidIn t outer sh c trail m →
       (body rest : List Act) (v : ℕ) (ts : List Term) → 10000 < m.state.heap + cells t.program ts →
       Meets t f w body (terms_acts t.program v ts ++ rest) memory typed output drawn c 5
