@@ -35,10 +35,10 @@ use Rattle.dg_rt.proofs.Standing.{first_at}
 pub upper_low : (b : ℕ) → b < 97 → upper b ≡ b
 upper_low b lt = rw (lt-leb 97 b lt) refl
 
-upper_high : (b : ℕ) → 122 < b → upper b ≡ b
+pub upper_high : (b : ℕ) → 122 < b → upper b ≡ b
 upper_high b lt = rw (le-leb 97 b (omega arith), lt-leb b 122 lt) refl
 
-upper_letter : (b : ℕ) → 97 ≤ b → b ≤ 122 → upper b ≡ b - 32
+pub upper_letter : (b : ℕ) → 97 ≤ b → b ≤ 122 → upper b ≡ b - 32
 upper_letter b le le' = rw (le-leb 97 b le, le-leb b 122 le') refl
 
 -- what isn't asked to be a capital
@@ -46,7 +46,7 @@ pub as_it_is : (gap : List Print) (bs : List ℕ) → list_any is_upper gap ≡ 
 as_it_is gap [] e = refl
 as_it_is gap (b ∷ bs) e = rw e refl
 
-capital_of : (gap : List Print) (b : ℕ) (bs : List ℕ) → list_any is_upper gap ≡ true → capital gap (b ∷ bs) ≡ upper b ∷ bs
+pub capital_of : (gap : List Print) (b : ℕ) (bs : List ℕ) → list_any is_upper gap ≡ true → capital gap (b ∷ bs) ≡ upper b ∷ bs
 capital_of gap b bs e = rw e refl
 
 pub same_capital : (gap : List Print) (b : ℕ) (bs : List ℕ) → list_any is_upper gap ≡ true → upper b ≡ b → capital gap (b ∷ bs) ≡ b ∷ bs
@@ -81,7 +81,7 @@ capital_letter gap c d e le le' is =
 letter_is_one : (d : ℕ) → 31 < d → d < 127 → is_character d ≡ true
 letter_is_one d low high = rw (lt-ltb 31 d low, ne_eqb d 127 (λ (e : d ≡ 127). (omega arith)), le-ltb 55295 d (omega arith)) refl
 
-printed : (memory : List ℕ) (c : ℕ) → is_character c ≡ true → print_output memory prints.Unicode c ≡ some_list (encode c)
+pub printed : (memory : List ℕ) (c : ℕ) → is_character c ≡ true → print_output memory prints.Unicode c ≡ some_list (encode c)
 unfolding print_output
 printed memory c e = rw e refl
 

@@ -59,3 +59,5 @@ pub mod First
 pub mod Marks
 pub mod Moving
 pub mod Counting
+pub mod Encoding
+pub mod Lettering

@@ -54,6 +54,32 @@ high_is_less x y le lt small =
     let less : compared comparisons.Less (32768 + k) y ≡ true = rw (negative k (omega arith), lt-ltb y 32768 small) refl in
     subst (λ (z : ℕ). compared comparisons.Less z y ≡ true) (sym is) less
 
+-- References and boxes are in the order of numbers, and every other word is more.
+pub high_less : (x y : ℕ) → 32768 ≤ x → x < y → y < 65536 → compared comparisons.Less x y ≡ true
+high_less x y le lt small =
+    let j = x - 32768 in
+    let k = y - 32768 in
+    let is : x ≡ 32768 + j = omega arith in
+    let is' : y ≡ 32768 + k = omega arith in
+    let less : compared comparisons.Less (32768 + j) (32768 + k) ≡ true = rw (negative j (omega arith), negative k (omega arith)) (lt-ltb (32767 - k) (32767 - j) (omega arith)) in
+    subst (λ (z : ℕ). compared comparisons.Less z y ≡ true) (sym is) (subst (λ (z : ℕ). compared comparisons.Less (32768 + j) z ≡ true) (sym is') less)
+
+pub high_not_less : (x y : ℕ) → 32768 ≤ y → y ≤ x → x < 65536 → compared comparisons.Less x y ≡ false
+high_not_less x y le le' small =
+    let j = x - 32768 in
+    let k = y - 32768 in
+    let is : x ≡ 32768 + j = omega arith in
+    let is' : y ≡ 32768 + k = omega arith in
+    let less : compared comparisons.Less (32768 + j) (32768 + k) ≡ false = rw (negative j (omega arith), negative k (omega arith)) (le-ltb (32767 - k) (32767 - j) (omega arith)) in
+    subst (λ (z : ℕ). compared comparisons.Less z y ≡ false) (sym is) (subst (λ (z : ℕ). compared comparisons.Less (32768 + j) z ≡ false) (sym is') less)
+
+pub low_not_less : (x y : ℕ) → x < 32768 → 32768 ≤ y → y < 65536 → compared comparisons.Less x y ≡ false
+low_not_less x y lt le small =
+    let k = y - 32768 in
+    let is : y ≡ 32768 + k = omega arith in
+    let less : compared comparisons.Less x (32768 + k) ≡ false = rw (positive x lt, negative k (omega arith)) refl in
+    subst (λ (z : ℕ). compared comparisons.Less x z ≡ false) (sym is) less
+
 pub older : (j k : ℕ) → j < k → k < 16384 → compared comparisons.Less (32768 + j) (32768 + k) ≡ true
 older j k lt small = rw (negative j (omega arith), negative k (omega arith)) (lt-ltb (32767 - k) (32767 - j) (omega arith))
 

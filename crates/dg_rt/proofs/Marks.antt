@@ -28,10 +28,10 @@ use Rattle.dg_rt.proofs.Separating.{among, or_three, or_nothing, closes_by, sepa
 
 -- ## What a piece leaves
 
-opens_by : (c : ℕ) → opens c ≡ among c 40 91 123
+pub opens_by : (c : ℕ) → opens c ≡ among c 40 91 123
 opens_by c = or_three (eqb c 40) (eqb c 91) (eqb c 123) false ∙ or_nothing (among c 40 91 123)
 
-unchanged : (gap : List Print) (b : ℕ) (bs : List ℕ) → upper b ≡ b → capital gap (b ∷ bs) ≡ b ∷ bs
+pub unchanged : (gap : List Print) (b : ℕ) (bs : List ℕ) → upper b ≡ b → capital gap (b ∷ bs) ≡ b ∷ bs
 unchanged gap b bs same = by_test (list_any is_upper gap) refl
   where
     by_test : (t : Bool) → list_any is_upper gap ≡ t → capital gap (b ∷ bs) ≡ b ∷ bs
@@ -204,7 +204,7 @@ space_same (Some true) before x y e = refl
 space_same (Some false) before x y e = refl
 space_same None before x y e = ap (λ (t : Bool). if opens before || t then [] else 32 ∷ []) e
 
-separator_same : (gap : List Print) (last : Option ℕ) (x y : ℕ) → closes x ≡ closes y → separator gap last x ≡ separator gap last y
+pub separator_same : (gap : List Print) (last : Option ℕ) (x y : ℕ) → closes x ≡ closes y → separator gap last x ≡ separator gap last y
 separator_same gap None x y e = refl
 separator_same gap (Some before) x y e =
     ap (λ (s : List ℕ). if list_any is_par gap then 10 ∷ 10 ∷ spaces_of gap else (if list_any is_line gap then 10 ∷ spaces_of gap else (if nat_lt 0 (spaces_from 0 gap) then spaces_of gap else s)))

@@ -1,7 +1,7 @@
 -- Where the routines of the run-time stand.
 use Rattle.std.proofs.Common.{◌≡◌, Some, refl}
 use Rattle.z_lang.specs.State.{Program}
-use Rattle.dg_rt.specs.declared.numbers.TheConstants.{WALK, BIND, OCCURS, UNIFY, UNDO, COPY_OUT, COPY_IN, NEWLINE, HEAP_LIMIT, TRAIL_LIMIT, CUT, KEY_OF, FULL, FLAG, SET_FLAG, SEPARATE, FIRST}
+use Rattle.dg_rt.specs.declared.numbers.TheConstants.{WALK, BIND, OCCURS, UNIFY, UNDO, COPY_OUT, COPY_IN, NEWLINE, HEAP_LIMIT, TRAIL_LIMIT, CUT, KEY_OF, FULL, FLAG, SET_FLAG, SEPARATE, FIRST, LETTER}
 use Rattle.dg_rt.specs.declared.unify.TheConstants.{WALK_ACTS, BIND_ACTS, OCCURS_ACTS, UNIFY_ACTS, UNDO_ACTS}
 use Rattle.dg_rt.specs.declared.copies.TheConstants.{COPY_OUT_ACTS, COPY_IN_ACTS}
 use Rattle.dg_rt.specs.declared.closings.TheConstants.{NEWLINE_ACTS, HEAP_LIMIT_ACTS, TRAIL_LIMIT_ACTS}
@@ -10,6 +10,7 @@ use Rattle.dg_rt.specs.declared.rules.TheConstants.{KEY_OF_ACTS}
 use Rattle.dg_rt.specs.declared.operands.TheConstants.{FULL_ACTS}
 use Rattle.dg_rt.specs.declared.world.TheConstants.{FLAG_ACTS, SET_FLAG_ACTS}
 use Rattle.dg_rt.specs.declared.gaps.TheConstants.{SEPARATE_ACTS, FIRST_ACTS}
+use Rattle.dg_rt.specs.declared.pieces.TheConstants.{LETTER_ACTS}
 use Rattle.dg_rt.specs.RunTime.{routine_of, HasRunTime}
 
 module _ (p : Program) (has : HasRunTime p) where
@@ -63,3 +64,6 @@ module _ (p : Program) (has : HasRunTime p) where
 
   pub first_at : p.routine_at (p.names.routine FIRST) ≡ Some (routine_of 1 FIRST_ACTS)
   first_at = has.each 46 (routine_of 1 FIRST_ACTS) refl
+
+  pub letter_at : p.routine_at (p.names.routine LETTER) ≡ Some (routine_of 1 LETTER_ACTS)
+  letter_at = has.each 51 (routine_of 1 LETTER_ACTS) refl

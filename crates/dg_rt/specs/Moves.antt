@@ -46,8 +46,9 @@ pub record TellsCells (p : Program) (f w : ℕ) (acts : List Act) (memory locals
 
 -- So it is with the cells of any value, in 14 instructions for each node of it and 2.
 abbrev pub CellsWorks : Type 0
-CellsWorks = (p : Program) (story : List ℕ) (captures : ℕ → ℕ) → HasCaptures p story captures → (f w : ℕ) (memory typed output : List ℕ) (drawn : ℕ)
-    (cells : ℕ → ℕ) → Holds p.world.layout memory cells → IsKept p.world.layout.base story memory → (v : Value) (r : ℕ) → Formed captures v →
+CellsWorks = (p : Program) (story : List ℕ) (captures : ℕ → ℕ) → HasCaptures p story captures → (f w : ℕ) (memory typed output : List ℕ)
+    (drawn : ℕ) (cells : ℕ → ℕ) → Holds p.world.layout memory cells → IsKept p.world.layout.base story memory → (v : Value) (r : ℕ) →
+    Formed captures v →
     at_cell (r + length (words_of v)) ≤ p.world.layout.base → at_cell (r + length (words_of v)) < 65536 → Row cells r (words_of v) →
     copy_cells v < 32768 →
     TellsCells p f w CELLS_ACTS memory (at_cell r ∷ at_cell (r + length (words_of v)) ∷ 0 ∷ 0 ∷ []) typed output drawn (copy_cells v) (14 * size v + 2)

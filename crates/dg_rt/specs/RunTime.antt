@@ -15,7 +15,7 @@ use Rattle.dg_rt.specs.declared.queries.TheConstants.{LEAVE_ACTS, ASK_ACTS, TAIL
 use Rattle.dg_rt.specs.declared.operands.TheConstants.{NUMBER_ACTS, OBJECT_ACTS, SIMPLE_ACTS, FULL_ACTS}
 use Rattle.dg_rt.specs.declared.world.TheConstants.{VALUE_ACTS, SET_ACTS, CLEAR_ACTS, CLEAR_ALL_ACTS, FLAG_ACTS, SET_FLAG_ACTS, CLEAR_FLAGS_ACTS}
 use Rattle.dg_rt.specs.declared.gaps.TheConstants.{SEPARATE_ACTS, FIRST_ACTS}
-use Rattle.dg_rt.specs.declared.pieces.TheConstants.{PRINT_MARK_ACTS, PRINT_NUMBER_ACTS}
+use Rattle.dg_rt.specs.declared.pieces.TheConstants.{PRINT_MARK_ACTS, PRINT_NUMBER_ACTS, LETTER_ACTS, PRINT_LETTERS_ACTS}
 use Rattle.dg_rt.specs.declared.keeping.TheConstants.{MOVE_ACTS, CELLS_ACTS}
 use Rattle.dg_rt.specs.Areas.{IsMapped}
 
@@ -72,11 +72,15 @@ printing_routines =
 abbrev pub keeping_routines : List Routine
 keeping_routines = routine_of 4 MOVE_ACTS ∷ routine_of 4 CELLS_ACTS ∷ []
 
+-- Those of letters.
+abbrev pub letter_routines : List Routine
+letter_routines = routine_of 1 LETTER_ACTS ∷ routine_of 3 PRINT_LETTERS_ACTS ∷ []
+
 -- All of them. The first has number 1, since a story begins with routine 0.
 abbrev pub runtime : List Routine
 runtime =
     value_routines ++ (closing_routines ++ (frame_routines ++ (rule_routines ++ (query_routines ++ (operand_routines
-    ++ (world_routines ++ (printing_routines ++ keeping_routines)))))))
+    ++ (world_routines ++ (printing_routines ++ (keeping_routines ++ letter_routines))))))))
 
 -- The run-time stands in a program: its areas may be written, and each routine has its number.
 pub record HasRunTime (p : Program) : Type 0 where

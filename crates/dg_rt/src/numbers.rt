@@ -152,3 +152,9 @@ pub const MOVE: u16 = 50;
 
 /// How many cells of the heap a copy takes.
 pub const CELLS: u16 = 51;
+
+/// The letter of an unknown word, as it is shown.
+pub const LETTER: u16 = 52;
+
+/// Prints an unknown word as a piece.
+pub const PRINT_LETTERS: u16 = 53;

@@ -13,7 +13,7 @@ use crate::gaps::{FIRST_ACTS, SEPARATE_ACTS};
 use crate::heap::CHARGE_ACTS;
 use crate::keeping::{CELLS_ACTS, MOVE_ACTS};
 use crate::operands::{FULL_ACTS, NUMBER_ACTS, OBJECT_ACTS, SIMPLE_ACTS};
-use crate::pieces::{PRINT_MARK_ACTS, PRINT_NUMBER_ACTS};
+use crate::pieces::{LETTER_ACTS, PRINT_LETTERS_ACTS, PRINT_MARK_ACTS, PRINT_NUMBER_ACTS};
 use crate::queries::{ASK_ACTS, BODY_ACTS, LEAVE_ACTS, TAIL_CALL_ACTS};
 use crate::rules::{FOUND_ACTS, KEY_OF_ACTS, MATCH_ACTS, MATCHED_ACTS, NONE_ACTS};
 use crate::unify::{BIND_ACTS, OCCURS_ACTS, UNDO_ACTS, UNIFY_ACTS, WALK_ACTS};
@@ -153,6 +153,15 @@ impl Writer {
         self.put(4, &CELLS_ACTS)?;
         Ok(())
     }
+
+    // Those of letters.
+    fn put_letters(&mut self) -> Result<(), AllocError>
+        ensures { OnOk result (self.new.all ≡ self.old.all ++ spec.letter_routines) }
+    {
+        self.put(1, &LETTER_ACTS)?;
+        self.put(3, &PRINT_LETTERS_ACTS)?;
+        Ok(())
+    }
 }
 
 /// All of them, in the order of their numbers, the first of which is 1: a story begins with routine 0.
@@ -172,5 +181,6 @@ pub fn runtime(alloc: Global) -> Result<Items<Routine>, AllocError>
     writer.put_world()?;
     writer.put_printing()?;
     writer.put_keeping()?;
+    writer.put_letters()?;
     Ok(writer.all)
 }
