@@ -1,15 +1,14 @@
 -- Terms that are left to look at, and what stands in them.
 use Rattle.std.specs.Borrow.{Bor}
-use Rattle.std.proofs.Common.{◌≡◌, ◌+◌, ◌≤◌, ℕ, List, [], ◌∷◌, ◌++◌, length, map, reverse, refl, sym, ◌∙◌, ap, subst, arith, append_assoc, append-nil}
+use Rattle.std.proofs.Common.{◌≡◌, ◌+◌, ◌≤◌, ℕ, List, [], ◌∷◌, ◌++◌, length, map, reverse, refl, sym, ◌∙◌, ap, subst, arith, append-nil}
 use Rattle.std.specs.List.{sum_by}
 use Rattle.std.proofs.lemmas.List.{reverse-append, map-append}
 use Rattle.std.proofs.lemmas.Grind.{flat_map-append}
 use Rattle.std.proofs.lemmas.List.Sums.{sum_by-cons}
 use Rattle.dg_base.specs.declared.program.CoreProgram.{CoreProgram}
-use Rattle.dg_base.specs.declared.program.Term.{Term, Pair', out-Term, roll-Term, roll-out-Term}
-use Rattle.dg_base.specs.declared.program.Term.TheBlock.{hidden-the_row-Term-0}
+use Rattle.dg_base.specs.declared.program.Term.{Term, Pair', out-Term}
 use Rattle.dg_base.specs.declared.program.Term.TheOpen as term
-use Rattle.dg_base.specs.declared.program.Term.TheVariants.{Pair as Pair-Term, rolls-Pair}
+use Rattle.dg_base.specs.declared.program.Term.TheVariants.{Pair as Pair-Term}
 use Rattle.dg_base.specs.Terms.{nodes}
 use Rattle.dg_mid.proofs.FlatLemmas.{nodes_are, pair_is}
 use Rattle.dg_meaning.specs.Cells.{node_cells, nodes_of, cells}

@@ -20,6 +20,7 @@ use Rattle.dg_turn.specs.Queries.{asking_routine}
 use Rattle.dg_turn.specs.LastQueries.{last_routine}
 use Rattle.dg_turn.specs.Choices.{branch_routine, try_routine, once_routine}
 use Rattle.dg_turn.specs.Leaving.{just_routine}
+use Rattle.dg_turn.specs.Stopping.{shield_routine, leave_routine}
 use Rattle.dg_emit.specs.declared.numbers.Numbers.{Numbers}
 use Rattle.dg_emit.specs.Numbers.{routines_of_op, routines_of_ops, first_of, first_rule, rules_count, numbers_from, block_number, pred_number}
 
@@ -29,6 +30,7 @@ use Rattle.dg_emit.specs.Numbers.{routines_of_op, routines_of_ops, first_of, fir
 abbrev pub is_built : Op → Bool
 is_built (op.Do action.Just) = true
 is_built (op.Do action.Fail) = true
+is_built (op.Do action.Stop) = true
 is_built (op.Do (action.Equal a b)) = true
 is_built (op.Do other) = false
 is_built (op.Ask pred terms many next) = true
@@ -37,8 +39,11 @@ is_built op.Take = true
 is_built (op.Branch alt) = true
 is_built op.Once = true
 is_built (op.Try alt) = true
+is_built (op.Shield alt) = true
 is_built (op.Retry alt) = true
 is_built op.Commit = true
+is_built op.Refuse = true
+is_built op.Leave = true
 is_built op.Back = true
 is_built op.Return = true
 is_built (op.Goto block) = true
@@ -61,8 +66,11 @@ op_routine program numbers behind op.Take = goto_routine behind
 op_routine program numbers behind (op.Branch alt) = branch_routine (block_number numbers alt) behind
 op_routine program numbers behind op.Once = once_routine behind
 op_routine program numbers behind (op.Try alt) = try_routine (block_number numbers alt) behind
+op_routine program numbers behind (op.Shield alt) = shield_routine (block_number numbers alt) behind
 op_routine program numbers behind (op.Retry alt) = branch_routine (block_number numbers alt) behind
 op_routine program numbers behind op.Commit = commit_routine behind
+op_routine program numbers behind op.Refuse = commit_routine FAIL
+op_routine program numbers behind op.Leave = leave_routine behind
 op_routine program numbers behind (op.Goto block) = goto_routine (block_number numbers block)
 op_routine program numbers behind (op.Enter vars head) = enter_routine program vars head behind
 op_routine program numbers behind other = goto_routine FAIL
@@ -71,6 +79,7 @@ op_routine program numbers behind other = goto_routine FAIL
 abbrev pub op_routines : CoreProgram → Numbers → ℕ → Op → List Routine
 op_routines program numbers behind op.Return = []
 op_routines program numbers behind op.Done = []
+op_routines program numbers behind (op.Do action.Stop) = []
 op_routines program numbers behind x = op_routine program numbers behind x ∷ []
 
 -- The routines of a block, the first of which has a number: those of its instructions, and one that fails.

@@ -1,20 +1,22 @@
 -- The numbers of the routines of code: one for each rule, from a number on, then those of its blocks. Hold it against dg_mid/specs/Code.antt.
 use Rattle.std.specs.Prelude.{ℕ, ◌+◌, List, [], ◌∷◌, length, Option, Some, None}
 use Rattle.std.specs.List.{slice_get}
+use Rattle.dg_mid.specs.declared.code.Action.TheVariants as action
 use Rattle.dg_mid.specs.declared.code.Op.{Op}
 use Rattle.dg_mid.specs.declared.code.Op.TheVariants as op
 use Rattle.dg_mid.specs.declared.code.Block.{Block}
 use Rattle.dg_mid.specs.declared.code.RuleCode.{RuleCode}
 use Rattle.dg_mid.specs.declared.code.Code.{Code}
-use Rattle.dg_rt.specs.declared.numbers.TheConstants.{DONE, FAIL, LEAVE, NONE as NO_RULE}
+use Rattle.dg_rt.specs.declared.numbers.TheConstants.{DONE, FAIL, LEAVE, NONE as NO_RULE, UNSTOP}
 use Rattle.dg_emit.specs.declared.numbers.Numbers.{Numbers}
 
 -- ## Blocks
 
--- An instruction has one routine. To answer a rule and to end a run are routines that every story has.
+-- An instruction has one routine. To answer a rule, to stop and to end a run are routines that every story has.
 abbrev pub routines_of_op : Op → ℕ
 routines_of_op op.Return = 0
 routines_of_op op.Done = 0
+routines_of_op (op.Do action.Stop) = 0
 routines_of_op x = 1
 
 -- Those of a block, and one that fails behind them.
@@ -30,6 +32,7 @@ blocks_size (block ∷ blocks) = routines_of_ops block.ops + blocks_size blocks
 abbrev pub first_of : ℕ → List Op → ℕ
 first_of number (op.Return ∷ ops) = LEAVE
 first_of number (op.Done ∷ ops) = DONE
+first_of number (op.Do action.Stop ∷ ops) = UNSTOP
 first_of number ops = number
 
 -- The first routine of each block.

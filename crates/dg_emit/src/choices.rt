@@ -1,6 +1,7 @@
 // The routines of what takes no terms: choices, inner constructs, (just), and going on.
 ghost use Rattle.std.specs.Prelude.{◌≡◌, IfOk};
 ghost use Rattle.dg_turn.specs.Choices as spec;
+ghost use Rattle.dg_turn.specs.Stopping as stopping;
 ghost use Rattle.dg_turn.specs.Turns as turns;
 ghost use Rattle.dg_turn.specs.Leaving.{just_routine};
 ghost use Rattle.dg_rt.specs.RunTime.{routine_of};
@@ -8,9 +9,12 @@ ghost use Rattle.dg_emit.specs.inside.Acts as inside;
 
 use dg_base::Items;
 use dg_rt::numbers::{COMMIT, CUT, OPEN, OPEN_INNER};
-use dg_rt::registers::{FRAME, INNER, WORD};
+use dg_rt::registers::{FRAME, INNER, STOP, WORD};
 use std::alloc::{AllocError, Global};
 use z_lang::{Act, Args, Atom, Function, Routine};
+
+/// What an inner construct keeps that gathers nothing.
+const NO_GATHERING: u16 = 65_535;
 
 // A routine of these acts.
 fn routine(alloc: Global, acts: &[Act]) -> Result<Routine, AllocError>
@@ -20,11 +24,11 @@ fn routine(alloc: Global, acts: &[Act]) -> Result<Routine, AllocError>
     Ok(Routine { locals: 0, body })
 }
 
-// A choice is opened whose other way is a routine.
-fn open(into: Option<u8>, other: u16) -> Act
-    ensures { result ≡ inside.open_act into other }
+// A choice is opened whose other way is a routine, for this gathering.
+fn open(into: Option<u8>, other: u16, gathers: u16) -> Act
+    ensures { result ≡ inside.open_act into other gathers }
 {
-    let way = Args::Three(Atom::Routine(other), Atom::Num(0), Atom::Num(0));
+    let way = Args::Three(Atom::Routine(other), Atom::Num(0), Atom::Num(gathers));
     Act::Call(into, Atom::Routine(OPEN), way)
 }
 
@@ -34,7 +38,7 @@ pub fn branch(alloc: Global, other: u16, behind: u16) -> Result<Routine, AllocEr
 {
     routine(
         alloc,
-        &[open(None, other), Act::Return(Atom::Routine(behind))],
+        &[open(None, other, 0), Act::Return(Atom::Routine(behind))],
     )
 }
 
@@ -44,8 +48,26 @@ pub fn try_first(alloc: Global, other: u16, behind: u16) -> Result<Routine, Allo
 {
     routine(
         alloc,
-        &[open(Some(INNER), other), Act::Return(Atom::Routine(behind))],
+        &[open(Some(INNER), other, NO_GATHERING), Act::Return(Atom::Routine(behind))],
     )
+}
+
+/// The same where a stoppable part begins as well.
+pub fn shield(alloc: Global, other: u16, behind: u16) -> Result<Routine, AllocError>
+    ensures { IfOk result (λ r. r ≡ stopping.shield_routine other behind) }
+{
+    let part = Act::Copy(STOP, Atom::Var(INNER));
+    let next = Act::Return(Atom::Routine(behind));
+    routine(alloc, &[open(Some(INNER), other, NO_GATHERING), part, next])
+}
+
+/// The routine that leaves a stoppable part, and goes on there.
+pub fn leave(alloc: Global, behind: u16) -> Result<Routine, AllocError>
+    ensures { IfOk result (λ r. r ≡ stopping.leave_routine behind) }
+{
+    let around = Act::Compute(STOP, Function::Word, Atom::Num(678), Atom::Var(INNER));
+    let commit = Act::Call(None, Atom::Routine(COMMIT), Args::Zero);
+    routine(alloc, &[around, commit, Act::Return(Atom::Routine(behind))])
 }
 
 // A routine that calls one without arguments, and goes on there.

@@ -5,7 +5,7 @@ ghost use Rattle.dg_turn.specs.Turns as turns;
 ghost use Rattle.dg_mid.specs.declared.code.Op.TheVariants as op;
 ghost use Rattle.dg_emit.specs.Code as spec;
 
-use crate::choices::{branch, commit, goto, just, once, try_first};
+use crate::choices::{branch, commit, goto, just, leave, once, shield, try_first};
 use crate::counting::all_of;
 use crate::numbers::{Numbers, first_of, routines_of_op};
 use crate::queries::Asked;
@@ -21,11 +21,12 @@ pub fn is_built(op: &Op) -> bool
     ensures { result ≡ spec.is_built op.now }
 {
     match op {
-        Op::Do(Action::Just) | Op::Do(Action::Fail) | Op::Do(Action::Equal(_, _)) => true,
+        Op::Do(Action::Just) | Op::Do(Action::Fail) | Op::Do(Action::Stop) => true,
+        Op::Do(Action::Equal(_, _)) => true,
         Op::Do(_) => false,
         Op::Query(_, _, _, _) | Op::LastQuery(_, _, _) | Op::Find(_, _, _, _) => false,
-        Op::Select(_, _, _, _) | Op::Shield(_) | Op::Collect(_, _, _) => false,
-        Op::TakeOut(_, _) | Op::Refuse | Op::Leave | Op::Keep(_) => false,
+        Op::Select(_, _, _, _) | Op::Collect(_, _, _) => false,
+        Op::TakeOut(_, _) | Op::Keep(_) => false,
         _ => true,
     }
 }
@@ -109,7 +110,10 @@ impl CodeWriter<'_> {
             Op::Branch(alt) | Op::Retry(alt) => branch(alloc, self.numbers.block(*alt), behind),
             Op::Once => once(alloc, behind),
             Op::Try(alt) => try_first(alloc, self.numbers.block(*alt), behind),
+            Op::Shield(alt) => shield(alloc, self.numbers.block(*alt), behind),
             Op::Commit => commit(alloc, behind),
+            Op::Refuse => commit(alloc, FAIL),
+            Op::Leave => leave(alloc, behind),
             Op::Goto(block) => goto(alloc, self.numbers.block(*block)),
             Op::Enter(vars, head) => self.enter(*vars, head.terms(), behind),
             _ => goto(alloc, FAIL),
@@ -122,7 +126,7 @@ impl CodeWriter<'_> {
         ensures { OnOk result (all.new ≡ all.old ++ spec.op_routines self.now.writer.program.now self.now.numbers.now behind op.now) }
     {
         match op {
-            Op::Return | Op::Done => Ok(()),
+            Op::Return | Op::Done | Op::Do(Action::Stop) => Ok(()),
             _ => all.push(self.op_routine(behind, op)?),
         }
     }

@@ -10,7 +10,7 @@ mod queries;
 mod rules;
 mod terms;
 
-pub use choices::{branch, commit, goto, just, once, try_first};
+pub use choices::{branch, commit, goto, just, leave, once, shield, try_first};
 pub use code::{CodeWriter, are_built, is_built};
 pub use counting::{all_of, captured, cells};
 pub use layout::{RuleWriter, put_code};

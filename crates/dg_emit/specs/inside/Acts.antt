@@ -1,5 +1,5 @@
 -- Single acts. The proofs alone rest on it.
-use Rattle.std.specs.Prelude.{ℕ, ◌+◌, ◌*◌, List, [], ◌∷◌, Option, None, Bool, true}
+use Rattle.std.specs.Prelude.{ℕ, List, [], ◌∷◌, Option, None, Bool, true}
 use Rattle.z_lang.specs.declared.act.Act.{Act}
 use Rattle.z_lang.specs.declared.act.Act.TheVariants as acts
 use Rattle.z_lang.specs.declared.act.Args.TheVariants as args
@@ -39,8 +39,8 @@ asking_acts behind many has_first rules =
     ∷ acts.Return (atoms.Routine rules) ∷ []
 
 -- A choice is opened.
-abbrev pub open_act : Option ℕ → ℕ → Act
-open_act into other = acts.Call into (atoms.Routine OPEN) (args.Three (atoms.Routine other) (atoms.Num 0) (atoms.Num 0))
+abbrev pub open_act : Option ℕ → ℕ → ℕ → Act
+open_act into other gathers = acts.Call into (atoms.Routine OPEN) (args.Three (atoms.Routine other) (atoms.Num 0) (atoms.Num gathers))
 
 -- The routine that calls one without arguments, and goes on.
 abbrev pub calling_routine : ℕ → ℕ → Routine

@@ -1,8 +1,8 @@
-use Rattle.std.proofs.Common.{rules, ◌≡◌, ◌+◌, ◌≤◌, ◌<◌, ◌∷◌, ◌++◌, [], length, sym, ◌∙◌, ap, subst, arith}
+use Rattle.std.proofs.Common.{◌+◌, ◌≤◌, sym, ◌∙◌, ap, subst, arith}
 use Rattle.dg_base.specs.declared.program.Term.{out-Term}
 use Rattle.dg_meaning.specs.Cells as spec
 use Rattle.dg_turn.specs.Terms.{capped}
-use Rattle.dg_emit.specs.inside.Left.{parts_of, left}
+use Rattle.dg_emit.specs.inside.Left.{left}
 use Rattle.dg_emit.proofs.Left.{fewer_left, cells_left, capped_both, capped_few}
 use Rattle.dg_emit.proofs.counting.cells.Goals as goal
 

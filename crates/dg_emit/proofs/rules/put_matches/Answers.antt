@@ -1,4 +1,4 @@
-use Rattle.std.proofs.Common.{◌≡◌, ◌+◌, ◌∙◌}
+use Rattle.std.proofs.Common.{◌∙◌}
 use Rattle.dg_emit.proofs.Matching.{matched_next}
 use Rattle.dg_emit.proofs.rules.put_matches.Goals as goal
 

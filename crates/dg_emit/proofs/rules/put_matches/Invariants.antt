@@ -1,4 +1,4 @@
-use Rattle.std.proofs.Common.{◌≡◌, ◌+◌, ◌-◌, ◌≤◌, ◌++◌}
+use Rattle.std.proofs.Common.{◌≡◌, ◌+◌, ◌-◌, ◌++◌}
 use Rattle.dg_turn.specs.Turns.{match_acts}
 use Rattle.dg_emit.proofs.rules.put_matches.Given as goal
 

@@ -1,4 +1,4 @@
-use Rattle.std.proofs.Common.{rules, ◌≡◌, ◌<◌, ◌∙◌, ◌++◌, ◌∷◌, [], ap, arith, subst, sym, length}
+use Rattle.std.proofs.Common.{rules, ◌<◌, ◌∙◌, ◌++◌, ◌∷◌, [], ap, subst, sym, length}
 use Rattle.z_lang.specs.declared.act.Act.{Act}
 use Rattle.dg_turn.specs.Terms.{AreCaptured}
 use Rattle.dg_emit.proofs.Nodes.{captured_next, captured_behind}

@@ -1,4 +1,4 @@
-use Rattle.std.proofs.Common.{◌≡◌, ◌+◌, ◌≤◌, ◌++◌, length}
+use Rattle.std.proofs.Common.{◌≡◌, ◌+◌, ◌++◌, length}
 use Rattle.dg_emit.specs.Numbers.{routines_of_ops}
 use Rattle.dg_emit.specs.Code.{ops_routines, OpsFit}
 use Rattle.dg_emit.proofs.code.CodeWriter.put_ops.Given as goal

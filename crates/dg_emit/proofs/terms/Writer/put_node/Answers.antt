@@ -1,4 +1,4 @@
-use Rattle.std.proofs.Common.{◌≡◌, ◌+◌, ◌≤◌, ◌∷◌, [], ap, arith}
+use Rattle.std.proofs.Common.{◌∷◌, [], ap, arith}
 use Rattle.dg_base.specs.declared.program.Term.{Term}
 use Rattle.dg_meaning.specs.Cells.{cells}
 use Rattle.dg_mid.proofs.FlatLemmas.{cells_pair}

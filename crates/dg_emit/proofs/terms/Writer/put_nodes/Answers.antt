@@ -1,4 +1,4 @@
-use Rattle.std.proofs.Common.{◌≡◌, ◌+◌, ◌≤◌, ◌<◌, ◌∙◌, arith}
+use Rattle.std.proofs.Common.{◌∙◌, arith}
 use Rattle.dg_emit.proofs.Left.{fewer_left}
 use Rattle.dg_emit.proofs.Nodes.{node_next}
 use Rattle.dg_emit.proofs.terms.Writer.put_nodes.Goals as goal
