@@ -2,7 +2,8 @@
 use Rattle.std.specs.Prelude.{◌<◌, ◌≤◌, ℕ, zero, suc, ◌+◌, ◌-◌, List, [], ◌∷◌, ◌++◌, length, take, drop, Option, Some, None, nat_lt, if◌then◌else◌}
 use Rattle.z_list.specs.declared.mark.Mark.{Mark}
 
--- A line behind the first: bytes outside marks and behind the last instruction of a mark, where a mark begins, its first byte, an instruction, where a mark ends.
+-- A line behind the first: bytes outside marks and behind the last instruction of a mark; where a mark begins; its first byte;
+-- an instruction; where a mark ends.
 pub data Line : Type 0 where
   Data : (at : ℕ) → (bytes : List ℕ) → Line
   Rule : (at : ℕ) → (pred : ℕ) → (rule : ℕ) → Line

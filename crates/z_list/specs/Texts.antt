@@ -35,7 +35,9 @@ text_if true x = operand_text x
 text_if false x = []
 
 abbrev pub operands_text : Operands → List ℕ
-operands_text o = text_if (nat_lt 0 o.count) o.first ++ (text_if (nat_lt 1 o.count) o.second ++ (text_if (nat_lt 2 o.count) o.third ++ text_if (nat_lt 3 o.count) o.fourth))
+operands_text o =
+    text_if (nat_lt 0 o.count) o.first
+    ++ (text_if (nat_lt 1 o.count) o.second ++ (text_if (nat_lt 2 o.count) o.third ++ text_if (nat_lt 3 o.count) o.fourth))
 
 -- An instruction that was decoded: its name and its operands.
 abbrev pub found_text : Result Found ZFault → List ℕ

@@ -30,10 +30,12 @@ module _ (first : List ℕ → Option ℕ) where
   Goes (Outside full) at left (Data a bs) w at' left' = (full ≡ true) × IsRow at left a bs at' left' × (w ≡ Outside (is_full bs))
   Goes (Outside full) at left (Rule a p r) w at' left' = Stays at left a at' left' × (0 < left) × (w ≡ Named)
   Goes Named at left (Locals a b) w at' left' = (a ≡ at) × (at' ≡ at + 1) × (1 + left' ≡ left) × (w ≡ Inside)
-  Goes Inside at left (Does a bs) w at' left' = (a ≡ at) × (at' ≡ at + length bs) × (length bs + left' ≡ left) × (first bs ≡ Some (length bs)) × (w ≡ Inside)
+  Goes Inside at left (Does a bs) w at' left' =
+      (a ≡ at) × (at' ≡ at + length bs) × (length bs + left' ≡ left) × (first bs ≡ Some (length bs)) × (w ≡ Inside)
   Goes Inside at left (Data a bs) w at' left' = IsRow at left a bs at' left' × (first bs ≡ None) × (w ≡ Behind (is_full bs) bs)
   Goes Inside at left (End a) w at' left' = Stays at left a at' left' × (w ≡ Outside true)
-  Goes (Behind full cs) at left (Data a bs) w at' left' = (full ≡ true) × IsRow at left a bs at' left' × (first (cs ++ bs) ≡ None) × (w ≡ Behind (is_full bs) (cs ++ bs))
+  Goes (Behind full cs) at left (Data a bs) w at' left' =
+      (full ≡ true) × IsRow at left a bs at' left' × (first (cs ++ bs) ≡ None) × (w ≡ Behind (is_full bs) (cs ++ bs))
   Goes (Behind full cs) at left (End a) w at' left' = Stays at left a at' left' × (w ≡ Outside true)
   Goes w at left l w' at' left' = ⊥
 
