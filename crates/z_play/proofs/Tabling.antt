@@ -5,9 +5,9 @@ use Rattle.z_model.specs.declared.end.OpenTable.{OpenTable}
 use Rattle.z_model.specs.Memory.{guarded, with_word, with_bytes}
 use Rattle.z_model.specs.Machine.{Machine}
 use Rattle.z_model.specs.Streams.{with_more, into_table, stream_closed}
-use Rattle.z_play.specs.declared.memory.Story.{Story}
+use Rattle.z_memory.specs.declared.memory.Story.{Story}
 use Rattle.z_play.specs.declared.engine.Engine.{Engine}
-use Rattle.z_play.specs.Story.{story_memory}
+use Rattle.z_memory.specs.Story.{story_memory}
 use Rattle.z_play.specs.inside.Effects.{into_first, into_newest}
 use Rattle.z_play.specs.View.{machine, layout_in, tables_of, Sound}
 use Rattle.z_play.proofs.Rights.{newest_is, newest_set}

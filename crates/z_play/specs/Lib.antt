@@ -1,5 +1,3 @@
-pub mod Rights
-pub mod Story
 pub mod View
 pub mod Output
 pub mod Played

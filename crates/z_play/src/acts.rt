@@ -13,8 +13,8 @@ ghost use Rattle.z_play.specs.inside.Effects.{CanFinish, GivesEffect};
 
 use crate::arith::is_less;
 use crate::engine::Engine;
-use crate::memory::{may_write_all, write_typed};
 use z_full::{Bytes, read_word, write_word};
+use z_memory::{may_write_all, write_typed};
 use z_model::{Args, Branch, Effect, ZFault};
 
 impl Engine {

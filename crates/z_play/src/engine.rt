@@ -6,7 +6,7 @@ ghost use Rattle.z_play.specs.View.{machine, layout_in, Sound, Gives, Sets, Kept
 ghost use Rattle.z_play.specs.inside.Top.{top_of};
 ghost use Rattle.z_play.specs.inside.Faults.{fault_of};
 
-use crate::memory::Story;
+use z_memory::Story;
 use z_model::{Args, OpenTable, Operand, Operands, ZFault, bytes_of, word_of};
 
 /// A routine that was called: its locals and its words stand in the stack from `base` on.

@@ -6,7 +6,6 @@ mod arith;
 mod engine;
 mod flow;
 mod laws;
-mod memory;
 mod objects;
 mod output;
 mod player;

@@ -16,7 +16,6 @@ ghost use Rattle.dg_base.specs.Causes.{HasCause, Rose};
 ghost use Rattle.dg_base.specs.Streams.{SourceView};
 
 use crate::engine::{Called, Engine};
-use crate::memory::Story;
 use crate::output::{write_code, write_line, write_number, write_text, write_unicode};
 use crate::recent::Recent;
 use crate::typed::{code_of_key, keep_codes};
@@ -26,6 +25,7 @@ use std::alloc::{AllocError, Global};
 use std::error::Error;
 use std::fmt;
 use std::marker::Model;
+use z_memory::Story;
 use z_model::{Effect, Halt, Header, Layout, OpenTable, StoryRefusal, ZEnd, ZFault, read_header};
 
 /// Why a story isn't loaded.

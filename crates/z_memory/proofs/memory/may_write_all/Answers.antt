@@ -1,8 +1,8 @@
 use Rattle.std.proofs.Common.{◌≡◌, ◌+◌, ◌-◌, ◌%◌, ◌<◌, ℕ, zero, suc, true, refl, sym, ◌∙◌, arith}
 use Rattle.z_model.specs.declared.story.Layout.{Layout}
 use Rattle.z_model.specs.Memory.{is_writable, have_right}
-use Rattle.z_play.specs.Rights.{based}
-use Rattle.z_play.proofs.memory.may_write_all.Goals as goal
+use Rattle.z_memory.specs.Rights.{based}
+use Rattle.z_memory.proofs.memory.may_write_all.Goals as goal
 
 one_more : (layout : Layout) (a n : ℕ) → 0 < n → is_writable layout a ≡ true → have_right (is_writable layout) a n ≡ have_right (is_writable layout) ((a + 1) % 65536) (n - 1)
 unfolding have_right

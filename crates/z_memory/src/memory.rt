@@ -2,7 +2,7 @@
 ghost use Rattle.std.specs.Prelude.{◌≡◌, ◌≤◌, length};
 ghost use Rattle.z_model.specs.Memory.{is_writable, have_right};
 ghost use Rattle.z_model.specs.Run.{with_line};
-ghost use Rattle.z_play.specs.Rights.{based};
+ghost use Rattle.z_memory.specs.Rights.{based};
 ghost use Rattle.z_full.specs.Calls.{Sets, SameRights};
 
 use z_full::{Bytes, write_bytes};
@@ -23,7 +23,7 @@ fn is_writable(base: u16, at: u16) -> bool
 }
 
 impl Bytes for Story {
-    ghost use Rattle.z_play.specs.Story.{story_memory};
+    ghost use Rattle.z_memory.specs.Story.{story_memory};
 
     ghost memory = { story_memory };
 
