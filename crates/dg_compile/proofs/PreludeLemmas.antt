@@ -28,7 +28,7 @@ use Rattle.dg_compile.proofs.FewLemmas.{IsReady}
 use Rattle.dg_compile.proofs.Never.{never}
 
 -- what passes a test that decides this
-from_test : {A : Type 0} (P : A → Type 0) (test : A → Bool) → ((x : A) → test x ≡ true → P x) → (xs : List A) → list_all test xs ≡ true → All P xs
+pub from_test : {A : Type 0} (P : A → Type 0) (test : A → Bool) → ((x : A) → test x ≡ true → P x) → (xs : List A) → list_all test xs ≡ true → All P xs
 from_test P test each [] e = All-nil P
 from_test P test each (x ∷ xs) e =
     let parts = and_parts (test x) (list_all test xs) e in
