@@ -4,3 +4,15 @@ pub mod Resting
 pub mod Points
 pub mod Telling
 pub mod Ops
+pub mod Beginning
+pub mod Framed
+pub mod InRules
+pub mod Leading
+pub mod Choosing
+pub mod Jumping
+pub mod Answering
+pub mod Asking
+pub mod Unifying
+pub mod Going
+pub mod Coded
+pub mod Whole

@@ -1,3 +1,7 @@
 pub mod Agrees
 pub mod Steps
+pub mod Routines
+pub mod Always
+pub mod Stands
+pub mod Whole
 pub mod inside

@@ -3,4 +3,4 @@
 
 mod laws;
 
-pub use laws::{ops_make_steps, stories_fit};
+pub use laws::{code_fits, code_leads, ops_make_steps, stories_fit};

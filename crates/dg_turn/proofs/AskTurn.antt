@@ -98,6 +98,7 @@ module _ (t : Telling) (plays : Playing t) (out : Outside) (ts : List Term) (man
         key_is = b.key;
         there = go.there;
         count = steps w1.count (suc b.count + 1) + 2;
+        some = omega arith;
         few = omega arith;
         leads = go.leads;
         looks = record {

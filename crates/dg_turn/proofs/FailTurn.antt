@@ -117,7 +117,7 @@ module _ (t : Telling) (plays : Playing t) (out : Outside) (m : Mid) (x : Choice
   to_block : (block : ℕ) → h.routine ≡ t.at_block block → Comes t out (t.at_block block) (back_at x xs m) (6 * (m.state.trail - x.state.trail) + 34) z
   to_block block e =
       let go = to_next (t.at_block block) e (subst (λ (y : ℕ). y < 65536) e word_small) in
-      record { there = go.there; count = gone.count + 2; few = few_in_all; leads = go.leads; rep = go.rep }
+      record { there = go.there; count = gone.count + 2; some = omega arith; few = few_in_all; leads = go.leads; rep = go.rep }
 
   -- to a block that takes a gathering out
   to_taking : (block : ℕ) (into : Value) → h.routine ≡ t.at_block block → Shows h.saved.sh h.next into → TakesAt t out block into (back_at x xs m) (6 * (m.state.trail - x.state.trail) + 34) z
@@ -125,7 +125,7 @@ module _ (t : Telling) (plays : Playing t) (out : Outside) (m : Mid) (x : Choice
       let go = to_next (t.at_block block) e (subst (λ (y : ℕ). y < 65536) e word_small) in
       let back : go.rep.cells 8 ≡ h.next = go.cells_are 8 (λ q. (omega arith)) ∙ gone.back ∙ field 7 (suc (suc (suc (suc (suc (suc (suc at))))))) h.next (omega arith) h.cells_are.1.1.1.1.1.1.1.0 in
       record {
-        comes = record { there = go.there; count = gone.count + 2; few = few_in_all; leads = go.leads; rep = go.rep };
+        comes = record { there = go.there; count = gone.count + 2; some = omega arith; few = few_in_all; leads = go.leads; rep = go.rep };
         into_is = subst (λ (s : Shape). Shows s (go.rep.cells 8) into) (sym go.shape_is) (subst (λ (y : ℕ). Shows h.saved.sh y into) (sym back) shows);
       }
 
@@ -158,6 +158,7 @@ module _ (t : Telling) (plays : Playing t) (out : Outside) (m : Mid) (x : Choice
           cut = let q = w.call_is.cut_is in omega (arith, named);
           there = go.there;
           count = gone.count + 2;
+          some = omega arith;
           few = few_in_all;
           leads = go.leads;
           looks = record {

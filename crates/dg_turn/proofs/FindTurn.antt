@@ -27,8 +27,8 @@ use Rattle.dg_rt.specs.Shapes.{Shape, Shows}
 use Rattle.dg_rt.proofs.Following.{tested, register}
 use Rattle.dg_turn.specs.Told.{Telling}
 use Rattle.dg_turn.specs.Lies.{WordsIn}
-use Rattle.dg_turn.specs.Plays.{Playing, Outside, registers, Comes}
-use Rattle.dg_turn.specs.Bodies.{FindsAt, fork_routine, body_routine, BodyAt, FindsBodies, no_body, one_body, two_parts, FoundBody, FindTurns}
+use Rattle.dg_turn.specs.Plays.{Playing, Outside, registers}
+use Rattle.dg_turn.specs.Bodies.{FindsAt, fork_routine, body_routine, BodyAt, FindsBodies, no_body, one_body, two_parts, FoundBody, FindsNone, FindTurns}
 use Rattle.dg_turn.proofs.Rows.{registers_same}
 use Rattle.dg_turn.proofs.Moving.{moved, moves}
 
@@ -123,10 +123,10 @@ module _ (t : Telling) (plays : Playing t) (out : Outside) (call : Call) (v : Va
 
   -- ## No body
 
-  fails_then : (d : ℕ) (z there : ZState) → Leads t.p.world 4 z there → Comes t out (t.p.names.routine FAIL) m (4 * d + 5) there → Comes t out (t.p.names.routine FAIL) m (4 * suc d + 5) z
+  fails_then : (d : ℕ) (z there : ZState) → Leads t.p.world 4 z there → FindsNone t out m (4 * d + 5) there → FindsNone t out m (4 * suc d + 5) z
   fails_then d z there leads k = let few = k.few in record { there = k.there; count = 4 + k.count; few = omega arith; leads = leads_then t.p.world 4 k.count z there k.there leads k.leads; rep = k.rep }
 
-  fails : (number place depth : ℕ) (cs : List BodyCode) → FindsBodies t number place cs depth → (z : ZState) → ((n : ℕ) (parts : Values) → n < length cs → v ≢ Node (Closure (place + n)) parts) → FindsAt t out number call v m z → Comes t out (t.p.names.routine FAIL) m (4 * depth + 5) z
+  fails : (number place depth : ℕ) (cs : List BodyCode) → FindsBodies t number place cs depth → (z : ZState) → ((n : ℕ) (parts : Values) → n < length cs → v ≢ Node (Closure (place + n)) parts) → FindsAt t out number call v m z → FindsNone t out m (4 * depth + 5) z
   fails number place depth cs (no_body _ _) z none f = record { there = z; count = 0; few = omega arith; leads = leads_none t.p.world z; rep = f.rep }
   fails number place depth cs (one_body _ _ _ c b) z none f =
       let high = plays.has.mapped.room in
@@ -134,13 +134,14 @@ module _ (t : Telling) (plays : Playing t) (out : Outside) (call : Call) (v : Va
       let s0 = state rep.memory [] out.typed out.drawn out.output in
       let here : place + 0 ≡ place = omega arith in
       let other : rep.cells 11 ≢ 49152 + place = no_closure v (rep.cells 11) place f.key_is (λ parts. subst (λ (i : ℕ). v ≢ Node (Closure i) parts) here (none 0 parts (omega arith))) in
-      moves t plays out (t.p.names.routine number) m z rep (body_routine place c.own (captured_count (slice_get t.program.closures place)) b.block) b.is (omega arith) (t.p.names.routine FAIL) 2 (4 * depth + 5) rep.memory [] rep.cells rep.sh rep.trail m
+      let k = moves t plays out (t.p.names.routine number) m z rep (body_routine place c.own (captured_count (slice_get t.program.closures place)) b.block) b.is (omega arith) (t.p.names.routine FAIL) 2 (4 * depth + 5) rep.memory [] rep.cells rep.sh rep.trail m
       (passed (tested t.p s0 comparisons.Equal (atoms.Var 27) (atoms.Num (49152 + place)) true (rep.cells 11) (49152 + place) false (register t.p s0 rep.cells 27 rep.holds (omega arith) (omega arith) (omega arith)) refl (ne_eqb (rep.cells 11) (49152 + place) other)) (returns refl))
-      rep.holds (plays.words FAIL) rep.mid (omega arith)
+      rep.holds (plays.words FAIL) rep.mid (omega arith) in
+      record { there = k.there; count = k.count; few = k.few; leads = k.leads; rep = k.rep }
   fails number place depth cs (two_parts _ left right _ d bs ds there small a b) z none f = by_test (compared comparisons.Less (f.rep.cells 11) (49152 + (place + length bs))) refl (λ y g. fails left place d bs a y (λ n parts lt. none n parts (let size = length-append bs ds in omega arith)) g)
       (λ y g. fails right (place + length bs) d ds b y (λ n parts lt e. none (length bs + n) parts (let size = length-append bs ds in omega arith) (e ∙ (let sum : place + length bs + n ≡ place + (length bs + n) = omega arith in ap (λ (i : ℕ). Node (Closure i) parts) sum))) g)
     where
-      by_test : (r : Bool) → compared comparisons.Less (f.rep.cells 11) (49152 + (place + length bs)) ≡ r → ((y : ZState) → FindsAt t out left call v m y → Comes t out (t.p.names.routine FAIL) m (4 * d + 5) y) → ((y : ZState) → FindsAt t out right call v m y → Comes t out (t.p.names.routine FAIL) m (4 * d + 5) y) → Comes t out (t.p.names.routine FAIL) m (4 * suc d + 5) z
+      by_test : (r : Bool) → compared comparisons.Less (f.rep.cells 11) (49152 + (place + length bs)) ≡ r → ((y : ZState) → FindsAt t out left call v m y → FindsNone t out m (4 * d + 5) y) → ((y : ZState) → FindsAt t out right call v m y → FindsNone t out m (4 * d + 5) y) → FindsNone t out m (4 * suc d + 5) z
       by_test true e l r = let k = forks number left right (place + length bs) z true there small f e in fails_then d z k.there k.leads (l k.there k.finds)
       by_test false e l r = let k = forks number left right (place + length bs) z false there small f e in fails_then d z k.there k.leads (r k.there k.finds)
 

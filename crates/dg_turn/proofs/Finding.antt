@@ -58,6 +58,7 @@ none_turns = record {
       record {
         there = go.there;
         count = 4;
+        some = omega arith;
         few = omega arith;
         leads = go.leads;
         rep = go.rep;
@@ -236,6 +237,7 @@ module _ (t : Telling) (plays : Playing t) (out : Outside) (r : RuleCode) (rs : 
       record {
         there = go.there;
         count = k.count + 2;
+        some = omega arith;
         few = omega arith;
         leads = go.leads;
         rep = go.rep;

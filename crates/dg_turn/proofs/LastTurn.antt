@@ -268,6 +268,7 @@ module _ (t : Telling) (plays : Playing t) (out : Outside) (ts : List Term) (man
         key_is = b.key;
         there = go.there;
         count = steps w1.count b.count + 2;
+        some = omega arith;
         few = omega arith;
         leads = go.leads;
         looks = record {

@@ -23,16 +23,13 @@ use Rattle.dg_turn.proofs.Rows.{call_stays}
 use Rattle.dg_turn.proofs.Keys.{key_tells}
 use Rattle.dg_turn.proofs.Moving.{moved}
 
-module _ (t : Telling) (plays : Playing t) (out : Outside) (call : Call) (first : Option Value) (key found : ℕ) (m : Mid) (is_key : FirstIs first key) where
-  -- an excluded rule has a key
-  never : (k : RuleCode) → label_of k.key ≡ None → excluded first k.key ≡ true → ⊥
-  never r none e = by_value first none e
-    where
-      by_value : (v : Option Value) → label_of r.key ≡ None → excluded v r.key ≡ true → ⊥
-      by_value None q e = cc
-      by_value (Some (Var x)) q e = cc
-      by_value (Some (Node f vs)) q e = absurd (let z : false ≡ true = sym (rw q refl) ∙ e in cc)
+-- an excluded rule has a key
+pub never : (first : Option Value) (r : RuleCode) → label_of r.key ≡ None → excluded first r.key ≡ true → ⊥
+never None r q e = cc
+never (Some (Var x)) r q e = cc
+never (Some (Node f vs)) r q e = absurd (let z : false ≡ true = sym (rw q refl) ∙ e in cc)
 
+module _ (t : Telling) (plays : Playing t) (out : Outside) (call : Call) (first : Option Value) (key found : ℕ) (m : Mid) (is_key : FirstIs first key) where
   -- it is passed over in one turn
   passes : (r : RuleCode) (rs : List RuleCode) (number : ℕ) (z : ZState) (g : Label) → label_of r.key ≡ Some g → excluded first r.key ≡ true → (i : RuleAt (λ n. RulesAt t (length call.args) n rs) t (length call.args) number r) → (l : LooksAt t out number call key found m z) → Selects t out rs call key found m 4 z
   passes r rs number z g labelled excludes i l =
@@ -67,7 +64,7 @@ module _ (t : Telling) (plays : Playing t) (out : Outside) (call : Call) (first 
   here r rs number z true e i l ih = by_label (label_of r.key) refl
     where
       by_label : (o : Option Label) → label_of r.key ≡ o → Selects t out (selected first rs) call key found m (4 * (1 + passed_over first rs)) z
-      by_label None q = absurd (never r q e)
+      by_label None q = absurd (never first r q e)
       by_label (Some g) q =
           let a = passes r rs number z g q e i l in
           let b = ih a.number a.there a.rules_are a.looks in

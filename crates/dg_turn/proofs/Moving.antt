@@ -62,7 +62,7 @@ module _ (t : Telling) (plays : Playing t) (out : Outside) (x : ℕ) (m : Mid) (
   pub moves : (y n most : ℕ) (memory' locals' : List ℕ) (cells' : ℕ → ℕ) (sh' : Shape) (trail' : List ℕ) (m' : Mid) → ActsRun t.p 3500 19000 body.body body.body (routine_entered (state r.memory [] out.typed out.drawn out.output) body.locals (0, 0, 0)) (Returns y) (state memory' locals' out.typed out.drawn out.output) n → Holds t.p.world.layout memory' cells' → y < 65536 → MidIn t out.words sh' cells' trail' m' → n + 2 ≤ most → Comes t out y m' most z
   moves y n most memory' locals' cells' sh' trail' m' runs holds small mid le =
       let g = moved y n memory' locals' cells' sh' trail' m' runs holds small mid in
-      record { there = g.there; count = n + 2; few = le; leads = g.leads; rep = g.rep }
+      record { there = g.there; count = n + 2; some = omega arith; few = le; leads = g.leads; rep = g.rep }
 
   -- Where they end the run, it is over.
   pub closes_within : (f w : ℕ) → f < 3600 → body.locals + w ≤ 20000 → (n most : ℕ) (ending : Ending) (memory' locals' : List ℕ) → ActsRun t.p f w body.body body.body (routine_entered (state r.memory [] out.typed out.drawn out.output) body.locals (0, 0, 0)) (Stops AtQuit) (state memory' locals' out.typed out.drawn (out.output ++ closing (r.cells 28) ending)) n → n + 1 ≤ most → Closes t out ending most z

@@ -20,6 +20,7 @@ use Rattle.dg_mid.specs.Units.{units_of, query_work, selects_at, entering, dropp
 use Rattle.dg_turn.specs.Terms.{IsNode, AreNodes, capturing, all_capturing}
 use Rattle.dg_turn.specs.Turns.{entering_most, equal_most}
 use Rattle.dg_rt.specs.Unifies.{price}
+use Rattle.dg_turn.specs.Rules.{keyed}
 use Rattle.dg_turn.specs.Queries.{asking_most}
 use Rattle.dg_turn.specs.Bodies.{querying_most, body_most}
 use Rattle.dg_turn.specs.Paid.{paid, TurnsArePaid}
@@ -44,13 +45,13 @@ enter_is_paid g ps call m vars head ops e nodes few short = let k = ap (λ (l : 
 equal_is_paid : (g : Setting) (ps : List Print) (m : Mid) (a b : Term) (ops : List Op) → m.ops ≡ op.Do (action.Equal a b) ∷ ops → AreNodes g.game.program (nodes_of (a ∷ b ∷ [])) → equal_most g.game.program a b m ≤ paid g ps (Runs m)
 equal_is_paid g ps m a b ops e nodes = let k = ap (λ (l : List Op). units_of g ps l m) e in let c = all_few g.game.program (nodes_of (a ∷ b ∷ [])) nodes in omega arith
 
-ask_is_paid : (g : Setting) (ps : List Print) (m : Mid) (pred : ℕ) (ts : List Term) (many : Bool) (next : ℕ) (rules : List RuleCode) (ops : List Op) → m.ops ≡ op.Ask pred ts many next ∷ ops → AreNodes g.game.program (nodes_of ts) → length rules ≤ 2200 → asking_most g.game.program ts m + 4 * length rules + 70 ≤ paid g ps (Runs m)
+ask_is_paid : (g : Setting) (ps : List Print) (m : Mid) (pred : ℕ) (ts : List Term) (many : Bool) (next : ℕ) (rules : List RuleCode) (ops : List Op) → m.ops ≡ op.Ask pred ts many next ∷ ops → AreNodes g.game.program (nodes_of ts) → keyed rules ≤ 2200 → asking_most g.game.program ts m + 4 * keyed rules + 70 ≤ paid g ps (Runs m)
 ask_is_paid g ps m pred ts many next rules ops e nodes few = let k = ap (λ (l : List Op). units_of g ps l m) e in let s = ap selects_at e in let c = all_few g.game.program (nodes_of ts) nodes in omega arith
 
-last_is_paid : (g : Setting) (ps : List Print) (m : Mid) (pred : ℕ) (ts : List Term) (many : Bool) (rules : List RuleCode) (ops : List Op) → m.ops ≡ op.LastAsk pred ts many ∷ ops → AreNodes g.game.program (nodes_of ts) → length rules ≤ 2200 → asking_most g.game.program ts m + 4 * length rules + 70 ≤ paid g ps (Runs m)
+last_is_paid : (g : Setting) (ps : List Print) (m : Mid) (pred : ℕ) (ts : List Term) (many : Bool) (rules : List RuleCode) (ops : List Op) → m.ops ≡ op.LastAsk pred ts many ∷ ops → AreNodes g.game.program (nodes_of ts) → keyed rules ≤ 2200 → asking_most g.game.program ts m + 4 * keyed rules + 70 ≤ paid g ps (Runs m)
 last_is_paid g ps m pred ts many rules ops e nodes few = let k = ap (λ (l : List Op). units_of g ps l m) e in let s = ap selects_at e in let c = all_few g.game.program (nodes_of ts) nodes in omega arith
 
-begin_is_paid : (g : Setting) (ps : List Print) (m : Mid) (call : Call) (rules : List RuleCode) → length rules ≤ 2200 → 4 * length rules + 70 ≤ paid g ps (Resumes (Calls call rules) m)
+begin_is_paid : (g : Setting) (ps : List Print) (m : Mid) (call : Call) (rules : List RuleCode) → keyed rules ≤ 2200 → 4 * keyed rules + 70 ≤ paid g ps (Resumes (Calls call rules) m)
 begin_is_paid g ps m call [] few = omega arith
 begin_is_paid g ps m call (r ∷ rs) few = omega arith
 

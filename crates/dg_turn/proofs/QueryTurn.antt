@@ -190,6 +190,7 @@ module _ (t : Telling) (plays : Playing t) (out : Outside) (x : ℕ) (a : Term) 
       record {
         there = go.there;
         count = steps w1.count (g.count + k.steps') + 2;
+        some = omega arith;
         few = omega arith;
         leads = go.leads;
         finds = record {

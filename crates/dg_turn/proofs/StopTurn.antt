@@ -44,7 +44,7 @@ tag_less : (t h : ℕ) (cs : List Choice) (within : List Stop) (s : Stop) (aroun
 tag_less t h cs [] s around n = n.1
 tag_less t h cs (x ∷ within) s around n = let lt = tag_less x.place.tag x.place.height cs within s around n.5 in omega (arith, lt, n.1)
 
-stop_found : (t h : ℕ) (cs : List Choice) (within : List Stop) (s : Stop) (around : List Stop) → StopsNamed t h cs (within ++ s ∷ around) → stop_to s.place.tag (within ++ s ∷ around) ≡ Some (s, around)
+pub stop_found : (t h : ℕ) (cs : List Choice) (within : List Stop) (s : Stop) (around : List Stop) → StopsNamed t h cs (within ++ s ∷ around) → stop_to s.place.tag (within ++ s ∷ around) ≡ Some (s, around)
 stop_found t h cs [] s around n = cond-true (eqb s.place.tag s.place.tag) (Some (s, around)) (stop_to s.place.tag around) (eq-eqb s.place.tag s.place.tag refl)
 stop_found t h cs (x ∷ within) s around n =
     let lt = tag_less x.place.tag x.place.height cs within s around n.5 in
@@ -234,7 +234,7 @@ stops_to g t plays out m tag part around z found ordered trails r n =
     let k = turn g t plays out m n.within n.part n.around z n.is ordered trails r n.word_is in
     let k' : Comes t out (t.at_block part.block) (stopped g part around m) (4 * dropped part.place m.choices + 6 * (m.state.trail - part.state.trail) + 20) z = subst (λ (s : Stop). Comes t out (t.at_block s.block) (stopped g s around m) (4 * dropped s.place m.choices + 6 * (m.state.trail - s.state.trail) + 20) z) one (subst (λ (ss : List Stop). Comes t out (t.at_block n.part.block) (stopped g n.part ss m) (4 * dropped n.part.place m.choices + 6 * (m.state.trail - n.part.state.trail) + 20) z) rest k) in
     let few = k'.few in
-    record { there = k'.there; count = k'.count; few = omega arith; leads = k'.leads; rep = k'.rep }
+    record { there = k'.there; count = k'.count; some = k'.some; few = omega arith; leads = k'.leads; rep = k'.rep }
 
 pub stop_turns : StopTurns
 stop_turns = record {

@@ -88,6 +88,7 @@ pub record FindsAt (t : Telling) (out : Outside) (number : ℕ) (call : Call) (v
 pub record Looks (t : Telling) (out : Outside) (number : ℕ) (call : Call) (v : Value) (m : Mid) (most : ℕ) (z : ZState) : Type 0 where
   pub there : ZState
   pub count : ℕ
+  pub some : 1 ≤ count
   pub few : count ≤ most
   pub leads : Leads t.p.world count z there
   pub finds : FindsAt t out number call v m there
@@ -178,6 +179,14 @@ pub record FoundBody (t : Telling) (out : Outside) (place : ℕ) (c : BodyCode) 
   pub leads : Leads t.p.world count z there
   pub finds : FindsAt t out number call v m there
 
+-- In so many instructions at most it fails: in none where the program has no closures.
+pub record FindsNone (t : Telling) (out : Outside) (m : Mid) (most : ℕ) (z : ZState) : Type 0 where
+  pub there : ZState
+  pub count : ℕ
+  pub few : count ≤ most
+  pub leads : Leads t.p.world count z there
+  pub rep : Represented t out (t.p.names.routine FAIL) m there
+
 -- The body is found, in 4 instructions a step; without one it fails.
 pub record FindTurns : Type 0 where
   pub finds : (t : Telling) → Playing t → (out : Outside) (number place depth : ℕ) (cs : List BodyCode) → FindsBodies t number place cs depth →
@@ -187,7 +196,7 @@ pub record FindTurns : Type 0 where
   pub fails : (t : Telling) → Playing t → (out : Outside) (number place depth : ℕ) (cs : List BodyCode) → FindsBodies t number place cs depth →
       (call : Call) (v : Value) (m : Mid) (z : ZState) →
       ((n : ℕ) (parts : Values) → n < length cs → v ≢ Node (Closure (place + n)) parts) → FindsAt t out number call v m z →
-      Comes t out (t.p.names.routine FAIL) m (4 * depth + 5) z
+      FindsNone t out m (4 * depth + 5) z
 
 -- ## Entering
 

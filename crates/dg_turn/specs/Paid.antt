@@ -16,6 +16,7 @@ use Rattle.dg_mid.specs.Step.{Setting, values, asked_by}
 use Rattle.dg_mid.specs.Units.{units, selects, dropped, dropped_once, undone, unwound}
 use Rattle.dg_turn.specs.Terms.{AreNodes}
 use Rattle.dg_turn.specs.Turns.{entering_most, equal_most}
+use Rattle.dg_turn.specs.Rules.{keyed}
 use Rattle.dg_turn.specs.Queries.{asking_most}
 use Rattle.dg_turn.specs.Bodies.{querying_most, body_most}
 
@@ -23,7 +24,7 @@ use Rattle.dg_turn.specs.Bodies.{querying_most, body_most}
 abbrev pub paid : Setting → List Print → Status → ℕ
 paid g ps now = 800 * units g ps now + 9000 * selects now
 
--- The costs of a rule of at most 300 variables and 12 parameters, of an equation, of a query of at most 2,200 rules, of going on with as many, of going
+-- The costs of a rule of at most 300 variables and 12 parameters, of an equation, of a query of at most 2,200 rules that have a key, of going on with as many, of going
 -- back, of leaving an inner construct or a stoppable part, of opening a choice with or without one, of stopping, and of answering a rule, as the turns
 -- have them, are paid for.
 pub record TurnsArePaid : Type 0 where
@@ -33,13 +34,13 @@ pub record TurnsArePaid : Type 0 where
   pub equal : (g : Setting) (ps : List Print) (m : Mid) (a b : Term) (ops : List Op) → m.ops ≡ op.Do (action.Equal a b) ∷ ops →
       AreNodes g.game.program (nodes_of (a ∷ b ∷ [])) → equal_most g.game.program a b m ≤ paid g ps (Runs m)
   pub ask : (g : Setting) (ps : List Print) (m : Mid) (pred : ℕ) (ts : List Term) (many : Bool) (next : ℕ) (rules : List RuleCode) (ops : List Op) →
-      m.ops ≡ op.Ask pred ts many next ∷ ops → AreNodes g.game.program (nodes_of ts) → length rules ≤ 2200 →
-      asking_most g.game.program ts m + 4 * length rules + 70 ≤ paid g ps (Runs m)
+      m.ops ≡ op.Ask pred ts many next ∷ ops → AreNodes g.game.program (nodes_of ts) → keyed rules ≤ 2200 →
+      asking_most g.game.program ts m + 4 * keyed rules + 70 ≤ paid g ps (Runs m)
   pub last_ask : (g : Setting) (ps : List Print) (m : Mid) (pred : ℕ) (ts : List Term) (many : Bool) (rules : List RuleCode) (ops : List Op) →
-      m.ops ≡ op.LastAsk pred ts many ∷ ops → AreNodes g.game.program (nodes_of ts) → length rules ≤ 2200 →
-      asking_most g.game.program ts m + 4 * length rules + 70 ≤ paid g ps (Runs m)
-  pub begin : (g : Setting) (ps : List Print) (m : Mid) (call : Call) (rules : List RuleCode) → length rules ≤ 2200 →
-      4 * length rules + 70 ≤ paid g ps (Resumes (Calls call rules) m)
+      m.ops ≡ op.LastAsk pred ts many ∷ ops → AreNodes g.game.program (nodes_of ts) → keyed rules ≤ 2200 →
+      asking_most g.game.program ts m + 4 * keyed rules + 70 ≤ paid g ps (Runs m)
+  pub begin : (g : Setting) (ps : List Print) (m : Mid) (call : Call) (rules : List RuleCode) → keyed rules ≤ 2200 →
+      4 * keyed rules + 70 ≤ paid g ps (Resumes (Calls call rules) m)
   pub fail : (g : Setting) (ps : List Print) (m : Mid) → 6 * undone m.choices m + 34 ≤ paid g ps (Fails m)
   pub commit : (g : Setting) (ps : List Print) (m : Mid) (place : Place) (places : List Place) (ops : List Op) → m.ops ≡ op.Commit ∷ ops →
       m.inner ≡ place ∷ places → 4 * dropped place m.choices + 15 ≤ paid g ps (Runs m)

@@ -77,6 +77,7 @@ CallAt t sh cells call = CallIn t sh (registers cells args_reg (length call.args
 pub record Comes (t : Telling) (out : Outside) (next : ℕ) (m : Mid) (most : ℕ) (z : ZState) : Type 0 where
   pub there : ZState
   pub count : ℕ
+  pub some : 1 ≤ count
   pub few : count ≤ most
   pub leads : Leads t.p.world count z there
   pub rep : Represented t out next m there

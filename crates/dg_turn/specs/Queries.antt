@@ -29,7 +29,7 @@ use Rattle.dg_turn.specs.Told.{Telling, FirstIs, RulesAt}
 use Rattle.dg_turn.specs.Lies.{bit_of}
 use Rattle.dg_turn.specs.Plays.{Playing, Outside, Represented, Closes}
 use Rattle.dg_turn.specs.Terms.{terms_acts, AreNodes, written_in}
-use Rattle.dg_turn.specs.Rules.{LooksAt, BegunTo, behind_first}
+use Rattle.dg_turn.specs.Rules.{LooksAt, keyed, BegunTo, behind_first}
 
 -- ## Asking
 
@@ -64,6 +64,7 @@ pub record AskedAt (t : Telling) (out : Outside) (number : ℕ) (call : Call) (f
   pub key_is : FirstIs first key
   pub there : ZState
   pub count : ℕ
+  pub some : 1 ≤ count
   pub few : count ≤ most
   pub leads : Leads t.p.world count z there
   pub looks : LooksAt t out number call key 0 m there
@@ -99,7 +100,7 @@ AskBegins = (t : Telling) → Playing t → ((b : ℕ) → t.at_block b ≢ 0) �
     let first = first_of m.state.subst call in
     let found = selected first rules in
     BegunTo t out call found (behind_first first found) (more (cells t.program ts) m)
-    (asking_most t.program ts m + 4 * length rules + 70) z
+    (asking_most t.program ts m + 4 * keyed rules + 70) z
 
 -- ## Going back
 
@@ -112,6 +113,7 @@ pub record GoneBack (t : Telling) (out : Outside) (rules : List RuleCode) (call 
   pub key_is : FirstIs first key
   pub there : ZState
   pub count : ℕ
+  pub some : 1 ≤ count
   pub few : count ≤ most
   pub leads : Leads t.p.world count z there
   pub looks : LooksAt t out number call key 0 m there
@@ -133,7 +135,7 @@ FailBegins = (t : Telling) → Playing t → ((b : ℕ) → t.at_block b ≢ 0) 
     let first = first_of x.state.subst call in
     let found = selected first rules in
     BegunTo t out call found (behind_first first found) (back_at x xs m)
-    (6 * undone m.choices m + 4 * length rules + 104) z
+    (6 * undone m.choices m + 4 * keyed rules + 104) z
 
 -- Without a choice the run has failed: its line ends it.
 abbrev pub FailEnds : Type 0

@@ -1,10 +1,10 @@
 -- Rules that are looked at by what a first argument is, as turns. Hold it against dg_mid/specs/Code.antt, "Selection", and `begins` of
 -- dg_mid/specs/Step.antt.
-use Rattle.std.specs.Prelude.{◌≡◌, ◌≢◌, ℕ, ◌+◌, ◌*◌, ◌<◌, ◌≤◌, List, [], ◌∷◌, length, Option, false, if◌then◌else◌}
+use Rattle.std.specs.Prelude.{◌≡◌, ◌≢◌, ℕ, ◌+◌, ◌*◌, ◌<◌, ◌≤◌, List, [], ◌∷◌, length, Option, Some, None, false, if◌then◌else◌}
 use Rattle.dg_base.specs.declared.run.Ending.TheVariants.{HeapLimit}
-use Rattle.dg_meaning.specs.Values.{Value}
+use Rattle.dg_meaning.specs.Values.{Label, Value}
 use Rattle.dg_mid.specs.declared.code.RuleCode.{RuleCode}
-use Rattle.dg_mid.specs.Code.{excluded, selected}
+use Rattle.dg_mid.specs.Code.{label_of, excluded, selected}
 use Rattle.dg_mid.specs.State.{Call, Calls, Mid}
 use Rattle.dg_mid.specs.Step.{inside, first_of}
 use Rattle.z_model.specs.Run.{ZState}
@@ -36,6 +36,15 @@ pub record Selects (t : Telling) (out : Outside) (rules : List RuleCode) (call :
   pub leads : Leads t.p.world count z there
   pub looks : LooksAt t out number call key found m there
 
+-- How many of some rules have a key: no others are ever excluded.
+abbrev pub one_if_key : Option Label → ℕ
+one_if_key None = 0
+one_if_key (Some f) = 1
+
+abbrev pub keyed : List RuleCode → ℕ
+keyed [] = 0
+keyed (r ∷ rs) = one_if_key (label_of r.key) + keyed rs
+
 -- How many rules are excluded before the first that isn't.
 abbrev pub passed_over : Option Value → List RuleCode → ℕ
 passed_over first [] = 0
@@ -54,6 +63,7 @@ SelectTurns = (t : Telling) → Playing t → (out : Outside) (rules : List Rule
 pub record EntersAt (t : Telling) (out : Outside) (next : ℕ) (call : Call) (m : Mid) (most : ℕ) (z : ZState) : Type 0 where
   pub there : ZState
   pub count : ℕ
+  pub some : 1 ≤ count
   pub few : count ≤ most
   pub leads : Leads t.p.world count z there
   pub rep : Represented t out next m there
@@ -106,11 +116,11 @@ abbrev pub behind_first : Option Value → List RuleCode → List RuleCode
 behind_first first [] = []
 behind_first first (r ∷ rs) = selected first rs
 
--- So it is where rules are looked at and none was found before, in 4 instructions a rule and 70: `begins` of dg_mid/specs/Step.antt.
+-- So it is where rules are looked at and none was found before, in 4 instructions a rule that has a key and 70: `begins` of dg_mid/specs/Step.antt.
 abbrev pub BeginTurns : Type 0
 BeginTurns = (t : Telling) → Playing t → ((b : ℕ) → t.at_block b ≢ 0) → (out : Outside) (rules : List RuleCode) (number : ℕ) (call : Call)
     (key : ℕ) (m : Mid) (z : ZState) → RulesAt t (length call.args) number rules → FirstIs (first_of m.state.subst call) key →
     call.cut.height ≡ m.state.heap → (l : LooksAt t out number call key 0 m z) →
     let first = first_of m.state.subst call in
     let found = selected first rules in
-    BegunTo t out call found (behind_first first found) m (4 * length rules + 70) z
+    BegunTo t out call found (behind_first first found) m (4 * keyed rules + 70) z

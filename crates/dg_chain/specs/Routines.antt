@@ -1,0 +1,117 @@
+-- The routines of a story's code: one for each instruction that has one so far, and where it goes on. Hold it against dg_mid/specs/Codes.antt and `does`
+-- of dg_mid/specs/Step.antt.
+use Rattle.std.specs.Prelude.{◌≡◌, ◌≢◌, ℕ, ◌≤◌, List, [], ◌∷◌, length, Some, Bool}
+use Rattle.dg_base.specs.declared.program.Term.{Term}
+use Rattle.dg_meaning.specs.Cells.{nodes_of}
+use Rattle.dg_mid.specs.declared.code.Action.TheVariants as action
+use Rattle.dg_mid.specs.declared.code.Code.{Code}
+use Rattle.dg_mid.specs.declared.code.Op.{Op}
+use Rattle.dg_mid.specs.declared.code.Op.TheVariants as op
+use Rattle.dg_mid.specs.Code.{block_at, rules_at}
+use Rattle.z_lang.specs.declared.act.Routine.{Routine}
+use Rattle.dg_rt.specs.declared.numbers.TheConstants.{DONE, FAIL, LEAVE, UNSTOP}
+use Rattle.dg_turn.specs.Told.{Telling, RulesAt}
+use Rattle.dg_turn.specs.Terms.{AreNodes}
+use Rattle.dg_turn.specs.Turns.{enter_routine, equal_routine, goto_routine, commit_routine}
+use Rattle.dg_turn.specs.Queries.{asking_routine}
+use Rattle.dg_turn.specs.LastQueries.{last_routine}
+use Rattle.dg_turn.specs.Choices.{branch_routine, try_routine, once_routine}
+use Rattle.dg_turn.specs.Leaving.{just_routine}
+use Rattle.dg_turn.specs.Rules.{keyed}
+use Rattle.dg_turn.specs.Stopping.{shield_routine, leave_routine}
+
+-- ## One instruction
+
+-- Its routine goes on at another one, where the code behind it stands.
+pub record GoesOn (behind_is : ℕ → Type 0) (t : Telling) (x : ℕ) (routine : ℕ → Routine) : Type 0 where
+  pub behind : ℕ
+  pub is : t.p.routine_at x ≡ Some (routine behind)
+  pub next : behind_is (t.p.names.routine behind)
+
+-- So does that of a choice, which goes on with a block where it is gone back to.
+pub record Opens (behind_is : ℕ → Type 0) (t : Telling) (x : ℕ) (routine : ℕ → ℕ → Routine) (block : ℕ) : Type 0 where
+  pub alt : ℕ
+  pub alt_is : t.p.names.routine alt ≡ t.at_block block
+  pub goes : GoesOn behind_is t x (routine alt)
+
+-- So does that of an equation, whose terms are those of a story.
+pub record Unifies (behind_is : ℕ → Type 0) (t : Telling) (x : ℕ) (a b : Term) : Type 0 where
+  pub goes : GoesOn behind_is t x (equal_routine t.program a b)
+  pub nodes : AreNodes t.program (nodes_of (a ∷ b ∷ []))
+
+-- So does the first of a rule, of no more than 300 variables and 12 terms in its head.
+pub record Enters (behind_is : ℕ → Type 0) (t : Telling) (x vars : ℕ) (head : List Term) : Type 0 where
+  pub goes : GoesOn behind_is t x (enter_routine t.program vars head)
+  pub few_vars : vars ≤ 300
+  pub short : length head ≤ 12
+  pub nodes : AreNodes t.program (nodes_of head)
+
+-- The rules of a predicate stand from a number on, for queries of so many arguments, no more than 12.
+pub record RulesFrom (t : Telling) (code : Code) (arguments number pred : ℕ) : Type 0 where
+  pub short : arguments ≤ 12
+  pub rules_are : RulesAt t arguments number (rules_at code pred)
+
+-- A query goes on at a block, behind the rules of its predicate.
+pub record Asks (t : Telling) (code : Code) (x pred : ℕ) (terms : List Term) (many : Bool) (next : ℕ) : Type 0 where
+  pub behind : ℕ
+  pub number : ℕ
+  pub is : t.p.routine_at x ≡ Some (asking_routine t.program terms behind many number)
+  pub goes : t.p.names.routine behind ≡ t.at_block next
+  pub rules : RulesFrom t code (length terms) number pred
+  pub nodes : AreNodes t.program (nodes_of terms)
+
+-- The last of a rule goes on where the rule does, or at block 0.
+pub record AsksLast (t : Telling) (code : Code) (x pred : ℕ) (terms : List Term) (many : Bool) : Type 0 where
+  pub end : ℕ
+  pub number : ℕ
+  pub is : t.p.routine_at x ≡ Some (last_routine t.program terms end many number)
+  pub end_is : t.p.names.routine end ≡ t.at_block 0
+  pub rules : RulesFrom t code (length terms) number pred
+  pub nodes : AreNodes t.program (nodes_of terms)
+
+-- A jump goes on at a block.
+pub record Jumps (t : Telling) (x block : ℕ) : Type 0 where
+  pub next : ℕ
+  pub is : t.p.routine_at x ≡ Some (goto_routine next)
+  pub next_is : t.p.names.routine next ≡ t.at_block block
+
+-- What fails goes on at the routine that goes back.
+abbrev pub FailsAt : Telling → ℕ → Type 0
+FailsAt t x = t.p.routine_at x ≡ Some (goto_routine FAIL)
+
+-- ## Code
+
+-- The routine of an instruction stands at an address, and what is said of the one behind it. The other instructions have no routines yet.
+abbrev pub OpAt : (ℕ → Type 0) → Telling → Code → ℕ → Op → Type 0
+OpAt behind_is t code x (op.Do action.Just) = GoesOn behind_is t x just_routine
+OpAt behind_is t code x (op.Do (action.Equal a b)) = Unifies behind_is t x a b
+OpAt behind_is t code x (op.Do action.Fail) = FailsAt t x
+OpAt behind_is t code x (op.Do action.Stop) = x ≡ t.p.names.routine UNSTOP
+OpAt behind_is t code x (op.Do a) = ⊥
+OpAt behind_is t code x (op.Ask pred terms many next) = Asks t code x pred terms many next
+OpAt behind_is t code x (op.LastAsk pred terms many) = AsksLast t code x pred terms many
+OpAt behind_is t code x op.Take = GoesOn behind_is t x goto_routine
+OpAt behind_is t code x (op.Branch alt) = Opens behind_is t x branch_routine alt
+OpAt behind_is t code x op.Once = GoesOn behind_is t x once_routine
+OpAt behind_is t code x (op.Try alt) = Opens behind_is t x try_routine alt
+OpAt behind_is t code x (op.Shield alt) = Opens behind_is t x shield_routine alt
+OpAt behind_is t code x (op.Retry alt) = Opens behind_is t x branch_routine alt
+OpAt behind_is t code x op.Commit = GoesOn behind_is t x commit_routine
+OpAt behind_is t code x op.Leave = GoesOn behind_is t x leave_routine
+OpAt behind_is t code x op.Back = FailsAt t x
+OpAt behind_is t code x op.Return = x ≡ t.p.names.routine LEAVE
+OpAt behind_is t code x (op.Goto b) = Jumps t x b
+OpAt behind_is t code x (op.Enter vars head) = Enters behind_is t x vars head
+OpAt behind_is t code x op.Done = t.p.routine_at x ≡ Some (goto_routine DONE)
+OpAt behind_is t code x other = ⊥
+
+-- The routines of some instructions: the first stands at an address, and each goes on at the next one; the last fails.
+abbrev pub OpsAt : Telling → Code → ℕ → List Op → Type 0
+OpsAt t code x [] = FailsAt t x
+OpsAt t code x (o ∷ ops) = OpAt (λ y. OpsAt t code y ops) t code x o
+
+-- The code of each block stands where the block does, which is somewhere; no predicate has more than 2,200 rules that have a key.
+pub record BlocksAt (t : Telling) (code : Code) : Type 0 where
+  pub each : (b : ℕ) → OpsAt t code (t.at_block b) (block_at code b)
+  pub some : (b : ℕ) → t.at_block b ≢ 0
+  pub few : (pred : ℕ) → keyed (rules_at code pred) ≤ 2200
