@@ -51,7 +51,7 @@ module _ (t : Telling) (plays : Playing t) (code : Code) (blocks : BlocksAt t co
       silently t code dice ps m rest z (op.Ask pred terms many next) e _ (cost ps m) refl
       (charged_leads t code dice 1 (omega arith) ps s.printed n m' (asks set pred (call_of (values set m' terms) many next (more n m')) (more n m')) (cost ps m) z s.at.rep.mid.state.few
       (λ room. begun_leads t code dice 1 (omega arith) ps s.printed blocks call (more n m) rest room (selected (first_of m.state.subst call) rules) _ (cost ps m) z
-          (turns_are_paid.ask set ps m pred terms many next rules rest e a.nodes (blocks.few pred)) (ask_begins t plays blocks.some out terms many next a.number rules m z a.rules.rules_are room at))
+      (turns_are_paid.ask set ps m pred terms many next rules rest e a.nodes (blocks.few pred)) (ask_begins t plays blocks.some out terms many next a.number rules m z a.rules.rules_are room at))
       (λ over. finishes t code dice 1 (omega arith) ps s.printed ending.HeapLimit (10 + closing_most) (cost ps m) z (λ q. (cc)) (omega arith) (ask_turns.meets t plays out terms many next a.number m z at over)))
 
   -- ## The last of a rule

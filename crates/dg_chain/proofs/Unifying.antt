@@ -73,9 +73,9 @@ module _ (t : Telling) (plays : Playing t) (code : Code) (dice : List ℕ) where
       silently t code dice ps m rest z x e _ cost refl
       (charged_leads t code dice 1 (omega arith) ps s.printed n (record m { ops = rest }) (done set (act_at set.game [] (action.Equal a b) m') m') cost z s.at.rep.mid.state.few
       (λ room. subst (λ (next : Status). Lead t code dice 1 ps next cost z) (sym now)
-          (unified_leads t code dice 1 (omega arith) ps s.printed u m' (Runs (bound u m')) cost z
-          (λ few. agreed_leads ps s.printed o.goes.behind u.agrees (bound u (more n m)) (bound u m') (bound u m') most cost z refl refl o.goes.next fits (equal_turns.unifies t plays out a b o.goes.behind m z at room few))
-          (λ over. finishes t code dice 1 (omega arith) ps s.printed ending.TrailLimit (most + closing_most) cost z (λ q. (cc)) (omega arith) (equal_turns.meets_trail t plays out a b o.goes.behind m z at room over))))
+      (unified_leads t code dice 1 (omega arith) ps s.printed u m' (Runs (bound u m')) cost z
+      (λ few. agreed_leads ps s.printed o.goes.behind u.agrees (bound u (more n m)) (bound u m') (bound u m') most cost z refl refl o.goes.next fits (equal_turns.unifies t plays out a b o.goes.behind m z at room few))
+      (λ over. finishes t code dice 1 (omega arith) ps s.printed ending.TrailLimit (most + closing_most) cost z (λ q. (cc)) (omega arith) (equal_turns.meets_trail t plays out a b o.goes.behind m z at room over))))
       (λ over. finishes t code dice 1 (omega arith) ps s.printed ending.HeapLimit (10 + closing_most) cost z (λ q. (cc)) (omega arith) (equal_turns.meets_heap t plays out a b o.goes.behind m z at over)))
 
   -- ## A rule
@@ -117,8 +117,8 @@ module _ (t : Telling) (plays : Playing t) (code : Code) (dice : List ℕ) where
         let inside : Mid = record (bound u taken) { frames = new_frame call w.vars m' ∷ m.frames; inner = [] } in
         charged_leads t code dice 1 (omega arith) ps s.printed n m' (unified set u taken (Runs inside)) cost z s.at.rep.mid.state.few
         (λ room. unified_leads t code dice 1 (omega arith) ps s.printed u taken (Runs inside) cost z
-            (λ few. agreed_leads ps s.printed o.goes.behind u.agrees (entered t.program call w.vars w.head u m) inside (bound u taken) most cost z refl refl o.goes.next le (enter_turns.enters t plays out call w.vars w.head o.goes.behind m z at room few))
-            (λ over. finishes t code dice 1 (omega arith) ps s.printed ending.TrailLimit (most + closing_most) cost z (λ q. (cc)) (omega arith) (enter_turns.meets_trail t plays out call w.vars w.head o.goes.behind m z at room over)))
+        (λ few. agreed_leads ps s.printed o.goes.behind u.agrees (entered t.program call w.vars w.head u m) inside (bound u taken) most cost z refl refl o.goes.next le (enter_turns.enters t plays out call w.vars w.head o.goes.behind m z at room few))
+        (λ over. finishes t code dice 1 (omega arith) ps s.printed ending.TrailLimit (most + closing_most) cost z (λ q. (cc)) (omega arith) (enter_turns.meets_trail t plays out call w.vars w.head o.goes.behind m z at room over)))
         (λ over. finishes t code dice 1 (omega arith) ps s.printed ending.HeapLimit (10 + closing_most) cost z (λ q. (cc)) (omega arith) (enter_turns.meets_heap t plays out call w.vars w.head o.goes.behind m z at o.few_vars over))
 
   pub enters_lead : (ps : List Print) (call : Call) (m : Mid) (z : ZState) → Always code (EntersNow call m) → Stands t code ps (EntersNow call m) z → Lead t code dice 1 ps (enters_now set call m.ops m) (step_cost set ps (EntersNow call m)) z

@@ -48,7 +48,10 @@ pub fn try_first(alloc: Global, other: u16, behind: u16) -> Result<Routine, Allo
 {
     routine(
         alloc,
-        &[open(Some(INNER), other, NO_GATHERING), Act::Return(Atom::Routine(behind))],
+        &[
+            open(Some(INNER), other, NO_GATHERING),
+            Act::Return(Atom::Routine(behind)),
+        ],
     )
 }
 

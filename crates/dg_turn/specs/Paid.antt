@@ -24,7 +24,8 @@ use Rattle.dg_turn.specs.Bodies.{querying_most, body_most}
 abbrev pub paid : Setting → List Print → Status → ℕ
 paid g ps now = 800 * units g ps now + 9000 * selects now
 
--- The costs of a rule of at most 300 variables and 12 parameters, of an equation, of a query of at most 2,200 rules that have a key, of going on with as many, of going
+--
+      The costs of a rule of at most 300 variables and 12 parameters, of an equation, of a query of at most 2,200 rules that have a key, of going on with as many, of going
 -- back, of leaving an inner construct or a stoppable part, of opening a choice with or without one, of stopping, and of answering a rule, as the turns
 -- have them, are paid for.
 pub record TurnsArePaid : Type 0 where
