@@ -24,10 +24,9 @@ use Rattle.dg_turn.specs.Bodies.{querying_most, body_most}
 abbrev pub paid : Setting → List Print → Status → ℕ
 paid g ps now = 800 * units g ps now + 9000 * selects now
 
---
-      The costs of a rule of at most 300 variables and 12 parameters, of an equation, of a query of at most 2,200 rules that have a key, of going on with as many, of going
--- back, of leaving an inner construct or a stoppable part, of opening a choice with or without one, of stopping, and of answering a rule, as the turns
--- have them, are paid for.
+-- The costs of a rule of at most 300 variables and 12 parameters, of an equation, of a query of at most 2,200 rules that have a key, of going on with
+-- as many, of going back, of leaving an inner construct or a stoppable part, of opening a choice with or without one, of stopping, and of answering a
+-- rule, as the turns have them, are paid for.
 pub record TurnsArePaid : Type 0 where
   pub enter : (g : Setting) (ps : List Print) (call : Call) (m : Mid) (vars : ℕ) (head : List Term) (ops : List Op) →
       m.ops ≡ op.Enter vars head ∷ ops → AreNodes g.game.program (nodes_of head) → vars ≤ 300 → length head ≤ 12 →
