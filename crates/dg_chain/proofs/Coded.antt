@@ -16,6 +16,7 @@ use Rattle.dg_chain.proofs.Jumping.{take_leads, goto_leads, back_leads, fail_lea
 use Rattle.dg_chain.proofs.Answering.{just_leads, return_leads}
 use Rattle.dg_chain.proofs.Asking.{ask_leads, last_leads}
 use Rattle.dg_chain.proofs.Unifying.{equal_leads, enters_lead}
+use Rattle.dg_chain.proofs.Querying.{query_leads, last_query_leads}
 use Rattle.dg_chain.proofs.Going.{resumes_lead, fails_lead}
 
 module _ (t : Telling) (plays : Playing t) (code : Code) (blocks : BlocksAt t code) (dice : List ℕ) where
@@ -50,8 +51,8 @@ module _ (t : Telling) (plays : Playing t) (code : Code) (blocks : BlocksAt t co
   op_leads (op.Do a) = act_leads a
   op_leads (op.Ask pred terms many next) = ask_leads t plays code blocks dice pred terms many next
   op_leads (op.LastAsk pred terms many) = last_leads t plays code blocks dice pred terms many
-  op_leads (op.Query a b many next) = none_leads (op.Query a b many next) (λ b y h. h)
-  op_leads (op.LastQuery a b many) = none_leads (op.LastQuery a b many) (λ b y h. h)
+  op_leads (op.Query a b many next) = query_leads t plays code blocks dice a b many next
+  op_leads (op.LastQuery a b many) = last_query_leads t plays code blocks dice a b many
   op_leads (op.Find place terms many next) = none_leads (op.Find place terms many next) (λ b y h. h)
   op_leads op.Take = take_leads t plays code blocks dice
   op_leads (op.Branch alt) = branch_leads t plays code dice alt

@@ -13,6 +13,7 @@ pub mod Jumping
 pub mod Answering
 pub mod Asking
 pub mod Unifying
+pub mod Querying
 pub mod Going
 pub mod Coded
 pub mod Whole

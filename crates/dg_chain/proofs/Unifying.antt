@@ -38,7 +38,7 @@ module _ (t : Telling) (plays : Playing t) (code : Code) (dice : List ℕ) where
   set = story_setting t code dice
 
   -- Where values agree it goes on, and else it fails.
-  agreed_leads : (ps : List Print) (w : Printed ps) (behind : ℕ) (b : Bool) (m m' m2 : Mid) (most all : ℕ) (z : ZState) → Alike m m' → Alike m (record m2 { frames = m.frames; inner = m.inner }) → OpsAt t code (t.p.names.routine behind) m'.ops → most ≤ all → ComesTo t w.out (agreed_next t.p behind b) m most z →
+  pub agreed_leads : (ps : List Print) (w : Printed ps) (behind : ℕ) (b : Bool) (m m' m2 : Mid) (most all : ℕ) (z : ZState) → Alike m m' → Alike m (record m2 { frames = m.frames; inner = m.inner }) → OpsAt t code (t.p.names.routine behind) m'.ops → most ≤ all → ComesTo t w.out (agreed_next t.p behind b) m most z →
       Lead t code dice 1 ps (if_agreed b m2 (Runs m')) all z
   agreed_leads ps w behind true m m' m2 most all z h f ops le k = led_runs t code dice 1 (omega arith) ps w (t.p.names.routine behind) m m' most all z h ops le k
   agreed_leads ps w behind false m m' m2 most all z h f ops le k = led_fails t code dice 1 (omega arith) ps w m m2 most all z f le k

@@ -1,7 +1,8 @@
 -- The routines of a story's code: one for each instruction that has one so far, and where it goes on. Hold it against dg_mid/specs/Codes.antt and `does`
 -- of dg_mid/specs/Step.antt.
-use Rattle.std.specs.Prelude.{◌≡◌, ◌≢◌, ℕ, ◌≤◌, List, [], ◌∷◌, length, Some, Bool}
+use Rattle.std.specs.Prelude.{◌≡◌, ◌≢◌, ℕ, ◌≤◌, List, [], ◌∷◌, length, Option, Some, Bool}
 use Rattle.dg_base.specs.declared.program.Term.{Term}
+use Rattle.dg_base.specs.Goals.{option_terms}
 use Rattle.dg_meaning.specs.Cells.{nodes_of}
 use Rattle.dg_mid.specs.declared.code.Action.TheVariants as action
 use Rattle.dg_mid.specs.declared.code.Code.{Code}
@@ -18,6 +19,7 @@ use Rattle.dg_turn.specs.LastQueries.{last_routine}
 use Rattle.dg_turn.specs.Choices.{branch_routine, try_routine, once_routine}
 use Rattle.dg_turn.specs.Leaving.{just_routine}
 use Rattle.dg_turn.specs.Rules.{keyed}
+use Rattle.dg_turn.specs.Bodies.{query_routine, last_query_routine, FindsBodies}
 use Rattle.dg_turn.specs.Stopping.{shield_routine, leave_routine}
 
 -- ## One instruction
@@ -69,6 +71,30 @@ pub record AsksLast (t : Telling) (code : Code) (x pred : ℕ) (terms : List Ter
   pub rules : RulesFrom t code (length terms) number pred
   pub nodes : AreNodes t.program (nodes_of terms)
 
+-- The routine of a number finds the bodies of all closures, each in at most 14 steps.
+pub record FindsAll (t : Telling) (code : Code) (number : ℕ) : Type 0 where
+  pub depth : ℕ
+  pub few : depth ≤ 14
+  pub finds : FindsBodies t number 0 code.closures depth
+
+-- A query of a closure goes on at a block, behind the routine that finds its body.
+pub record Queries (t : Telling) (code : Code) (x : ℕ) (a : Term) (b : Option Term) (many : Bool) (next : ℕ) : Type 0 where
+  pub behind : ℕ
+  pub find : ℕ
+  pub is : t.p.routine_at x ≡ Some (query_routine t.program a b behind many find)
+  pub goes : t.p.names.routine behind ≡ t.at_block next
+  pub all : FindsAll t code find
+  pub nodes : AreNodes t.program (nodes_of (a ∷ option_terms b))
+
+-- The last of a rule goes on where the rule does, or at block 0.
+pub record QueriesLast (t : Telling) (code : Code) (x : ℕ) (a : Term) (b : Option Term) (many : Bool) : Type 0 where
+  pub end : ℕ
+  pub find : ℕ
+  pub is : t.p.routine_at x ≡ Some (last_query_routine t.program a b end many find)
+  pub end_is : t.p.names.routine end ≡ t.at_block 0
+  pub all : FindsAll t code find
+  pub nodes : AreNodes t.program (nodes_of (a ∷ option_terms b))
+
 -- A jump goes on at a block.
 pub record Jumps (t : Telling) (x block : ℕ) : Type 0 where
   pub next : ℕ
@@ -90,6 +116,8 @@ OpAt behind_is t code x (op.Do action.Stop) = x ≡ t.p.names.routine UNSTOP
 OpAt behind_is t code x (op.Do a) = ⊥
 OpAt behind_is t code x (op.Ask pred terms many next) = Asks t code x pred terms many next
 OpAt behind_is t code x (op.LastAsk pred terms many) = AsksLast t code x pred terms many
+OpAt behind_is t code x (op.Query a b many next) = Queries t code x a b many next
+OpAt behind_is t code x (op.LastQuery a b many) = QueriesLast t code x a b many
 OpAt behind_is t code x op.Take = GoesOn behind_is t x goto_routine
 OpAt behind_is t code x (op.Branch alt) = Opens behind_is t x branch_routine alt
 OpAt behind_is t code x op.Once = GoesOn behind_is t x once_routine

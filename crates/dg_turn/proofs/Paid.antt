@@ -110,6 +110,12 @@ last_query_is_paid g ps m a b many ops c captured call depth e asked args nodes 
     let n = all_few g.game.program (nodes_of (a ∷ option_terms b)) nodes in
     omega arith
 
+unasked_is_paid : (g : Setting) (ps : List Print) (m : Mid) (a : Term) (b : Option Term) (many : Bool) (next : ℕ) (ops : List Op) (depth : ℕ) → m.ops ≡ op.Query a b many next ∷ ops → AreNodes g.game.program (nodes_of (a ∷ option_terms b)) → depth ≤ 14 → querying_most g.game.program a b m + 4 * depth + 30 ≤ paid g ps (Runs m)
+unasked_is_paid g ps m a b many next ops depth e nodes few = let k = ap (λ (l : List Op). units_of g ps l m) e in let n = all_few g.game.program (nodes_of (a ∷ option_terms b)) nodes in omega arith
+
+last_unasked_is_paid : (g : Setting) (ps : List Print) (m : Mid) (a : Term) (b : Option Term) (many : Bool) (ops : List Op) (depth : ℕ) → m.ops ≡ op.LastQuery a b many ∷ ops → AreNodes g.game.program (nodes_of (a ∷ option_terms b)) → depth ≤ 14 → querying_most g.game.program a b m + 4 * depth + 30 ≤ paid g ps (Runs m)
+last_unasked_is_paid g ps m a b many ops depth e nodes few = let k = ap (λ (l : List Op). units_of g ps l m) e in let n = all_few g.game.program (nodes_of (a ∷ option_terms b)) nodes in omega arith
+
 pub turns_are_paid : TurnsArePaid
 turns_are_paid = record {
   enter = λ g ps call m vars head ops e nodes few short. enter_is_paid g ps call m vars head ops e nodes few short;
@@ -130,4 +136,6 @@ turns_are_paid = record {
   just = λ g ps m f fs ops e i. just_is_paid g ps m f fs ops e i;
   query = λ g ps m a b many next ops c captured call depth e asked args nodes own few. query_is_paid g ps m a b many next ops c captured call depth e asked args nodes own few;
   last_query = λ g ps m a b many ops c captured call depth e asked args nodes own few. last_query_is_paid g ps m a b many ops c captured call depth e asked args nodes own few;
+  unasked = λ g ps m a b many next ops depth e nodes few. unasked_is_paid g ps m a b many next ops depth e nodes few;
+  last_unasked = λ g ps m a b many ops depth e nodes few. last_unasked_is_paid g ps m a b many ops depth e nodes few;
 }

@@ -24,9 +24,9 @@ use Rattle.dg_turn.specs.Bodies.{querying_most, body_most}
 abbrev pub paid : Setting → List Print → Status → ℕ
 paid g ps now = 800 * units g ps now + 9000 * selects now
 
--- The costs of a rule of at most 300 variables and 12 parameters, of an equation, of a query of at most 2,200 rules that have a key, of going on with
--- as many, of going back, of leaving an inner construct or a stoppable part, of opening a choice with or without one, of stopping, and of answering a
--- rule, as the turns have them, are paid for.
+-- The costs of a rule of at most 300 variables and 12 parameters, of an equation, of a query of at most 2,200 rules that have a key, of going on with as
+-- many, of going back, of leaving an inner construct or a stoppable part, of opening a choice with or without one, of stopping, of answering a rule, and
+-- of a query of a closure or of what is none, as the turns have them, are paid for.
 pub record TurnsArePaid : Type 0 where
   pub enter : (g : Setting) (ps : List Print) (call : Call) (m : Mid) (vars : ℕ) (head : List Term) (ops : List Op) →
       m.ops ≡ op.Enter vars head ∷ ops → AreNodes g.game.program (nodes_of head) → vars ≤ 300 → length head ≤ 12 →
@@ -66,3 +66,9 @@ pub record TurnsArePaid : Type 0 where
       (captured : List Value) (call : Call) (depth : ℕ) → m.ops ≡ op.LastQuery a b many ∷ ops → asked_by g a m ≡ Some (ToBody c captured) →
       call.args ≡ values g m (option_terms b) → AreNodes g.game.program (nodes_of (a ∷ option_terms b)) → c.own ≤ 300 → depth ≤ 14 →
       querying_most g.game.program a b m + 4 * depth + body_most g.game.program captured c.own call m ≤ paid g ps (Runs m)
+  pub unasked : (g : Setting) (ps : List Print) (m : Mid) (a : Term) (b : Option Term) (many : Bool) (next : ℕ) (ops : List Op) (depth : ℕ) →
+      m.ops ≡ op.Query a b many next ∷ ops → AreNodes g.game.program (nodes_of (a ∷ option_terms b)) → depth ≤ 14 →
+      querying_most g.game.program a b m + 4 * depth + 30 ≤ paid g ps (Runs m)
+  pub last_unasked : (g : Setting) (ps : List Print) (m : Mid) (a : Term) (b : Option Term) (many : Bool) (ops : List Op) (depth : ℕ) →
+      m.ops ≡ op.LastQuery a b many ∷ ops → AreNodes g.game.program (nodes_of (a ∷ option_terms b)) → depth ≤ 14 →
+      querying_most g.game.program a b m + 4 * depth + 30 ≤ paid g ps (Runs m)
