@@ -11,7 +11,7 @@ use Rattle.dg_mid.specs.declared.code.RuleCode.{RuleCode}
 use Rattle.dg_mid.specs.declared.code.Code.{Code}
 use Rattle.dg_mid.specs.Code.{block_at, label_of}
 use Rattle.z_lang.specs.declared.act.Routine.{Routine}
-use Rattle.dg_rt.specs.declared.numbers.TheConstants.{FAIL}
+use Rattle.dg_rt.specs.declared.numbers.TheConstants.{DONE, FAIL}
 use Rattle.dg_rt.specs.RunTime.{routine_of}
 use Rattle.dg_turn.specs.Told.{rule_acts, KeyFits}
 use Rattle.dg_turn.specs.Terms.{AreNodes}
@@ -72,13 +72,13 @@ op_routine program numbers behind op.Commit = commit_routine behind
 op_routine program numbers behind op.Refuse = commit_routine FAIL
 op_routine program numbers behind op.Leave = leave_routine behind
 op_routine program numbers behind (op.Goto block) = goto_routine (block_number numbers block)
+op_routine program numbers behind op.Done = goto_routine DONE
 op_routine program numbers behind (op.Enter vars head) = enter_routine program vars head behind
 op_routine program numbers behind other = goto_routine FAIL
 
 -- The routines of an instruction: its own, or none where every story has it.
 abbrev pub op_routines : CoreProgram → Numbers → ℕ → Op → List Routine
 op_routines program numbers behind op.Return = []
-op_routines program numbers behind op.Done = []
 op_routines program numbers behind (op.Do action.Stop) = []
 op_routines program numbers behind x = op_routine program numbers behind x ∷ []
 

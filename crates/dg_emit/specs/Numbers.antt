@@ -7,15 +7,14 @@ use Rattle.dg_mid.specs.declared.code.Op.TheVariants as op
 use Rattle.dg_mid.specs.declared.code.Block.{Block}
 use Rattle.dg_mid.specs.declared.code.RuleCode.{RuleCode}
 use Rattle.dg_mid.specs.declared.code.Code.{Code}
-use Rattle.dg_rt.specs.declared.numbers.TheConstants.{DONE, FAIL, LEAVE, NONE as NO_RULE, UNSTOP}
+use Rattle.dg_rt.specs.declared.numbers.TheConstants.{FAIL, LEAVE, NONE as NO_RULE, UNSTOP}
 use Rattle.dg_emit.specs.declared.numbers.Numbers.{Numbers}
 
 -- ## Blocks
 
--- An instruction has one routine. To answer a rule, to stop and to end a run are routines that every story has.
+-- An instruction has one routine. To answer a rule and to stop are routines that every story has.
 abbrev pub routines_of_op : Op → ℕ
 routines_of_op op.Return = 0
-routines_of_op op.Done = 0
 routines_of_op (op.Do action.Stop) = 0
 routines_of_op x = 1
 
@@ -31,7 +30,6 @@ blocks_size (block ∷ blocks) = routines_of_ops block.ops + blocks_size blocks
 -- The routine with which some instructions begin, where their own ones begin with a number.
 abbrev pub first_of : ℕ → List Op → ℕ
 first_of number (op.Return ∷ ops) = LEAVE
-first_of number (op.Done ∷ ops) = DONE
 first_of number (op.Do action.Stop ∷ ops) = UNSTOP
 first_of number ops = number
 

@@ -12,7 +12,7 @@ use crate::queries::Asked;
 use crate::terms::Writer;
 use dg_base::{Items, Term};
 use dg_mid::{Action, Block, Op};
-use dg_rt::numbers::FAIL;
+use dg_rt::numbers::{DONE, FAIL};
 use std::alloc::AllocError;
 use z_lang::Routine;
 
@@ -115,6 +115,7 @@ impl CodeWriter<'_> {
             Op::Refuse => commit(alloc, FAIL),
             Op::Leave => leave(alloc, behind),
             Op::Goto(block) => goto(alloc, self.numbers.block(*block)),
+            Op::Done => goto(alloc, DONE),
             Op::Enter(vars, head) => self.enter(*vars, head.terms(), behind),
             _ => goto(alloc, FAIL),
         }
@@ -126,7 +127,7 @@ impl CodeWriter<'_> {
         ensures { OnOk result (all.new ≡ all.old ++ spec.op_routines self.now.writer.program.now self.now.numbers.now behind op.now) }
     {
         match op {
-            Op::Return | Op::Done | Op::Do(Action::Stop) => Ok(()),
+            Op::Return | Op::Do(Action::Stop) => Ok(()),
             _ => all.push(self.op_routine(behind, op)?),
         }
     }

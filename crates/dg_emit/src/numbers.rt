@@ -5,7 +5,7 @@ ghost use Rattle.dg_emit.specs.declared.numbers.NumberFault.TheVariants.{TooMany
 
 use dg_base::Items;
 use dg_mid::{Action, Block, Code, Op, RuleCode};
-use dg_rt::numbers::{DONE, FAIL, LEAVE, NONE, UNSTOP};
+use dg_rt::numbers::{FAIL, LEAVE, NONE, UNSTOP};
 use std::alloc::{AllocError, Global};
 
 /// Why code has no numbers: its routines are more than there are numbers, or memory is short.
@@ -61,7 +61,7 @@ pub fn routines_of_op(op: &Op) -> u16
     ensures few { result ≤ 1 }
 {
     match op {
-        Op::Return | Op::Done | Op::Do(Action::Stop) => 0,
+        Op::Return | Op::Do(Action::Stop) => 0,
         _ => 1,
     }
 }
@@ -72,7 +72,6 @@ pub fn first_of(number: u16, ops: &[Op]) -> u16
 {
     match ops {
         [Op::Return, ..] => LEAVE,
-        [Op::Done, ..] => DONE,
         [Op::Do(Action::Stop), ..] => UNSTOP,
         _ => number,
     }
