@@ -1,14 +1,13 @@
 -- Where lines that were read can't go on, the next line is the first bad one.
-use Rattle.std.proofs.Common.{◌≡◌, ℕ, zero, suc, ◌+◌, ◌-◌, ◌<◌, ◌≤◌, List, [], ◌∷◌, ◌++◌, length, All, Option, Some, None, refl, sym, ap, subst, ◌∙◌, arith, append_assoc}
-use Rattle.std.specs.Prelude.{Bool, true, false, flat_map}
+use Rattle.std.proofs.Common.{◌≡◌, ℕ, suc, ◌+◌, ◌-◌, ◌≤◌, List, [], ◌∷◌, ◌++◌, length, Option, Some, None, refl, sym, ap, subst, ◌∙◌, arith, append_assoc}
+use Rattle.std.specs.Prelude.{true}
 use Rattle.std.specs.Option.{option_map}
 use Rattle.std.proofs.lemmas.List.{append-nil}
-use Rattle.z_list.specs.declared.mark.Mark.{Mark}
 use Rattle.z_list.specs.Listing.{Line, AreMarks, lines}
-use Rattle.z_list.specs.Texts.{line_text, texts, story_line, first_length, listed}
-use Rattle.z_list.specs.Reads.{IsMark, IsListing, BeginsListing, first_lines, Begin, IsBadAt}
-use Rattle.z_list.specs.inside.Lines.{Where, Outside, Goes, IsOutside, Accepts, Comes}
-use Rattle.z_list.specs.inside.Held.{bytes_of, bytes_in, HaveNumbers, IsFit, AreFit}
+use Rattle.z_list.specs.Texts.{line_text, texts, story_line, first_length}
+use Rattle.z_list.specs.Reads.{IsListing, BeginsListing, first_lines, Begin, IsBadAt}
+use Rattle.z_list.specs.inside.Lines.{Where, Outside, IsOutside, Accepts}
+use Rattle.z_list.specs.inside.Held.{bytes_of, bytes_in, HaveNumbers, AreFit}
 use Rattle.z_list.specs.inside.Read.{first_clamped, IsStuck, IsNext, Stands}
 use Rattle.z_list.proofs.Instructions.{Small, small_nil, small_append, asked}
 use Rattle.z_list.proofs.Same.{lines_same}
@@ -17,8 +16,8 @@ use Rattle.z_list.proofs.Complete.{joins}
 use Rattle.z_list.proofs.Sounds.{sound}
 use Rattle.z_list.proofs.Written.{texts_append}
 use Rattle.z_list.proofs.OneStory.{lined, follows, count_same}
-use Rattle.z_list.proofs.GoesOn.{Onward, read_onward}
-use Rattle.z_list.proofs.Clear.{IsLine, story_is_line, line_is_line, next_line, next_lines, HasLine, first_one, lines_same_text, line_some}
+use Rattle.z_list.proofs.GoesOn.{read_onward}
+use Rattle.z_list.proofs.Clear.{story_is_line, line_is_line, next_line, next_lines, HasLine, first_one, lines_same_text, line_some}
 
 fit_small : (ls : List Line) → AreFit ls → Small (bytes_of ls)
 fit_small [] f = small_nil

@@ -1,7 +1,6 @@
 -- No line has a newline before its end.
-use Rattle.std.proofs.Common.{◌≡◌, ℕ, zero, suc, ◌+◌, ◌-◌, ◌/◌, ◌%◌, ◌<◌, ◌≤◌, ◌^◌, List, [], ◌∷◌, ◌++◌, length, All, Option, Some, None, Result, Ok, Err, refl, sym, ap, subst, ◌∙◌, arith, append_assoc}
+use Rattle.std.proofs.Common.{◌≡◌, ℕ, zero, suc, ◌+◌, ◌/◌, ◌%◌, ◌<◌, ◌≤◌, ◌^◌, List, [], ◌∷◌, ◌++◌, length, Option, Some, None, Result, Ok, Err, refl, sym, ap, subst, ◌∙◌, arith, append_assoc}
 use Rattle.std.specs.Prelude.{nat_lt, ◌==◌, Bool, true, false, if◌then◌else◌, codes, decimal}
-use Rattle.std.proofs.lemmas.List.{append-nil}
 use Rattle.z_model.specs.declared.fault.ZFault.{ZFault}
 use Rattle.z_model.specs.declared.op.Operand.{Operand}
 use Rattle.z_model.specs.declared.op.Operand.TheVariants as operands
@@ -23,9 +22,9 @@ use Rattle.z_model.specs.Names.{name_of_two, name_of_one, name_of_zero, name_of_
 use Rattle.z_model.specs.Table.{player_rows}
 use Rattle.z_model.specs.Decode.{op_at}
 use Rattle.z_list.specs.Listing.{Line, Data, Rule, Locals, Does, End}
-use Rattle.z_list.specs.Texts.{hex_digit, spaced, all_spaced, operand_text, text_if, operands_text, found_text, newline, story_line, line_text}
-use Rattle.z_list.specs.inside.Held.{place_in, IsFit}
-use Rattle.z_list.specs.inside.Numbers.{IsDigit, AreDigits}
+use Rattle.z_list.specs.Texts.{hex_digit, spaced, all_spaced, text_if, operands_text, found_text, newline, story_line, line_text}
+use Rattle.z_list.specs.inside.Held.{IsFit}
+use Rattle.z_list.specs.inside.Numbers.{AreDigits}
 use Rattle.std.specs.Option.{option_map}
 use Rattle.z_model.specs.Spelling.{FitsType, type_if, types_in}
 use Rattle.z_model.proofs.SoughtForms.{instruction_found}

@@ -1,11 +1,10 @@
 -- What is listed is read, and what was read goes on.
-use Rattle.std.proofs.Common.{◌≡◌, ◌≢◌, ℕ, zero, suc, ◌+◌, ◌-◌, ◌<◌, ◌≤◌, List, [], ◌∷◌, ◌++◌, length, take, drop, Option, Some, None, inl, inr, refl, sym, ap, subst, ◌∙◌, arith, append_assoc}
+use Rattle.std.proofs.Common.{◌≡◌, ℕ, zero, suc, ◌+◌, ◌-◌, ◌<◌, ◌≤◌, List, [], ◌∷◌, ◌++◌, length, take, drop, Option, Some, None, refl, sym, ap, subst, ◌∙◌, arith, append_assoc}
 use Rattle.std.specs.Prelude.{nat_lt, Bool, true, false, if◌then◌else◌}
-use Rattle.std.proofs.lemmas.List.{append-nil, length-append, length_push, take_at, drop_at, length-take-le, length-drop, take-append-drop}
-use Rattle.std.proofs.lemmas.Bool.{cases_eq}
-use Rattle.z_list.specs.Listing.{Line, Data, Rule, Locals, Does, End, AreMarks, last_row, rows, by_first, instructions, marked, lines}
+use Rattle.std.proofs.lemmas.List.{append-nil, length_push, length-take-le, length-drop, take-append-drop}
+use Rattle.z_list.specs.Listing.{Line, Data, Rule, Locals, Does, End, AreMarks, rows, by_first, instructions, marked, lines}
 use Rattle.z_list.specs.declared.mark.Mark.{Mark}
-use Rattle.z_list.specs.inside.Lines.{Where, Outside, Named, Inside, Behind, is_full, IsRow, Goes, IsOutside, Accepts, Comes, AreInstructions, IsListed}
+use Rattle.z_list.specs.inside.Lines.{Where, Outside, Named, Inside, Behind, is_full, Goes, Accepts, Comes, AreInstructions}
 use Rattle.z_list.proofs.Sound.{bool}
 
 -- a mark that has begun has a byte left

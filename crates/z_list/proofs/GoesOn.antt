@@ -1,16 +1,15 @@
 -- What was read goes on, by lines of a story.
-use Rattle.std.proofs.Common.{◌≡◌, ℕ, zero, suc, ◌+◌, ◌-◌, ◌<◌, ◌≤◌, List, [], ◌∷◌, ◌++◌, length, take, drop, All, Option, refl, sym, ap, subst, ◌∙◌, arith}
-use Rattle.std.specs.Prelude.{Bool, true, false}
-use Rattle.std.proofs.lemmas.List.{append-nil, length-drop}
+use Rattle.std.proofs.Common.{ℕ, zero, suc, ◌+◌, List, [], ◌∷◌, ◌++◌, length, Option, refl, sym, ap, subst, ◌∙◌, arith}
+use Rattle.std.specs.Prelude.{true, false}
+use Rattle.std.proofs.lemmas.List.{append-nil}
 use Rattle.std.proofs.lemmas.List.Elements.{All-nil}
-use Rattle.z_list.specs.declared.mark.Mark.{Mark}
-use Rattle.z_list.specs.Listing.{Line, Data, Rule, Locals, Does, End, AreMarks, rows, instructions, marked, lines}
+use Rattle.z_list.specs.Listing.{Line, Rule, Locals, End, instructions, lines}
 use Rattle.z_list.specs.Reads.{IsMark}
 use Rattle.z_list.specs.inside.Lines.{Where, Outside, Named, Inside, Behind, Accepts, Comes, AreInstructions}
-use Rattle.z_list.specs.inside.Held.{bytes_of, HaveNumbers, AreFit}
+use Rattle.z_list.specs.inside.Held.{bytes_of, HaveNumbers}
 use Rattle.z_list.proofs.Instructions.{Small, small_nil, small_cons}
-use Rattle.z_list.proofs.Complete.{listed_read, instructions_read, joins, Holds, comes_holds, zeros, zeros_len}
-use Rattle.z_list.proofs.Held.{lines_bytes, lines_numbers, instructions_bytes, instructions_numbers, bytes_append, numbers_append, numbers_rest, numbers_back}
+use Rattle.z_list.proofs.Complete.{listed_read, instructions_read, Holds, comes_holds, zeros, zeros_len}
+use Rattle.z_list.proofs.Held.{lines_bytes, lines_numbers, instructions_bytes, instructions_numbers, numbers_append}
 
 small_zeros : (n : ℕ) → Small (zeros n)
 small_zeros zero = small_nil

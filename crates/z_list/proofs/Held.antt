@@ -1,14 +1,14 @@
 -- The lines of a listing hold the bytes of its story and the numbers of its marks.
 use Rattle.std.proofs.Common.{◌≡◌, ℕ, zero, suc, ◌+◌, ◌-◌, ◌<◌, ◌≤◌, List, [], ◌∷◌, ◌++◌, length, take, drop, All, Option, Some, None, refl, sym, ap, subst, ◌∙◌, arith, append_assoc}
 use Rattle.std.specs.Prelude.{nat_lt, Bool, true, false, if◌then◌else◌}
-use Rattle.std.proofs.lemmas.List.{append-nil, length-append, length-drop, length-take-le, drop-drop}
+use Rattle.std.proofs.lemmas.List.{append-nil, length-drop, length-take-le, drop-drop}
 use Rattle.std.proofs.lemmas.List.{take-append-drop}
 use Rattle.std.proofs.lemmas.List.Elements.{All-nil, All-cons, All-head, All-tail}
 use Rattle.z_list.specs.declared.mark.Mark.{Mark}
-use Rattle.z_list.specs.Listing.{Line, Data, Rule, Locals, Does, End, AreMarks, last_row, rows, by_first, instructions, marked, lines}
+use Rattle.z_list.specs.Listing.{Line, Data, End, AreMarks, rows, by_first, instructions, marked, lines}
 use Rattle.z_list.specs.Reads.{IsMark}
 use Rattle.z_list.specs.inside.Lines.{AreInstructions}
-use Rattle.z_list.specs.inside.Held.{bytes_in, bytes_of, HasNumbers, HaveNumbers}
+use Rattle.z_list.specs.inside.Held.{bytes_in, bytes_of, HaveNumbers}
 
 pub bytes_append : (xs ys : List Line) → bytes_of (xs ++ ys) ≡ bytes_of xs ++ bytes_of ys
 bytes_append [] ys = refl

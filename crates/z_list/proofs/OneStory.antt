@@ -1,12 +1,12 @@
 -- A text that is a listing is one of lines that are accepted; what it begins with was read so, and it has one story.
-use Rattle.std.proofs.Common.{◌≡◌, ℕ, ◌+◌, ◌<◌, ◌≤◌, ◌^◌, List, [], ◌∷◌, ◌++◌, length, All, Option, refl, sym, ap, subst, ◌∙◌, arith, append_assoc}
-use Rattle.std.specs.Prelude.{Bool, true, false, codes, decimal}
+use Rattle.std.proofs.Common.{◌≡◌, ℕ, ◌+◌, ◌≤◌, List, [], ◌∷◌, ◌++◌, length, refl, sym, ap, subst, ◌∙◌, arith, append_assoc}
+use Rattle.std.specs.Prelude.{true, codes, decimal}
 use Rattle.std.proofs.lemmas.List.{append-nil, append_cancel_left}
 use Rattle.z_list.specs.Listing.{Line, AreMarks, lines}
-use Rattle.z_list.specs.Texts.{line_text, texts, story_line, first_length}
+use Rattle.z_list.specs.Texts.{line_text, texts, story_line}
 use Rattle.z_list.specs.Reads.{IsListing}
-use Rattle.z_list.specs.inside.Lines.{Where, Outside, Goes, IsOutside, Accepts, Comes}
-use Rattle.z_list.specs.inside.Held.{bytes_of, place_in, IsFit, AreFit}
+use Rattle.z_list.specs.inside.Lines.{Where, Outside, Goes, Accepts, Comes}
+use Rattle.z_list.specs.inside.Held.{bytes_of, place_in, AreFit}
 use Rattle.z_list.specs.inside.Read.{first_clamped}
 use Rattle.z_list.proofs.Instructions.{Small, asked}
 use Rattle.z_list.proofs.Same.{lines_same}
@@ -14,7 +14,7 @@ use Rattle.z_list.proofs.Held.{lines_bytes, lines_numbers}
 use Rattle.z_list.proofs.Complete.{listed_read}
 use Rattle.z_list.proofs.TextLemmas.{story_open, numbers_same, newline_no_digit, tails}
 use Rattle.z_list.proofs.OneLine.{one_line, no_line}
-use Rattle.z_list.proofs.Turns.{goes_place, goes_same, accepts_fit, Ended, accepts_comes}
+use Rattle.z_list.proofs.Turns.{goes_place, goes_same, accepts_fit, accepts_comes}
 
 -- the lines of a listing
 pub record Lined (text story : List ℕ) : Type 0 where

@@ -1,8 +1,8 @@
 -- Rows of sixteen bytes.
-use Rattle.std.proofs.Common.{◌≡◌, ◌≢◌, ℕ, zero, suc, ◌+◌, ◌-◌, ◌<◌, ◌≤◌, List, [], ◌∷◌, ◌++◌, length, Option, Some, None, inl, inr, refl, sym, ap, subst, ◌∙◌, arith, append_assoc}
+use Rattle.std.proofs.Common.{◌≡◌, ℕ, ◌+◌, ◌<◌, List, [], ◌∷◌, ◌++◌, length, refl, sym, ap, ◌∙◌, arith, append_assoc}
 use Rattle.std.specs.Prelude.{nat_lt, Bool, true, false, if◌then◌else◌}
-use Rattle.std.proofs.lemmas.List.{append-nil, length-append, length_push}
-use Rattle.z_list.specs.Listing.{Line, Data, Rule, Locals, Does, End, last_row, rows}
+use Rattle.std.proofs.lemmas.List.{append-nil, length_push}
+use Rattle.z_list.specs.Listing.{Data, last_row, rows}
 
 push : (row : List ℕ) (b : ℕ) (bs : List ℕ) → row ++ b ∷ bs ≡ (row ++ b ∷ []) ++ bs
 push row b bs = sym (append_assoc row (b ∷ []) bs)

@@ -1,12 +1,12 @@
 -- Lines of bytes are the same where numbers are taken as bytes; the instructions of a mark, one after another.
-use Rattle.std.proofs.Common.{◌≡◌, ℕ, zero, suc, ◌+◌, ◌-◌, ◌<◌, ◌≤◌, List, [], ◌∷◌, ◌++◌, length, take, drop, All, Option, Some, None, Ok, Err, Result, refl, sym, ap, subst, ◌∙◌, arith}
+use Rattle.std.proofs.Common.{◌≡◌, ℕ, zero, suc, ◌+◌, ◌-◌, ◌<◌, ◌≤◌, List, [], ◌∷◌, ◌++◌, length, take, drop, Option, Some, None, Ok, Err, refl, sym, ap, ◌∙◌, arith}
 use Rattle.std.proofs.lemmas.List.{length-drop}
 use Rattle.z_model.specs.declared.fault.ZFault.{ZFault}
 use Rattle.z_model.specs.declared.op.Found.{Found}
 use Rattle.z_model.specs.Table.{player_rows}
 use Rattle.z_model.specs.Decode.{op_at}
 use Rattle.z_list.specs.declared.mark.Mark.{Mark}
-use Rattle.z_list.specs.Listing.{Line, Data, Rule, Locals, Does, End, rows, by_first, instructions, marked, lines}
+use Rattle.z_list.specs.Listing.{Line, Rule, Locals, Does, End, rows, by_first, instructions, marked, lines}
 use Rattle.z_list.specs.Texts.{end_of, first_length}
 use Rattle.z_list.specs.inside.Read.{first_clamped}
 use Rattle.z_list.proofs.Instructions.{Small, small_take, small_drop, small_tail, first_same, asked, found_some, found_within}

@@ -1,10 +1,10 @@
 -- What is read is listed.
-use Rattle.std.proofs.Common.{◌≡◌, ◌≢◌, ℕ, zero, suc, ◌+◌, ◌-◌, ◌<◌, ◌≤◌, List, [], ◌∷◌, ◌++◌, length, take, drop, Option, Some, None, inl, inr, refl, sym, ap, subst, ◌∙◌, arith, append_assoc}
-use Rattle.std.specs.Prelude.{nat_lt, Bool, true, false, if◌then◌else◌}
-use Rattle.std.proofs.lemmas.List.{append-nil, length-append, length_push, take_at, drop_at}
-use Rattle.z_list.specs.Listing.{Line, Data, Rule, Locals, Does, End, AreMarks, last_row, rows, by_first, instructions, marked, lines}
+use Rattle.std.proofs.Common.{◌≡◌, ℕ, zero, suc, ◌+◌, ◌-◌, ◌<◌, ◌≤◌, List, [], ◌∷◌, ◌++◌, length, take, drop, Option, None, refl, sym, ap, ◌∙◌, arith}
+use Rattle.std.specs.Prelude.{Bool, true, false}
+use Rattle.std.proofs.lemmas.List.{append-nil, take_at}
+use Rattle.z_list.specs.Listing.{Line, Data, Locals, End, AreMarks, last_row, rows, instructions, marked, lines}
 use Rattle.z_list.specs.declared.mark.Mark.{Mark}
-use Rattle.z_list.specs.inside.Lines.{Where, Outside, Named, Inside, Behind, is_full, IsRow, Goes, IsOutside, Accepts, AreInstructions}
+use Rattle.z_list.specs.inside.Lines.{Where, Outside, Named, Inside, Behind, is_full, AreInstructions}
 use Rattle.z_list.proofs.Rows.{full_row, short_row}
 
 pub take_past : {A : Type 0} (n : ℕ) (xs ys : List A) → length xs ≤ n → take n (xs ++ ys) ≡ xs ++ take (n - length xs) ys

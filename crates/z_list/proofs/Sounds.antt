@@ -1,12 +1,12 @@
 -- What is read is listed: line by line.
-use Rattle.std.proofs.Common.{◌≡◌, ◌≢◌, ℕ, zero, suc, ◌+◌, ◌-◌, ◌<◌, ◌≤◌, List, [], ◌∷◌, ◌++◌, length, take, drop, Option, Some, None, inl, inr, refl, sym, ap, subst, ◌∙◌, arith, append_assoc}
-use Rattle.std.specs.Prelude.{nat_lt, Bool, true, false, if◌then◌else◌}
-use Rattle.std.proofs.lemmas.List.{append-nil, length-append, length_push, take_at, drop_at}
-use Rattle.z_list.specs.Listing.{Line, Data, Rule, Locals, Does, End, AreMarks, last_row, rows, by_first, instructions, marked, lines}
+use Rattle.std.proofs.Common.{◌≡◌, ℕ, zero, suc, ◌+◌, ◌-◌, ◌<◌, ◌≤◌, List, [], ◌∷◌, ◌++◌, length, take, drop, Option, Some, None, refl, sym, ap, subst, ◌∙◌, arith, append_assoc}
+use Rattle.std.specs.Prelude.{Bool, true, false}
+use Rattle.std.proofs.lemmas.List.{append-nil, length-append, take_at, drop_at}
+use Rattle.z_list.specs.Listing.{Line, Data, Rule, Locals, Does, End, AreMarks, rows, by_first, instructions, marked, lines}
 use Rattle.z_list.specs.declared.mark.Mark.{Mark}
-use Rattle.z_list.specs.inside.Lines.{Where, Outside, Named, Inside, Behind, is_full, IsRow, Goes, IsOutside, Accepts, AreInstructions, IsListed}
+use Rattle.z_list.specs.inside.Lines.{Where, Outside, Named, Inside, Behind, is_full, IsRow, Accepts, AreInstructions}
 use Rattle.z_list.proofs.Rows.{full_row, short_row}
-use Rattle.z_list.proofs.Sound.{Empty, AreMarksFrom, last_one, is_row, is_short, bool, full_front, short_front, Stretch, Mine, Left, Begun, Claim, Fine}
+use Rattle.z_list.proofs.Sound.{AreMarksFrom, last_one, is_row, is_short, bool, full_front, short_front, Stretch, Mine, Left, Begun, Claim, Fine}
 
 marks_back : (a b e e' : ℕ) (ms : List Mark) → b ≤ a → e ≡ e' → AreMarks a e ms → AreMarks b e' ms
 marks_back a b e e' [] h k are = omega (arith, h, k, are)

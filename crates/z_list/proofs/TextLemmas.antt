@@ -1,13 +1,10 @@
 -- Texts of lines: what one begins with, its newline, and that no text begins with two.
-use Rattle.std.proofs.Common.{◌≡◌, ℕ, zero, suc, ◌+◌, ◌-◌, ◌*◌, ◌/◌, ◌%◌, ◌^◌, ◌<◌, ◌≤◌, List, [], ◌∷◌, ◌++◌, length, All, Option, Some, None, Result, Ok, Err, refl, sym, ap, subst, ◌∙◌, arith, append_assoc}
-use Rattle.std.specs.Prelude.{nat_lt, Bool, true, false, if◌then◌else◌, codes, decimal, flat_map}
-use Rattle.std.proofs.lemmas.List.{append-nil, append_cancel_left}
+use Rattle.std.proofs.Common.{◌≡◌, ℕ, ◌+◌, ◌/◌, ◌%◌, ◌^◌, ◌<◌, List, [], ◌∷◌, ◌++◌, refl, sym, ap, subst, ◌∙◌, arith, append_assoc}
+use Rattle.std.specs.Prelude.{nat_lt, Bool, true, false, if◌then◌else◌, codes, decimal}
 use Rattle.std.proofs.lemmas.Fmt.{decimal_by_steps, decimal_injective}
-use Rattle.z_model.specs.declared.fault.ZFault.{ZFault}
-use Rattle.z_model.specs.declared.op.Found.{Found}
 use Rattle.z_model.specs.Table.{player_rows}
 use Rattle.z_model.specs.Decode.{op_at}
-use Rattle.z_list.specs.Listing.{Line, Data, Rule, Locals, Does, End}
+use Rattle.z_list.specs.Listing.{Data, Rule, Locals, Does, End}
 use Rattle.z_list.specs.Texts.{hex_digit, spaced, all_spaced, found_text, newline, story_line, line_text}
 use Rattle.z_list.specs.inside.Read.{NoByte}
 use Rattle.z_list.specs.inside.Numbers.{IsDigit, AreDigits}

@@ -1,10 +1,9 @@
 -- Lines that go on: they stand at the place, the bytes left are fewer by theirs, and each leads to one state.
-use Rattle.std.proofs.Common.{◌≡◌, ℕ, ◌+◌, ◌<◌, ◌≤◌, List, [], ◌∷◌, ◌++◌, length, take, drop, All, Option, refl, sym, ap, subst, ◌∙◌, arith}
-use Rattle.std.specs.Prelude.{Bool, true, false}
+use Rattle.std.proofs.Common.{◌≡◌, ℕ, ◌+◌, ◌≤◌, List, [], ◌∷◌, ◌++◌, length, Option, refl, sym, subst, ◌∙◌, arith}
 use Rattle.std.proofs.lemmas.List.{take_at, drop_at}
 use Rattle.z_list.specs.Listing.{Line, Data, Rule, Locals, Does, End}
 use Rattle.z_list.specs.inside.Lines.{Where, Outside, Named, Inside, Behind, Goes, IsOutside, Accepts, Comes}
-use Rattle.z_list.specs.inside.Held.{bytes_in, bytes_of, place_in, HasNumbers, HaveNumbers, IsFit, AreFit}
+use Rattle.z_list.specs.inside.Held.{bytes_in, bytes_of, place_in, HaveNumbers, AreFit}
 use Rattle.z_list.proofs.Instructions.{Small, small_take, small_drop}
 
 pub small_front : (xs ys : List ℕ) → Small (xs ++ ys) → Small xs

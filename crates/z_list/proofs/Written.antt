@@ -1,6 +1,5 @@
 -- What is written in turns: rows, instructions, stretches and marks.
-use Rattle.std.proofs.Common.{◌≡◌, ℕ, zero, suc, ◌+◌, ◌-◌, ◌<◌, ◌≤◌, List, [], ◌∷◌, ◌++◌, length, take, drop, get_or, All, Result, Ok, Err, OnOk, refl, sym, ap, subst, ◌∙◌, arith, append_assoc, slice_range}
-use Rattle.std.specs.Prelude.{flat_map, Bool, true, false}
+use Rattle.std.proofs.Common.{◌≡◌, ℕ, zero, suc, ◌+◌, ◌-◌, ◌<◌, ◌≤◌, List, [], ◌∷◌, ◌++◌, length, take, drop, get_or, Result, Ok, Err, OnOk, refl, sym, ap, subst, ◌∙◌, arith, append_assoc, slice_range}
 use Rattle.std.proofs.lemmas.List.{append-nil, length-append, length-drop, drop-drop}
 use Rattle.std.proofs.lemmas.List.Folds.{drop_split}
 use Rattle.std.proofs.Math.ListN.{drop_of_length-le}
@@ -12,7 +11,6 @@ use Rattle.z_model.specs.Table.{player_rows}
 use Rattle.z_model.specs.Decode.{op_at}
 use Rattle.z_list.specs.Listing.{Line, Data, Does, End, AreMarks, rows, instructions, marked, lines}
 use Rattle.z_list.specs.Texts.{line_text, texts, first_length}
-use Rattle.z_list.specs.inside.Lines.{is_full}
 use Rattle.z_list.specs.inside.Written.{IsRowEnd}
 use Rattle.z_list.proofs.Sounds.{row_first}
 use Rattle.z_list.proofs.Sound.{is_short}

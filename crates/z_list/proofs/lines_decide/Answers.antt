@@ -1,4 +1,4 @@
-use Rattle.std.proofs.Common.{List, ℕ, [], subst}
+use Rattle.std.proofs.Common.{List, ℕ, subst}
 use Rattle.z_list.specs.inside.Read.{Stands}
 use Rattle.z_list.proofs.Bad.{stuck_is_bad, whole_is_listing}
 use Rattle.z_list.proofs.lines_decide.Goals as goal

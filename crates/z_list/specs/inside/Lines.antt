@@ -1,5 +1,5 @@
 -- How lines are read, one after another.
-use Rattle.std.specs.Prelude.{◌≡◌, ◌<◌, ◌≤◌, ℕ, ◌+◌, List, [], ◌∷◌, ◌++◌, length, Option, Some, None, Bool, true, false, nat_lt}
+use Rattle.std.specs.Prelude.{◌≡◌, ◌<◌, ◌≤◌, ℕ, ◌+◌, List, [], ◌∷◌, ◌++◌, length, Option, Some, None, Bool, true, nat_lt}
 use Rattle.z_list.specs.Listing.{Line, Data, Rule, Locals, Does, End, AreMarks, lines}
 use Rattle.z_list.specs.declared.mark.Mark.{Mark}
 

@@ -1,5 +1,5 @@
 -- Lines as they are read: which go on from a state, and what lines that were read say of a text.
-use Rattle.std.specs.Prelude.{◌≡◌, ◌<◌, ◌≤◌, ℕ, ◌+◌, ◌%◌, List, [], ◌∷◌, ◌++◌, length, map, Option, true}
+use Rattle.std.specs.Prelude.{◌≡◌, ◌<◌, ◌≤◌, ℕ, ◌+◌, ◌%◌, List, [], ◌++◌, length, map, Option, true}
 use Rattle.z_list.specs.Listing.{Line}
 use Rattle.z_list.specs.Texts.{spaced, story_line, line_text, texts, first_length}
 use Rattle.z_list.specs.Reads.{IsListing, IsBadAt}

@@ -1,5 +1,5 @@
 -- What the parts of the writer hand on.
-use Rattle.std.specs.Prelude.{◌≡◌, ◌⊎◌, ◌<◌, ◌≤◌, ℕ, ◌+◌}
+use Rattle.std.specs.Prelude.{◌≡◌, ◌<◌, ◌≤◌, ℕ, ◌+◌}
 
 -- A row ends behind sixteen bytes, or with fewer behind the last of all.
 pub record IsRowEnd (from count end : ℕ) : Type 0 where

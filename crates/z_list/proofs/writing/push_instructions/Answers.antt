@@ -1,12 +1,12 @@
-use Rattle.std.proofs.Common.{◌≡◌, ◌+◌, ◌-◌, ◌<◌, ◌≤◌, ◌++◌, ◌∙◌, ℕ, [], ◌∷◌, List, Result, Ok, Err, OnOk, ap, sym, subst, drop, take, slice_range, length, arith, refl}
+use Rattle.std.proofs.Common.{◌≡◌, ◌+◌, ◌≤◌, ◌++◌, ◌∙◌, ℕ, [], List, Result, Ok, ap, sym, drop, slice_range, length, arith, refl}
 use Rattle.std.proofs.lemmas.List.{length-drop}
 use Rattle.z_model.specs.declared.fault.ZFault.{ZFault}
 use Rattle.z_model.specs.declared.op.Found.{Found}
 use Rattle.z_model.specs.Table.{player_rows}
 use Rattle.z_model.specs.Decode.{op_at}
-use Rattle.z_list.specs.Listing.{Line, Does, End, rows, instructions}
-use Rattle.z_list.specs.Texts.{texts, line_text, first_length}
-use Rattle.z_list.proofs.Instructions.{Small, small_slice, small_drop, found_some, found_within}
+use Rattle.z_list.specs.Listing.{Line, Does, rows, instructions}
+use Rattle.z_list.specs.Texts.{texts, first_length}
+use Rattle.z_list.proofs.Instructions.{small_slice, small_drop, found_some, found_within}
 use Rattle.z_list.proofs.Written.{line_written, next_op, slice_found, range_rest, last_written, on_ok}
 use Rattle.z_list.proofs.writing.push_instructions.Goals as goal
 

@@ -1,8 +1,5 @@
-use Rattle.std.proofs.Common.{◌≡◌, ◌+◌, ◌-◌, ◌<◌, ◌≤◌, ◌++◌, ◌∙◌, ℕ, [], ◌∷◌, List, Result, OnOk, ap, sym, subst, drop, take, get_or, slice_range, length, arith, rules}
-use Rattle.z_list.specs.declared.mark.Mark.{Mark}
-use Rattle.z_list.specs.Listing.{Line, AreMarks, rows, marked, lines}
-use Rattle.z_list.specs.Texts.{texts, first_length}
-use Rattle.z_list.proofs.Written.{mark_at, IsMarkAt, mark_next, mark_written, range_length}
+use Rattle.std.proofs.Common.{◌+◌, drop, get_or, length, arith}
+use Rattle.z_list.proofs.Written.{mark_at, mark_next, mark_written, range_length}
 use Rattle.z_list.proofs.writing.push_lines.Goals as goal
 
 pub slice_bounds-push_rows-end : goal.slice_bounds-push_rows-end

@@ -1,5 +1,4 @@
-use Rattle.std.proofs.Common.{◌≡◌, ◌+◌, ◌++◌, ◌∙◌, [], List, ap, drop, slice_range, length, arith, append-nil, sym}
-use Rattle.std.proofs.Math.ListN.{drop_of_length-le}
+use Rattle.std.proofs.Common.{◌+◌, ◌++◌, ◌∙◌, [], List, ap, drop, slice_range}
 use Rattle.z_list.specs.Listing.{Line, Data, rows}
 use Rattle.z_list.specs.Texts.{texts}
 use Rattle.z_list.proofs.Written.{line_written, next_row}
