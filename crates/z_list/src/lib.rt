@@ -1,4 +1,4 @@
-//! A story as a listing in text, there and back.
+//! A story as a listing in text, and which texts are listings.
 #![tactic(auto)]
 
 mod mark;
