@@ -1,14 +1,15 @@
 -- Choices of blocks, inner constructs and stoppable parts lead on.
-use Rattle.std.proofs.Common.{◌≡◌, ℕ, List, [], ◌∷◌, refl, subst, arith}
+use Rattle.std.proofs.Common.{◌≡◌, ℕ, List, [], ◌∷◌, Some, refl, subst, arith}
 use Rattle.dg_meaning.specs.World.{Print}
 use Rattle.dg_mid.specs.declared.code.Code.{Code}
 use Rattle.dg_mid.specs.declared.code.Op.{Op}
 use Rattle.dg_mid.specs.declared.code.Op.TheVariants as op
 use Rattle.dg_mid.specs.State.{Place, Goes, Mid, Runs, place_of}
-use Rattle.dg_mid.specs.Step.{Setting, more, passed, inside, within, shielded, cut_to, commits, leaves}
+use Rattle.dg_mid.specs.Step.{Setting, more, passed, inside, within, shielded, cut_to, commits, refuses, leaves}
 use Rattle.dg_mid.specs.Heights.{AgreeAll, PlacesNamed}
 use Rattle.z_lang.specs.declared.act.Routine.{Routine}
 use Rattle.z_model.specs.Run.{ZState}
+use Rattle.dg_rt.specs.declared.numbers.TheConstants.{FAIL}
 use Rattle.dg_turn.specs.Told.{Telling}
 use Rattle.dg_turn.specs.Plays.{Playing}
 use Rattle.dg_turn.specs.Paid.{paid}
@@ -18,13 +19,13 @@ use Rattle.dg_turn.specs.Stopping.{shield_routine, leave_routine}
 use Rattle.dg_turn.proofs.BranchTurn.{branch_turns}
 use Rattle.dg_turn.proofs.ShieldTurn.{shield_turns}
 use Rattle.dg_turn.proofs.OnceTurn.{once_turns}
-use Rattle.dg_turn.proofs.CommitTurn.{commit_turns, leave_turns}
+use Rattle.dg_turn.proofs.CommitTurn.{commit_turns, refuse_turns, leave_turns}
 use Rattle.dg_turn.proofs.Paid.{turns_are_paid}
 use Rattle.dg_chain.specs.Always.{IsSome, StandsInside, Always}
 use Rattle.dg_chain.specs.Routines.{GoesOn, Opens, OpsAt}
 use Rattle.dg_chain.specs.Stands.{Stands}
 use Rattle.dg_chain.specs.Whole.{OpLeads, story_setting}
-use Rattle.dg_chain.proofs.Leading.{Lead, led_runs, ten_leads, at_op, silently, a_unit}
+use Rattle.dg_chain.proofs.Leading.{Lead, led_runs, led_fails, ten_leads, at_op, silently, a_unit}
 
 module _ (t : Telling) (plays : Playing t) (code : Code) (dice : List ℕ) where
   abbrev set : Setting
@@ -99,6 +100,19 @@ module _ (t : Telling) (plays : Playing t) (code : Code) (dice : List ℕ) where
   commit_leads ps m rest z e always s =
       let inside : StandsInside (op.Commit ∷ rest) m.inner = subst (λ (l : List Op). StandsInside l m.inner) e always.begins.1 in
       silently t code dice ps m rest z op.Commit e _ (cost ps m) refl (commit_by ps m rest z e always s m.inner refl inside)
+
+  refuse_by : (ps : List Print) (m : Mid) (rest : List Op) (z : ZState) → m.ops ≡ op.Refuse ∷ rest → Always code (Runs m) → Stands t code ps (Runs m) z → (inner : List Place) → m.inner ≡ inner → IsSome inner → Lead t code dice 1 ps (refuses inner (record m { ops = rest })) (cost ps m) z
+  refuse_by ps m rest z e always s [] i some = absurd some
+  refuse_by ps m rest z e always s (p ∷ places) i some =
+      let there : t.p.routine_at s.at.x ≡ Some (commit_routine FAIL) = at_op t code dice ps m rest z op.Refuse e s in
+      let m' = record m { ops = rest } in
+      led_fails t code dice 1 (omega arith) ps s.printed (cut_to p (record m { inner = places })) (cut_to p (record m' { inner = places })) _ (cost ps m) z refl
+      (turns_are_paid.refuse set ps m p places rest e i) (refuse_turns t plays s.printed.out s.at.x m z p places there i (newest_agrees m p places always i) s.at.rep)
+
+  pub refuse_leads : OpLeads t code dice op.Refuse
+  refuse_leads ps m rest z e always s =
+      let inside : StandsInside (op.Refuse ∷ rest) m.inner = subst (λ (l : List Op). StandsInside l m.inner) e always.begins.1 in
+      silently t code dice ps m rest z op.Refuse e _ (cost ps m) refl (refuse_by ps m rest z e always s m.inner refl inside)
 
   leave_by : (ps : List Print) (m : Mid) (rest : List Op) (z : ZState) → m.ops ≡ op.Leave ∷ rest → Always code (Runs m) → Stands t code ps (Runs m) z → (inner : List Place) → m.inner ≡ inner → IsSome inner → Lead t code dice 1 ps (leaves inner (record m { ops = rest })) (cost ps m) z
   leave_by ps m rest z e always s [] i some = absurd some

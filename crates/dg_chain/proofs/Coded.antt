@@ -11,7 +11,7 @@ use Rattle.dg_chain.specs.Always.{MayRun}
 use Rattle.dg_chain.specs.Routines.{OpAt, OpsAt, BlocksAt}
 use Rattle.dg_chain.specs.Whole.{OpLeads, OthersLead, CodeLeads}
 use Rattle.dg_chain.proofs.Leading.{at_op}
-use Rattle.dg_chain.proofs.Choosing.{branch_leads, try_leads, shield_leads, once_leads, commit_leads, leave_leads}
+use Rattle.dg_chain.proofs.Choosing.{branch_leads, try_leads, shield_leads, once_leads, commit_leads, refuse_leads, leave_leads}
 use Rattle.dg_chain.proofs.Jumping.{take_leads, goto_leads, back_leads, fail_leads, stop_leads, done_leads}
 use Rattle.dg_chain.proofs.Answering.{just_leads, return_leads}
 use Rattle.dg_chain.proofs.Asking.{ask_leads, last_leads}
@@ -64,7 +64,7 @@ module _ (t : Telling) (plays : Playing t) (code : Code) (blocks : BlocksAt t co
   op_leads (op.Retry alt) = never_leads (op.Retry alt) (λ rest h. h)
   op_leads (op.TakeOut whole into) = never_leads (op.TakeOut whole into) (λ rest h. h)
   op_leads op.Commit = commit_leads t plays code dice
-  op_leads op.Refuse = none_leads op.Refuse (λ b y h. h)
+  op_leads op.Refuse = refuse_leads t plays code dice
   op_leads op.Leave = leave_leads t plays code dice
   op_leads (op.Keep term) = none_leads (op.Keep term) (λ b y h. h)
   op_leads op.Back = back_leads t plays code blocks dice

@@ -32,6 +32,7 @@ IsSome (x ∷ xs) = Unit {0}
 -- Code that leaves an inner construct or a stoppable part stands in one.
 abbrev pub StandsInside : List Op → List Place → Type 0
 StandsInside (op.Commit ∷ ops) inner = IsSome inner
+StandsInside (op.Refuse ∷ ops) inner = IsSome inner
 StandsInside (op.Leave ∷ ops) inner = IsSome inner
 StandsInside ops inner = Unit {0}
 

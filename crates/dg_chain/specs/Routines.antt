@@ -125,6 +125,7 @@ OpAt behind_is t code x (op.Try alt) = Opens behind_is t x try_routine alt
 OpAt behind_is t code x (op.Shield alt) = Opens behind_is t x shield_routine alt
 OpAt behind_is t code x (op.Retry alt) = Opens behind_is t x branch_routine alt
 OpAt behind_is t code x op.Commit = GoesOn behind_is t x commit_routine
+OpAt behind_is t code x op.Refuse = t.p.routine_at x ≡ Some (commit_routine FAIL)
 OpAt behind_is t code x op.Leave = GoesOn behind_is t x leave_routine
 OpAt behind_is t code x op.Back = FailsAt t x
 OpAt behind_is t code x op.Return = x ≡ t.p.names.routine LEAVE

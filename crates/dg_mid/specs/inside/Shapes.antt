@@ -30,7 +30,8 @@ abbrev pub Fits : List ℕ → List ℕ → End → List Place → Type 0
 Fits chain r Returns inner = (inner ≡ []) × (chain ≡ r)
 Fits chain r (Commits goals end) [] = ⊥
 Fits chain r (Commits goals end) (p ∷ ps) = StopOlder p.tag (head_of chain) × Fits chain r end ps
-Fits chain r Refuses inner = Unit {0}
+Fits chain r Refuses [] = ⊥
+Fits chain r Refuses (p ∷ ps) = Unit {0}
 Fits chain r Backs inner = Unit {0}
 Fits [] r (Leaves goals end) inner = ⊥
 Fits (t ∷ chain) r (Leaves goals end) [] = ⊥
