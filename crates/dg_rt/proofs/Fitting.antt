@@ -168,7 +168,7 @@ module _ (counts : Counts) (routines : many ≤ counts.routines) (tables : 1 ≤
       let q = and_parts (nat_lt r.locals 16) (nat_lt (body_bytes r.body) 8000 && are_fit (ops_of_acts r.body) r.body) p.0 in
       let s = and_parts (nat_lt (body_bytes r.body) 8000) (are_fit (ops_of_acts r.body) r.body) q.1 in
       let few = ltb-true r.locals 16 q.0 in
-      (record { few = omega arith; short = ltb-true (body_bytes r.body) 8000 s.0; fit = acts_fit (ops_of_acts r.body) r.body s.1 }, routines_fit rs p.1)
+      (record { few = omega arith; short = λ l has. ltb-true (body_bytes r.body) 8000 s.0; fit = acts_fit (ops_of_acts r.body) r.body s.1 }, routines_fit rs p.1)
 
 pub runtime_fits : RuntimeFits
 runtime_fits counts routines tables = routines_fit counts routines tables runtime refl

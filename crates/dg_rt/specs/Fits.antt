@@ -1,17 +1,17 @@
 -- That the routines can be assembled. Hold it against the Z-machine standard, section 5 (routines) and section 4 (instructions).
-use Rattle.std.specs.Prelude.{◌+◌, ◌<◌, ◌≤◌, List, [], ◌∷◌, length}
-use Rattle.z_code.specs.Open.{Counts}
+use Rattle.std.specs.Prelude.{ℕ, ◌+◌, ◌<◌, ◌≤◌, List, [], ◌∷◌, length}
+use Rattle.z_code.specs.Open.{Counts, HasLabel}
 use Rattle.z_lang.specs.declared.act.Routine.{Routine}
 use Rattle.z_lang.specs.Code.{ops_of_acts}
 use Rattle.z_lang.specs.Sizes.{body_bytes}
 use Rattle.z_lang.specs.Bodies.{AreFit}
 use Rattle.dg_rt.specs.RunTime.{runtime}
 
--- A routine has at most 15 locals and takes at most 8,000 bytes, the first of them the number of its locals; its numbers fit, what it names is there, and
--- each of its labels stands once.
+-- A routine has at most 15 locals; its numbers fit, what it names is there, and each of its labels stands once; where one stands in it, it takes at most
+-- 8,000 bytes, the first of them the number of its locals.
 pub record IsFit (counts : Counts) (r : Routine) : Type 0 where
   pub few : r.locals ≤ 15
-  pub short : body_bytes r.body < 8000
+  pub short : (l : ℕ) → HasLabel l (ops_of_acts r.body) → body_bytes r.body < 8000
   pub fit : AreFit counts (ops_of_acts r.body) r.body
 
 -- So it is with each of some routines.

@@ -48,7 +48,7 @@ lines_bytes c (x ∷ xs) a =
 -- Acts of one routine.
 pub straight : (c : Counts) (locals : ℕ) (body : List Act) → locals ≤ 15 → AreLines c body → length body ≤ 1001 → IsRoutine c (record { locals = locals; body = body })
 straight c locals body few a le =
-    record { few = few; short = omega (arith, lines_bytes c body a); fit = lines_fit c (ops_of_acts body) body a }
+    record { few = few; short = λ l has. omega (arith, lines_bytes c body a); fit = lines_fit c (ops_of_acts body) body a }
 
 goes_on : (c : Counts) (way : ℕ) → way < c.routines → AreLines c (acts.Return (atoms.Routine way) ∷ [])
 goes_on c way lt = (record { fits = λ all behind. lt; small = omega arith }, tt)

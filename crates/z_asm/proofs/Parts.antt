@@ -75,8 +75,7 @@ codes_step names codes i code whole out padded new lt is w e p n = (e ∙ ap (λ
 pub codes_writable : (names : Names) (counts : Counts) (codes : List Code) → AreWords names → AreCodes counts codes → AreWritable names codes
 codes_writable names counts [] words h = tt
 codes_writable names counts (code ∷ codes) words h =
-    let short = h.0.short in
-    (record { short = h.0.short; filled = λ at. filled_all names words counts at code.ops (omega arith) h.0.are_open }, codes_writable names counts codes words h.1)
+    (record { filled = λ at. filled_all names words counts at code.ops (λ l has. let short = h.0.short l has in omega arith) h.0.are_open }, codes_writable names counts codes words h.1)
 
 pub codes_sized : (names : Names) (codes : List Code) → AreWritable names codes → HaveSizes (map (code_part names) codes) (map code_size codes)
 codes_sized names [] w = tt

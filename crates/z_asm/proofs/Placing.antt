@@ -42,7 +42,7 @@ unfolding text_at
 text_none bytes true n at h e = let two = h.0 in absurd (omega arith)
 text_none bytes false n at h e = rw e refl
 
-module _ (names : Names) (words : AreWords names) (counts : Counts) (start : ℕ) (all : List LOp) (few : ops_size all ≤ 8000) where
+module _ (names : Names) (words : AreWords names) (counts : Counts) (start : ℕ) (all : List LOp) (few : (l : ℕ) → HasLabel l all → ops_size all ≤ 8000) where
   abbrev labels : ℕ → ℕ
   labels = label_from start all
 
@@ -65,6 +65,7 @@ module _ (names : Names) (words : AreWords names) (counts : Counts) (start : ℕ
           let b = w.most in
           let c = k.from in
           let d = k.room in
+          let small = few l has in
           record { apart = inr (omega arith); back = omega arith; ahead = omega arith }
 
       before : (start ≤ labels l) × (labels l ≤ pc) → IsNear (pc + length (spelling op)) (labels l)
@@ -73,6 +74,7 @@ module _ (names : Names) (words : AreWords names) (counts : Counts) (start : ℕ
           let b = h.1 in
           let c = k.from in
           let d = k.room in
+          let small = few l has in
           record { apart = inl (omega arith); back = omega arith; ahead = omega arith }
 
   near_target : (pc : ℕ) (op : Op) (ts : List (Option Target)) (branch : Option ℕ) (ops : List LOp) → Known pc (lops.Do op ts branch ∷ ops) → IsOpen counts all op ts branch → (t : Option Target) → OpenIf counts all t op.operands.first → NearTarget labels (pc + length (spelling op)) t

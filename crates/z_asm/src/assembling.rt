@@ -186,8 +186,7 @@ pub fn assemble(alloc: Global, image: &Image) -> Result<Vec<u8>, AsmFault>
 
 // Where routines begin and end that stand behind a place.
 fn spans(alloc: Global, from: usize, image: &Image) -> Result<Vec<(u32, u32)>, AllocError>
-    requires image { IsImage image.now }
-    requires near { end_from from (map code_size image.now.routines) ≤ 524280 }
+    requires { end_from from (map code_size image.now.routines) ≤ 524280 }
     ensures { IfOk result (λ spans. spans.items ≡ spans_from from (map code_size image.now.routines)) }
 {
     let mut places = Vec::new(alloc);

@@ -2,7 +2,7 @@
 ghost use Rattle.std.specs.Prelude.{◌≡◌, ◌+◌, ◌<◌, ◌≤◌, ◌^◌, ◌++◌, ℕ, length, slice_index, OnOk};
 ghost use Rattle.z_model.specs.Numbers.{wrapped_word};
 ghost use Rattle.z_code.specs.Targets.{ops_size, spot_of, ops_bytes, offset_to, target_address, fill, fill_branch, filled, IsNear, NearLabel};
-ghost use Rattle.z_asm.specs.Layout.{names_at, code_bytes};
+ghost use Rattle.z_asm.specs.Layout.{names_at, code_bytes, code_size};
 ghost use Rattle.z_asm.specs.inside.Filled.{FillsIn, AreFilled, IsWritable};
 
 use crate::image::Code;
@@ -152,7 +152,7 @@ pub(crate) fn put_code(
     names: &Addresses,
     code: &Code,
 ) -> Result<(), AllocError>
-    requires within { length out.old.items < 2 ^ 31 }
+    requires within { length out.old.items + code_size code.now < 2 ^ 32 }
     requires writable { IsWritable (names_at names.now) code.now }
     ensures { OnOk result (out.new.items ≡ out.old.items ++ code_bytes (names_at names.now) (length out.old.items) code.now) }
 {

@@ -2,7 +2,6 @@
 ghost use Rattle.std.specs.Prelude.{◌≡◌, ◌+◌, ◌<◌, ◌≤◌, ◌^◌, ◌++◌, ◌∷◌, [], map, length, true, false, IfOk, OnOk, IsErrOf, MatchOption, Some, None, Ok, Err};
 ghost use Rattle.z_asm.specs.declared.layout.AsmFault.TheVariants.{OutOfMemory};
 ghost use Rattle.z_asm.specs.Layout.{code_size, aligned, stand_from, end_from, packed_address, table_bytes, table_places};
-ghost use Rattle.z_asm.specs.Conditions.{AreCodes, IsImage};
 ghost use Rattle.z_asm.specs.Plan.{ArePlaced, IsPlan};
 ghost use Rattle.z_asm.specs.Story.{image_base, dictionary_of, code_start, front_of, routines_from, image_end, string_sizes, strings_of, IsTooLarge};
 
@@ -142,8 +141,7 @@ fn place_texts(
 }
 
 fn place_codes(alloc: Global, from: usize, image: &Image) -> Result<(Items<u16>, usize), AsmFault>
-    requires near { from ≤ 524280 }
-    requires image { IsImage image.now }
+    requires { from ≤ 524280 }
     ensures ok { IfOk result (λ p. ArePlaced from (map code_size image.now.routines) p.0 p.1) }
     ensures large { IsErrOf result AsmFault.TooLarge → 524280 < end_from from (map code_size image.now.routines) }
 {
@@ -162,8 +160,7 @@ fn place_codes(alloc: Global, from: usize, image: &Image) -> Result<(Items<u16>,
 /// Where everything stands that an image has, when its strings are these.
 #[tactic(auto, using(crate::proofs::Layouts::end_most))]
 pub fn lay_out(alloc: Global, image: &Image, strings: &[Items<u8>]) -> Result<Plan, AsmFault>
-    requires image { IsImage image.now }
-    requires strings { strings.now ≡ strings_of image.now }
+    requires { strings.now ≡ strings_of image.now }
     ensures ok { IfOk result (λ p. IsPlan image.now p) }
     ensures large { IsErrOf result AsmFault.TooLarge → IsTooLarge image.now }
 {

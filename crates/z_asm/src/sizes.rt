@@ -1,5 +1,5 @@
 // How many bytes instructions take, and where labels stand.
-ghost use Rattle.std.specs.Prelude.{◌≡◌, ◌+◌, ◌<◌, ◌≤◌, ◌^◌, ℕ, ◌*◌, length, IfOk};
+ghost use Rattle.std.specs.Prelude.{◌≡◌, ◌+◌, ◌<◌, ◌≤◌, ◌^◌, ℕ, min, length, IfOk};
 ghost use Rattle.z_model.specs.declared.op.OperandTypes.{OperandTypes};
 ghost use Rattle.z_model.specs.Spelling.{type_if, operand_bytes, head_bytes, store_bytes, branch_bytes, spelling};
 ghost use Rattle.z_code.specs.Targets.{op_size, ops_size, spots_from, spot_of};
@@ -81,14 +81,13 @@ fn size_of_one(op: &LOp) -> usize
     }
 }
 
-/// How many bytes a routine takes.
+/// How many bytes a routine takes, or the largest number where it takes more.
 pub(crate) fn size_of_code(code: &Code) -> usize
-    requires { code_size code.now ≤ 8000 }
-    ensures { result ≡ code_size code.now }
+    ensures { result ≡ min (code_size code.now) usize.MAX }
 {
-    let mut size = 1;
+    let mut size: usize = 1;
     for op in code.ops.as_slice() {
-        size += size_of_one(op);
+        size = size.saturating_add(size_of_one(op));
     }
     size
 }

@@ -17,9 +17,8 @@ module _ (opens : (counts : Counts) (body : List Act) → Opens counts body) (ta
   codes : (counts : Counts) (rs : List Routine) → AreRoutines counts rs → AreCodes counts (map routine_code rs)
   codes counts [] h = tt
   codes counts (r ∷ rs) h =
-      let short = h.0.short in
       let bytes = (takes r.body).all in
-      (record { few = h.0.few; short = omega arith; are_open = (opens counts r.body).opens h.0.fit }, codes counts rs h.1)
+      (record { few = h.0.few; short = λ l has. (let short = h.0.short l has in omega arith); are_open = (opens counts r.body).opens h.0.fit }, codes counts rs h.1)
 
   pub is_image : (parts : Parts) → AreParts parts → IsImage (image_of parts)
   is_image parts is =

@@ -1,6 +1,6 @@
 -- What a story is made of when its routines are acts.
-use Rattle.std.specs.Prelude.{◌<◌, ◌≤◌, List, [], ◌∷◌, map, length}
-use Rattle.z_code.specs.Open.{Counts}
+use Rattle.std.specs.Prelude.{ℕ, ◌<◌, ◌≤◌, List, [], ◌∷◌, map, length}
+use Rattle.z_code.specs.Open.{Counts, HasLabel}
 use Rattle.z_lang.specs.declared.act.Routine.{Routine}
 use Rattle.z_lang.specs.Code.{ops_of_acts}
 use Rattle.z_lang.specs.Sizes.{body_bytes}
@@ -13,10 +13,10 @@ use Rattle.z_story.specs.declared.building.Parts.{Parts}
 abbrev pub parts_counts : Parts → Counts
 parts_counts parts = record { routines = length parts.routines; tables = length parts.tables; texts = length parts.strings }
 
--- A routine has at most 15 locals and takes at most 8,000 bytes, the first of them the number of its locals, and its acts fit.
+-- A routine has at most 15 locals, and its acts fit; where a label stands in it, it takes at most 8,000 bytes, the first of them the number of its locals.
 pub record IsRoutine (counts : Counts) (r : Routine) : Type 0 where
   pub few : r.locals ≤ 15
-  pub short : body_bytes r.body < 8000
+  pub short : (l : ℕ) → HasLabel l (ops_of_acts r.body) → body_bytes r.body < 8000
   pub fit : AreFit counts (ops_of_acts r.body) r.body
 
 abbrev pub AreRoutines : Counts → List Routine → Type 0

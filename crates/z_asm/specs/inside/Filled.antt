@@ -1,5 +1,5 @@
 -- Instructions that are ready to be written: with their names filled in they are of the table.
-use Rattle.std.specs.Prelude.{◌≡◌, ℕ, ◌+◌, ◌<◌, ◌≤◌, List, [], ◌∷◌, length, Option}
+use Rattle.std.specs.Prelude.{◌≡◌, ℕ, ◌+◌, ◌<◌, List, [], ◌∷◌, length, Option}
 use Rattle.z_model.specs.declared.op.Op.{Op}
 use Rattle.z_model.specs.Table.{player_rows}
 use Rattle.z_model.specs.Spelling.{spelling, IsOfTable}
@@ -8,7 +8,6 @@ use Rattle.z_code.specs.declared.target.LOp.TheVariants as lops
 use Rattle.z_code.specs.declared.target.Target.{Target}
 use Rattle.z_code.specs.Targets.{Names, nth, filled, label_from, NearTarget, NearLabel}
 use Rattle.z_asm.specs.declared.image.Code.{Code}
-use Rattle.z_asm.specs.Layout.{code_size}
 
 -- What a routine names are words.
 pub record AreWords (names : Names) : Type 0 where
@@ -32,7 +31,6 @@ AreFilled names labels at (lops.Do op ts branch ∷ ops) = FillsIn names labels 
 
 -- A routine can be written wherever it stands.
 pub record IsWritable (names : Names) (code : Code) : Type 0 where
-  pub short : code_size code ≤ 8000
   pub filled : (at : ℕ) → AreFilled names (label_from at code.ops) at code.ops
 
 abbrev pub AreWritable : Names → List Code → Type 0

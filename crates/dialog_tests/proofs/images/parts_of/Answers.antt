@@ -37,7 +37,7 @@ are_parts p t a b et es er fa fb =
     (subst (λ (rs : List Routine). AreParts (record { tables = t ∷ []; strings = (72 ∷ 101 ∷ 108 ∷ 108 ∷ 111 ∷ []) ∷ []; routines = rs })) (sym er) base))
 
 is_routine : (r : Routine) (locals : ℕ) (body : List Act) → r ≡ record { locals = locals; body = body } → locals ≤ 15 → AreFit counts (ops_of_acts body) body → body_bytes body < 8000 → IsRoutine counts r
-is_routine r locals body e few fit short = subst (λ (x : Routine). IsRoutine counts x) (sym e) (record { few = few; short = short; fit = fit })
+is_routine r locals body e few fit short = subst (λ (x : Routine). IsRoutine counts x) (sym e) (record { few = few; short = λ l has. short; fit = fit })
 
 pub returns : goal.returns
 returns c =

@@ -40,7 +40,7 @@ all_counted : (n m : ℕ) → n ≡ m + 1 → m ≡ 53 → suc n ≡ 55
 all_counted n m e k = omega arith
 
 is_routine : (r : Routine) (body : List Act) → r ≡ record { locals = 0; body = body } → AreFit counts (ops_of_acts body) body → body_bytes body < 8000 → IsRoutine counts r
-is_routine r body e fit short = subst (λ (x : Routine). IsRoutine counts x) (sym e) (record { few = omega arith; short = short; fit = fit })
+is_routine r body e fit short = subst (λ (x : Routine). IsRoutine counts x) (sym e) (record { few = omega arith; short = λ l has. short; fit = fit })
 
 are_parts : RuntimeFits → (p : Parts) (t : Table) (a b : Routine) → p.tables ≡ t ∷ [] → p.strings ≡ [] → p.routines ≡ a ∷ (runtime ++ (b ∷ [])) → IsRoutine counts a → IsRoutine counts b → AreParts p
 are_parts fits p t a b et es er fa fb =
