@@ -44,6 +44,7 @@ pub mod Matching
 pub mod Leaving
 pub mod Asking
 pub mod Fitting
+pub mod Straight
 pub mod TailCalling
 pub mod Filling
 pub mod Bodies
