@@ -20,7 +20,7 @@ use Rattle.dg_mid.specs.Code.{block_at}
 use Rattle.dg_mid.specs.Codes.{End, Refuses, Backs, Commits, Leaves, Keeps, Stands, found_goals, found_end, jumps, commits, refuses, backs, leaves, keeps, collects, accumulates, once, negates, branch, exhausts, shields, forever, only, either, Others, last_list, more_lists}
 use Rattle.dg_mid.specs.Tidying.{OpsNeat, BlocksTidy, DoesMore, Neat, IsPlain, TailTidy, LevelTidy, LevelsTidy, WorkTidy, LandsTidy}
 use Rattle.dg_mid.specs.Writing.{StandsFor, BlockFor, FoundAt, PutsFirst, Lands, Wraps, Leads, ComesTo, Moves, TailFor, Shares, OthersFor, ListLands, after_list, tail_ops, with_goal, with_level, gathers}
-use Rattle.dg_mid.specs.Weights.{Weights, terms_weight, op_weight, ops_weight, blocks_weight, body_weight, lists_weight, whole_weight, level_weight, levels_weight, work_weight}
+use Rattle.dg_mid.specs.Weights.{Weights, found_form, terms_weight, op_weight, ops_weight, blocks_weight, body_weight, lists_weight, whole_weight, level_weight, levels_weight, work_weight}
 use Rattle.dg_mid.proofs.Weights.{ops_reverse, block_added, op_added, op_alone, body_one, goal_added, lists_append, level_added, weight_if, weight_either, weight_forever, asking_weight}
 use Rattle.dg_mid.specs.Potential.{begins_return, begins_goto}
 use Rattle.dg_mid.specs.Seeking.{begins_commit}
@@ -278,7 +278,7 @@ found_once old new jump put behind b e e' made is =
 
 pub puts_find : (old mid new : List Block) (ops jump put : List Op) (place : Option ℕ) (terms : List Term) (g : Goal) (behind b : ℕ) (many : Bool) →
     ((code : Code) (xs : List Op) (goals : List Goal) (end : End) → Stands code xs goals end → Stands code (block_at code b) (found_goals many goals) (found_end many goals end) → Stands code (op.Find place terms many b ∷ xs) (g ∷ goals) end) →
-    ((w : Weights) → whole_weight w g ≡ asking_weight w + terms_weight w terms) →
+    ((w : Weights) → whole_weight w g ≡ asking_weight w (found_form place terms many) + terms_weight w terms) →
     Lands old mid (reverse ops) behind → FoundAt mid new many behind b → jump ≡ op.Goto behind ∷ [] → put ≡ jump ++ op.Find place terms many b ∷ [] → PutsFirst (g ∷ []) old new (reverse ops) (reverse put)
 puts_find old mid new ops jump put place terms g behind b many wraps weighs lands found e e' =
     let x : Op = op.Find place terms many b in

@@ -4,6 +4,7 @@ use Rattle.std.specs.Prelude.{reverse, Some, None}
 use Rattle.std.proofs.lemmas.List.{append-nil, reverse-append}
 use Rattle.dg_base.specs.declared.program.Goal.{Goal}
 use Rattle.dg_base.specs.declared.program.Goal.TheVariants as goal
+use Rattle.dg_base.specs.declared.program.Goal.TheOpen as form
 use Rattle.dg_base.specs.Begins.{Begins}
 use Rattle.dg_meaning.proofs.OneRun.{begins_on}
 use Rattle.dg_mid.specs.declared.code.Op.{Op}
@@ -92,7 +93,7 @@ pub opens_select : (old mid new : List Block) (before after : Work) (s : Branchi
     EndsAt mid new s.tail s.behind →
     ((wanted : List Goal) (last : End) → AtBranch new s before.goals (reverse before.levels) wanted last → ComesTo new after wanted last) →
     (BlocksTidy new → TailTidy new s.tail → LevelsTidy new (reverse before.levels) → WorkTidy new after) →
-    ((w : Weights) → work_weight w after ≤ w.own + lists_weight w s.left + body_weight w before.goals + levels_weight w before.levels) →
+    ((w : Weights) → work_weight w after ≤ w.own (form.Select s.site s.mode []) + lists_weight w s.left + body_weight w before.goals + levels_weight w before.levels) →
     Moves old (with_goal (goal.Select s.site s.mode s.left) before) new after
 opens_select old mid new before after s none on on' shares ends comes good light =
     let begins : Begins old new = begins_on old mid new on on' in
@@ -124,7 +125,7 @@ pub closes_branch : (old new : List Block) (before after : Work) (s t : Branchin
     t.blocks.items ≡ s.blocks.items ++ b ∷ [] →
     ((wanted : List Goal) (last : End) → AtBranch new (record s { blocks = t.blocks }) others (reverse before.levels) wanted last → ComesTo new after wanted last) →
     (BlocksTidy new → TailTidy new s.tail → LevelsTidy new (reverse before.levels) → WorkTidy new after) →
-    ((w : Weights) → work_weight w after ≤ w.own + lists_weight w s.left + body_weight w others + levels_weight w before.levels) →
+    ((w : Weights) → work_weight w after ≤ w.own (form.Select s.site s.mode []) + lists_weight w s.left + body_weight w others + levels_weight w before.levels) →
     Moves old (with_level (level.Branches s others) before) new after
 closes_branch old new before after s t others b none on lands put comes good light = record {
   blocks = on;
@@ -158,20 +159,21 @@ closes_branch old new before after s t others b none on lands put comes good lig
 
 -- what is next weighs no more than the branches that are left
 pub light_next : (w : Weights) (s t : Branching) (popped : List (List Goal)) (list others : List Goal) (levels : List Level) (after : Work) → s.left ≡ popped ++ list ∷ [] → t.left ≡ popped →
-    after.ops.items ≡ tail_ops s.tail → after.goals ≡ list → after.levels ≡ levels ++ level.Branches t others ∷ [] →
-    work_weight w after ≤ w.own + lists_weight w s.left + body_weight w others + levels_weight w levels
-light_next w s t popped list others levels after split same ops_are goals_are levels_are =
+    form.Select t.site t.mode [] ≡ form.Select s.site s.mode [] → after.ops.items ≡ tail_ops s.tail → after.goals ≡ list → after.levels ≡ levels ++ level.Branches t others ∷ [] →
+    work_weight w after ≤ w.own (form.Select s.site s.mode []) + lists_weight w s.left + body_weight w others + levels_weight w levels
+light_next w s t popped list others levels after split same goal_is ops_are goals_are levels_are =
     omega (
       arith,
       ap (lists_weight w) split,
       lists_append w popped (list ∷ []),
       ap (lists_weight w) same,
+      ap w.own goal_is,
       tail_weight w s.tail after.ops.items ops_are,
       ap (body_weight w) goals_are,
       level_added w levels after.levels (level.Branches t others) levels_are,
     )
 
 pub light_end : (w : Weights) (s : Branching) (others : List Goal) (levels : List Level) (after : Work) → after.ops.items ≡ op.Select s.site s.mode (reverse s.blocks.items) s.behind ∷ [] → after.goals ≡ others → after.levels ≡ levels →
-    work_weight w after ≤ w.own + lists_weight w s.left + body_weight w others + levels_weight w levels
+    work_weight w after ≤ w.own (form.Select s.site s.mode []) + lists_weight w s.left + body_weight w others + levels_weight w levels
 light_end w s others levels after ops_are goals_are levels_are =
     omega (arith, op_alone w after.ops.items (op.Select s.site s.mode (reverse s.blocks.items) s.behind) ops_are, ap (body_weight w) goals_are, ap (levels_weight w) levels_are)

@@ -140,7 +140,7 @@ weight_exhaust w inner = omega (arith, by_layer w (goal.Exhaust inner) (form.Exh
 pub weight_once : (w : Weights) (inner : List Goal) → whole_weight w (goal.Once inner) ≡ way_weight w + body_weight w inner
 weight_once w inner = omega (arith, by_layer w (goal.Once inner) (form.Once inner) (goal.outs-Once inner))
 
-pub weight_stoppable : (w : Weights) (inner : List Goal) → whole_weight w (goal.Stoppable inner) ≡ way_weight w + body_weight w inner
+pub weight_stoppable : (w : Weights) (inner : List Goal) → whole_weight w (goal.Stoppable inner) ≡ w.opening + w.small + w.leaving + 2 * w.block + body_weight w inner
 weight_stoppable w inner = omega (arith, by_layer w (goal.Stoppable inner) (form.Stoppable inner) (goal.outs-Stoppable inner))
 
 pub weight_if : (w : Weights) (test first other : List Goal) → whole_weight w (goal.If test first other) ≡ 3 * w.opening + 4 * w.small + 4 * w.block + body_weight w test + body_weight w first + body_weight w other
@@ -153,26 +153,26 @@ pub weight_forever : (w : Weights) → whole_weight w goal.Forever ≡ w.opening
 weight_forever w = omega (arith, by_layer w goal.Forever form.Forever goal.outs-Forever)
 
 -- what any other goal has by itself, apart from its terms
-abbrev pub asking_weight : Weights → ℕ
-asking_weight w = w.own + 3 * w.small + 2 * w.block
+abbrev pub asking_weight : Weights → form.Goal-F Goal → ℕ
+asking_weight w g = w.own g + 3 * w.small + 2 * w.block
 
-pub weight_select : (w : Weights) (site : ℕ) (mode : Mode) (lists : List (List Goal)) → whole_weight w (goal.Select site mode lists) ≡ asking_weight w + lists_weight w lists
+pub weight_select : (w : Weights) (site : ℕ) (mode : Mode) (lists : List (List Goal)) → whole_weight w (goal.Select site mode lists) ≡ asking_weight w (form.Select site mode []) + lists_weight w lists
 weight_select w site mode lists = omega (arith, by_layer w (goal.Select site mode lists) (form.Select site mode lists) (goal.outs-Select site mode lists))
 
-pub weight_ask : (w : Weights) (pred : ℕ) (terms : List Term) (many : Bool) → whole_weight w (goal.Ask pred terms many) ≡ asking_weight w + terms_weight w terms
+pub weight_ask : (w : Weights) (pred : ℕ) (terms : List Term) (many : Bool) → whole_weight w (goal.Ask pred terms many) ≡ asking_weight w (form.Ask pred terms many) + terms_weight w terms
 weight_ask w pred terms many = omega (arith, by_layer w (goal.Ask pred terms many) (form.Ask pred terms many) (goal.outs-Ask pred terms many))
 
-pub weight_query : (w : Weights) (a : Term) (b : Option Term) (many : Bool) → whole_weight w (goal.Query a b many) ≡ asking_weight w + terms_weight w (a ∷ option_terms b)
+pub weight_query : (w : Weights) (a : Term) (b : Option Term) (many : Bool) → whole_weight w (goal.Query a b many) ≡ asking_weight w (form.Query a b many) + terms_weight w (a ∷ option_terms b)
 weight_query w a b many = omega (arith, by_layer w (goal.Query a b many) (form.Query a b many) (goal.outs-Query a b many))
 
-pub weight_holds : (w : Weights) (place : ℕ) (terms : List Term) (many : Bool) → whole_weight w (goal.Holds place terms many) ≡ asking_weight w + terms_weight w terms
+pub weight_holds : (w : Weights) (place : ℕ) (terms : List Term) (many : Bool) → whole_weight w (goal.Holds place terms many) ≡ asking_weight w (form.Holds place terms many) + terms_weight w terms
 weight_holds w place terms many = omega (arith, by_layer w (goal.Holds place terms many) (form.Holds place terms many) (goal.outs-Holds place terms many))
 
-pub weight_is_object : (w : Weights) (term : Term) (many : Bool) → whole_weight w (goal.IsObject term many) ≡ asking_weight w + terms_weight w (term ∷ [])
+pub weight_is_object : (w : Weights) (term : Term) (many : Bool) → whole_weight w (goal.IsObject term many) ≡ asking_weight w (form.IsObject term many) + terms_weight w (term ∷ [])
 weight_is_object w term many = omega (arith, by_layer w (goal.IsObject term many) (form.IsObject term many) (goal.outs-IsObject term many))
 
 pub weight_gathers : (w : Weights) (whole : Gathered) (a : Term) (inner : List Goal) (b : Term) →
-    whole_weight w (gathers whole a inner b) ≡ asking_weight w + terms_weight w (a ∷ b ∷ []) + (w.opening + w.small + w.block) + body_weight w inner
+    whole_weight w (gathers whole a inner b) ≡ asking_weight w (form.Collect a [] b) + 2 * w.gathers + terms_weight w (a ∷ b ∷ []) + (w.opening + w.small + w.block) + body_weight w inner
 weight_gathers w gathered.List a inner b = omega (arith, by_layer w (goal.Collect a inner b) (form.Collect a inner b) (goal.outs-Collect a inner b))
 weight_gathers w gathered.Sum a inner b = omega (arith, by_layer w (goal.Accumulate a inner b) (form.Accumulate a inner b) (goal.outs-Accumulate a inner b))
 

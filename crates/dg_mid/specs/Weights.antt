@@ -1,6 +1,6 @@
 -- How much room code takes, and how much the goals have for it that it is written of, whatever its parts weigh: so an engine gives bytes to them, or
--- counts one part alone.
-use Rattle.std.specs.Prelude.{◌≤◌, ℕ, ◌+◌, ◌*◌, List, [], ◌∷◌}
+-- weighs one part alone, of which there is none in the code where the program has none.
+use Rattle.std.specs.Prelude.{◌≤◌, ℕ, ◌+◌, ◌*◌, List, [], ◌∷◌, Option, Some, None, Bool, false}
 use Rattle.dg_base.specs.declared.program.Goal.{Goal, out-Goal}
 use Rattle.dg_base.specs.declared.program.Goal.TheOpen as form
 use Rattle.dg_base.specs.declared.program.Term.{Term, out-Term}
@@ -11,7 +11,6 @@ use Rattle.dg_base.specs.declared.program.ClosureBody.{ClosureBody}
 use Rattle.dg_base.specs.declared.program.CoreProgram.{CoreProgram}
 use Rattle.dg_base.specs.Goals.{all_goals_of, terms_held, option_terms}
 use Rattle.dg_base.specs.Terms.{nodes}
-use Rattle.dg_meaning.specs.Render.{characters}
 use Rattle.dg_mid.specs.declared.code.Action.TheVariants as action
 use Rattle.dg_mid.specs.declared.code.Op.{Op}
 use Rattle.dg_mid.specs.declared.code.Op.TheVariants as op
@@ -20,23 +19,28 @@ use Rattle.dg_mid.specs.declared.code.Code.{Code}
 use Rattle.dg_mid.specs.declared.writing.Level.{Level}
 use Rattle.dg_mid.specs.declared.writing.Level.TheVariants as level
 use Rattle.dg_mid.specs.declared.writing.Work.{Work}
-use Rattle.dg_mid.specs.Actions.{terms_of}
+use Rattle.dg_mid.specs.Actions.{form_of, terms_of}
 
 -- What the parts of code weigh.
 pub record Weights : Type 0 where
-  -- an instruction that does or asks something, begins a rule or a gathering, or chooses a branch, its terms apart
-  pub own : ℕ
+  -- an instruction that does or asks something, begins a gathering, or chooses a branch, by its goal without the lists in it; its terms apart
+  pub own : form.Goal-F Goal → ℕ
+  -- one that begins a rule, by its variables and its head, whose terms are apart
+  pub enters : ℕ → List Term → ℕ
   -- one that opens a choice or an inner construct, or goes on with a choice
   pub opening : ℕ
+  -- one that leaves a stoppable part
+  pub leaving : ℕ
   -- any other instruction
   pub small : ℕ
+  -- what an instruction weighs more that gathers a value, or takes values out
+  pub gathers : ℕ
   -- a block, its instructions apart
   pub block : ℕ
   -- a node of a term, by its form
   pub node : Term-F Term → ℕ
-  -- an instruction that prints a text, and a character of it
-  pub text : ℕ
-  pub character : ℕ
+  -- an instruction that prints a text
+  pub text : List ℕ → ℕ
 
 -- ## Code
 
@@ -49,23 +53,31 @@ abbrev pub terms_weight : Weights → List Term → ℕ
 terms_weight w [] = 0
 terms_weight w (term ∷ terms) = nodes_weight w (nodes term) + terms_weight w terms
 
+-- The goal of a query of a place or, without one, of all objects.
+abbrev pub found_form : Option ℕ → List Term → Bool → form.Goal-F Goal
+found_form None (term ∷ []) many = form.IsObject term many
+found_form None terms many = form.Holds 0 terms many
+found_form (Some place) terms many = form.Holds place terms many
+
 abbrev pub op_weight : Weights → Op → ℕ
-op_weight w (op.Do (action.Text text)) = w.text + w.character * characters text
-op_weight w (op.Do a) = w.own + terms_weight w (terms_of a)
-op_weight w (op.Ask pred terms many next) = w.own + terms_weight w terms
-op_weight w (op.LastAsk pred terms many) = w.own + terms_weight w terms
-op_weight w (op.Query a b many next) = w.own + terms_weight w (a ∷ option_terms b)
-op_weight w (op.LastQuery a b many) = w.own + terms_weight w (a ∷ option_terms b)
-op_weight w (op.Find place terms many next) = w.own + terms_weight w terms
-op_weight w (op.Select site mode blocks behind) = w.own
-op_weight w (op.Collect term into alt) = w.own + terms_weight w (term ∷ into ∷ [])
-op_weight w (op.Enter vars head) = w.own + terms_weight w head
+op_weight w (op.Do (action.Text text)) = w.text text
+op_weight w (op.Do a) = w.own (form_of a) + terms_weight w (terms_of a)
+op_weight w (op.Ask pred terms many next) = w.own (form.Ask pred terms many) + terms_weight w terms
+op_weight w (op.LastAsk pred terms many) = w.own (form.Ask pred terms many) + terms_weight w terms
+op_weight w (op.Query a b many next) = w.own (form.Query a b many) + terms_weight w (a ∷ option_terms b)
+op_weight w (op.LastQuery a b many) = w.own (form.Query a b many) + terms_weight w (a ∷ option_terms b)
+op_weight w (op.Find place terms many next) = w.own (found_form place terms many) + terms_weight w terms
+op_weight w (op.Select site mode blocks behind) = w.own (form.Select site mode [])
+op_weight w (op.Collect term into alt) = w.own (form.Collect term [] into) + terms_weight w (term ∷ into ∷ [])
+op_weight w (op.Enter vars head) = w.enters vars head + terms_weight w head
 op_weight w (op.Branch alt) = w.opening
 op_weight w op.Once = w.opening
 op_weight w (op.Try alt) = w.opening
 op_weight w (op.Shield alt) = w.opening
 op_weight w (op.Retry alt) = w.opening
-op_weight w (op.TakeOut whole into) = w.opening
+op_weight w (op.TakeOut whole into) = w.opening + w.gathers
+op_weight w (op.Keep term) = w.small + w.gathers
+op_weight w op.Leave = w.leaving
 op_weight w x = w.small
 
 abbrev pub ops_weight : Weights → List Op → ℕ
@@ -91,18 +103,31 @@ lists_in (form.Stoppable goals) = goals ∷ []
 lists_in (form.Select site mode lists) = lists
 lists_in goal = []
 
+-- A goal without the lists in it; the two ways to gather are one.
+abbrev pub bare : form.Goal-F Goal → form.Goal-F Goal
+bare (form.Collect a goals b) = form.Collect a [] b
+bare (form.Accumulate a goals b) = form.Collect a [] b
+bare (form.Select site mode lists) = form.Select site mode []
+bare goal = goal
+
+-- What gathers has room for two instructions of gatherings.
+abbrev pub gathering_weight : Weights → form.Goal-F Goal → ℕ
+gathering_weight w (form.Collect a goals b) = 2 * w.gathers
+gathering_weight w (form.Accumulate a goals b) = 2 * w.gathers
+gathering_weight w goal = 0
+
 -- What a goal has room for beside its lists: one that only holds lists for what comes behind them, any other for its own instruction, two blocks and
 -- what leads to them.
 abbrev pub own_weight : Weights → form.Goal-F Goal → ℕ
-own_weight w (form.Text text) = w.text + w.character * characters text
+own_weight w (form.Text text) = w.text text
 own_weight w form.Forever = w.opening + w.small + w.block
 own_weight w (form.Either lists) = w.small + w.block
 own_weight w (form.Once goals) = w.small + w.block
 own_weight w (form.Not goals) = w.small + w.block
 own_weight w (form.If test first other) = w.small + w.block
 own_weight w (form.Exhaust goals) = w.small + w.block
-own_weight w (form.Stoppable goals) = w.small + w.block
-own_weight w goal = w.own + 3 * w.small + 2 * w.block + terms_weight w (terms_held goal)
+own_weight w (form.Stoppable goals) = w.leaving + w.block
+own_weight w goal = w.own (bare goal) + gathering_weight w goal + 3 * w.small + 2 * w.block + terms_weight w (terms_held goal)
 
 -- What the lists of a goal have room for beside their goals.
 abbrev pub ways_weight : Weights → List (List Goal) → ℕ
@@ -134,7 +159,8 @@ whole_weight w goal = own_weight w (out-Goal goal) + lists_weight w (lists_in (o
 -- A rule has room for its head, its answer and their block, and the body of a closure for its answer and the block.
 abbrev pub rules_weight : Weights → List Rule → ℕ
 rules_weight w [] = 0
-rules_weight w (rule ∷ rules) = w.own + w.small + w.block + terms_weight w rule.head + body_weight w rule.body + rules_weight w rules
+rules_weight w (rule ∷ rules) =
+    w.enters rule.vars rule.head + w.small + w.block + terms_weight w rule.head + body_weight w rule.body + rules_weight w rules
 
 abbrev pub preds_weight : Weights → List Pred → ℕ
 preds_weight w [] = 0
@@ -147,7 +173,8 @@ closures_weight w (closure ∷ closures) = w.small + w.block + body_weight w clo
 -- The code of a program takes no more room than its goals, rules and closures have, and the first three blocks.
 abbrev pub IsLight : Weights → CoreProgram → Code → Type 0
 IsLight w program code =
-    blocks_weight w code.blocks ≤ w.own + 2 * w.small + 3 * w.block + preds_weight w program.preds + closures_weight w program.closures
+    blocks_weight w code.blocks ≤
+    w.own (form.Ask program.entry [] false) + 2 * w.small + 3 * w.block + preds_weight w program.preds + closures_weight w program.closures
 
 -- ## What is being written
 
@@ -157,7 +184,7 @@ level_weight w (level.Inner x others) = op_weight w x + body_weight w others
 level_weight w (level.Other test first tail others) =
     w.opening + 2 * w.small + w.block + body_weight w test + body_weight w first + body_weight w others
 level_weight w (level.Lists left alt tail others) = w.opening + w.block + lists_weight w left + body_weight w others
-level_weight w (level.Branches s others) = w.own + w.block + lists_weight w s.left + body_weight w others
+level_weight w (level.Branches s others) = w.own (form.Select s.site s.mode []) + w.block + lists_weight w s.left + body_weight w others
 
 abbrev pub levels_weight : Weights → List Level → ℕ
 levels_weight w [] = 0

@@ -29,4 +29,4 @@ pub returns-clause-light : goal.returns-clause-light
 returns-clause-light c w =
     let t : Branching = record c.args.select { left = c.pop.new.self } in
     let after : Work = record { ops = c.in_ok-ops.ops; goals = c.in-Some.list; levels = c.push.new.self } in
-    light_next w c.args.select t c.pop.new.self c.in-Some.list c.args.others c.args.levels after c.in-Some.ensures refl c.in_ok-ops.ensures refl c.in_ok-push.ensures.ok
+    light_next w c.args.select t c.pop.new.self c.in-Some.list c.args.others c.args.levels after c.in-Some.ensures refl refl c.in_ok-ops.ensures refl c.in_ok-push.ensures.ok
