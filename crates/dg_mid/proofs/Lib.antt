@@ -51,4 +51,5 @@ pub mod Opening
 pub mod Selecting
 pub mod Rules
 pub mod Weights
+pub mod Passing
 pub mod FlatLemmas

@@ -20,4 +20,5 @@ pub mod Laws
 pub mod Tidying
 pub mod Writing
 pub mod Weights
+pub mod Passing
 pub mod inside

@@ -1,6 +1,7 @@
 // What holds of all register code.
 ghost use Rattle.dg_mid.specs.Laws.{CallsCut, CallsFit, CodeShows, CodeShowsFaults, CostsItsWork, Falls, HeightsOrder, LooksItsWork};
 ghost use Rattle.dg_mid.specs.Laws.{MovesOn, NoStepLimit, ObjectsTried, RunsAsSearched, SinglesLeaveNone, TrailsOrder};
+ghost use Rattle.dg_mid.specs.Passing.{CodePasses};
 
 /// Every run of code that stands for a program is a run of its search.
 pub fn code_runs_as_searched()
@@ -66,4 +67,9 @@ pub fn code_costs_its_work()
 /// After more steps than the work of some goals allows, tidy code has taken a further goal or has ended.
 pub fn code_moves_on()
     ensures { MovesOn }
+{}
+
+/// Code passes what the goals and heads of its program pass.
+pub fn code_passes_as_its_goals()
+    ensures { CodePasses }
 {}
