@@ -2,6 +2,7 @@
 use Rattle.std.specs.Prelude.{ℕ, ◌+◌, ◌≤◌, List, [], ◌∷◌, ◌++◌, length, Bool, true, false, ◌&&◌}
 use Rattle.dg_base.specs.declared.program.CoreProgram.{CoreProgram}
 use Rattle.dg_base.specs.declared.program.Term.{Term}
+use Rattle.dg_base.specs.Goals.{option_terms}
 use Rattle.dg_meaning.specs.Cells.{nodes_of}
 use Rattle.dg_mid.specs.declared.code.Action.TheVariants as action
 use Rattle.dg_mid.specs.declared.code.Op.{Op}
@@ -21,8 +22,10 @@ use Rattle.dg_turn.specs.LastQueries.{last_routine}
 use Rattle.dg_turn.specs.Choices.{branch_routine, try_routine, once_routine}
 use Rattle.dg_turn.specs.Leaving.{just_routine}
 use Rattle.dg_turn.specs.Stopping.{shield_routine, leave_routine}
+use Rattle.dg_turn.specs.Bodies.{query_routine, last_query_routine}
 use Rattle.dg_emit.specs.declared.numbers.Numbers.{Numbers}
-use Rattle.dg_emit.specs.Numbers.{routines_of_op, routines_of_ops, first_of, first_rule, rules_count, numbers_from, block_number, pred_number}
+use Rattle.dg_emit.specs.Numbers.{routines_of_op, routines_of_ops, first_of, first_rule, rules_count, behind_blocks, numbers_from, block_number, pred_number}
+use Rattle.dg_emit.specs.Bodies.{bodies_routines, ClosuresFit}
 
 -- ## Instructions
 
@@ -35,6 +38,8 @@ is_built (op.Do (action.Equal a b)) = true
 is_built (op.Do other) = false
 is_built (op.Ask pred terms many next) = true
 is_built (op.LastAsk pred terms many) = true
+is_built (op.Query a b many next) = true
+is_built (op.LastQuery a b many) = true
 is_built op.Take = true
 is_built (op.Branch alt) = true
 is_built op.Once = true
@@ -62,6 +67,8 @@ op_routine program numbers behind (op.Do (action.Equal a b)) = equal_routine pro
 op_routine program numbers behind (op.Ask pred terms many next) =
     asking_routine program terms (block_number numbers next) many (pred_number numbers pred)
 op_routine program numbers behind (op.LastAsk pred terms many) = last_routine program terms (block_number numbers 0) many (pred_number numbers pred)
+op_routine program numbers behind (op.Query a b many next) = query_routine program a b (block_number numbers next) many numbers.find
+op_routine program numbers behind (op.LastQuery a b many) = last_query_routine program a b (block_number numbers 0) many numbers.find
 op_routine program numbers behind op.Take = goto_routine behind
 op_routine program numbers behind (op.Branch alt) = branch_routine (block_number numbers alt) behind
 op_routine program numbers behind op.Once = once_routine behind
@@ -119,11 +126,13 @@ preds_routines code numbers number (rules ∷ preds) =
 
 -- ## All
 
--- The routines of code whose first one has a number.
+-- The routines of code whose first one has a number: those of rules, of blocks, and of the bodies of closures.
 abbrev pub code_routines : CoreProgram → ℕ → Code → List Routine
 code_routines program first code =
     let numbers = numbers_from first code in
-    preds_routines code numbers first code.preds ++ blocks_routines program numbers (first + rules_count code.preds) code.blocks
+    preds_routines code numbers first code.preds
+    ++ (blocks_routines program numbers (first + rules_count code.preds) code.blocks
+    ++ bodies_routines program numbers (length code.closures) (behind_blocks first code) 0 code.closures)
 
 -- ## Code of a story
 
@@ -136,6 +145,8 @@ abbrev pub OpFits : CoreProgram → Op → Type 0
 OpFits program (op.Do (action.Equal a b)) = TermsFit program (a ∷ b ∷ [])
 OpFits program (op.Ask pred terms many next) = TermsFit program terms
 OpFits program (op.LastAsk pred terms many) = TermsFit program terms
+OpFits program (op.Query a b many next) = TermsFit program (a ∷ option_terms b)
+OpFits program (op.LastQuery a b many) = TermsFit program (a ∷ option_terms b)
 OpFits program (op.Enter vars head) = TermsFit program head
 OpFits program other = Unit {0}
 
@@ -156,6 +167,6 @@ abbrev pub PredsFit : Code → List (List RuleCode) → Type 0
 PredsFit code [] = Unit {0}
 PredsFit code (rules ∷ preds) = RulesFit code rules × PredsFit code preds
 
--- Code whose terms and keys are those of a story.
+-- Code whose terms, keys and closures are those of a story.
 abbrev pub CodeFits : CoreProgram → Code → Type 0
-CodeFits program code = BlocksFit program code.blocks × PredsFit code code.preds
+CodeFits program code = BlocksFit program code.blocks × PredsFit code code.preds × ClosuresFit program code

@@ -1,3 +1,5 @@
 pub mod Numbers
+pub mod Bodies
 pub mod Code
+pub mod Story
 pub mod inside

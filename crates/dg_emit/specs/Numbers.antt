@@ -1,11 +1,13 @@
--- The numbers of the routines of code: one for each rule, from a number on, then those of its blocks. Hold it against dg_mid/specs/Code.antt.
-use Rattle.std.specs.Prelude.{ℕ, ◌+◌, List, [], ◌∷◌, length, Option, Some, None}
+-- The numbers of the routines of code: one for each rule, from a number on, then those of its blocks and those that find and enter the bodies of closures.
+-- Hold it against dg_mid/specs/Code.antt.
+use Rattle.std.specs.Prelude.{ℕ, ◌+◌, ◌*◌, List, [], ◌∷◌, length, Option, Some, None}
 use Rattle.std.specs.List.{slice_get}
 use Rattle.dg_mid.specs.declared.code.Action.TheVariants as action
 use Rattle.dg_mid.specs.declared.code.Op.{Op}
 use Rattle.dg_mid.specs.declared.code.Op.TheVariants as op
 use Rattle.dg_mid.specs.declared.code.Block.{Block}
 use Rattle.dg_mid.specs.declared.code.RuleCode.{RuleCode}
+use Rattle.dg_mid.specs.declared.code.BodyCode.{BodyCode}
 use Rattle.dg_mid.specs.declared.code.Code.{Code}
 use Rattle.dg_rt.specs.declared.numbers.TheConstants.{FAIL, LEAVE, NONE as NO_RULE, UNSTOP}
 use Rattle.dg_emit.specs.declared.numbers.Numbers.{Numbers}
@@ -55,15 +57,34 @@ abbrev pub pred_starts : ℕ → List (List RuleCode) → List ℕ
 pred_starts number [] = []
 pred_starts number (rules ∷ preds) = first_rule number rules ∷ pred_starts (number + length rules) preds
 
+-- ## Bodies of closures
+
+-- How many routines bodies have: one each, and a fork less than there are bodies.
+abbrev pub bodies_size : List BodyCode → ℕ
+bodies_size [] = 0
+bodies_size (body ∷ bodies) = 1 + 2 * length bodies
+
+-- The routine that finds them, where their routines begin with a number; without closures it is the one that fails.
+abbrev pub bodies_start : ℕ → List BodyCode → ℕ
+bodies_start number [] = FAIL
+bodies_start number (body ∷ bodies) = number
+
 -- ## All
 
--- The numbers of code whose first routine has a number, and the one behind them.
-abbrev pub numbers_from : ℕ → Code → Numbers
-numbers_from first code =
-    record { preds = pred_starts first code.preds; blocks = block_starts (first + rules_count code.preds) code.blocks }
+-- The first number behind the routines of blocks, and the one behind all of them.
+abbrev pub behind_blocks : ℕ → Code → ℕ
+behind_blocks first code = first + rules_count code.preds + blocks_size code.blocks
 
 abbrev pub number_behind : ℕ → Code → ℕ
-number_behind first code = first + rules_count code.preds + blocks_size code.blocks
+number_behind first code = behind_blocks first code + bodies_size code.closures
+
+-- The numbers of code whose first routine has a number.
+abbrev pub numbers_from : ℕ → Code → Numbers
+numbers_from first code = record {
+  preds = pred_starts first code.preds;
+  blocks = block_starts (first + rules_count code.preds) code.blocks;
+  find = bodies_start (behind_blocks first code) code.closures;
+}
 
 -- The number, or another where there is none.
 abbrev pub number_or : ℕ → Option ℕ → ℕ
