@@ -1,2 +1,3 @@
 pub mod Left
 pub mod Acts
+pub mod Parts

@@ -16,8 +16,8 @@ use z_lang::{Act, Args, Atom, Function, Routine};
 /// What an inner construct keeps that gathers nothing.
 const NO_GATHERING: u16 = 65_535;
 
-// A routine of these acts.
-fn routine(alloc: Global, acts: &[Act]) -> Result<Routine, AllocError>
+/// A routine of these acts, without locals.
+pub fn routine(alloc: Global, acts: &[Act]) -> Result<Routine, AllocError>
     ensures { IfOk result (λ r. r ≡ routine_of 0 acts.now) }
 {
     let body = Items::from_slice(alloc, acts)?;

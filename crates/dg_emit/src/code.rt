@@ -1,13 +1,14 @@
 // The routines of code.
 ghost use Rattle.std.specs.Prelude.{◌≡◌, ◌+◌, ◌≤◌, ◌++◌, ◌∷◌, [], IfOk, OnOk, length};
-ghost use Rattle.dg_emit.specs.Numbers.{routines_of_ops, blocks_size};
+ghost use Rattle.dg_emit.specs.Numbers.{routines_of_ops as size_of, blocks_size};
+ghost use Rattle.dg_base.specs.Goals.{option_terms};
 ghost use Rattle.dg_turn.specs.Turns as turns;
 ghost use Rattle.dg_mid.specs.declared.code.Op.TheVariants as op;
 ghost use Rattle.dg_emit.specs.Code as spec;
 
 use crate::choices::{branch, commit, goto, just, leave, once, shield, try_first};
 use crate::counting::all_of;
-use crate::numbers::{Numbers, first_of, routines_of_op};
+use crate::numbers::{Numbers, first_of, routines_of_op, routines_of_ops};
 use crate::queries::Asked;
 use crate::terms::Writer;
 use dg_base::{Items, Term};
@@ -24,8 +25,7 @@ pub fn is_built(op: &Op) -> bool
         Op::Do(Action::Just) | Op::Do(Action::Fail) | Op::Do(Action::Stop) => true,
         Op::Do(Action::Equal(_, _)) => true,
         Op::Do(_) => false,
-        Op::Query(_, _, _, _) | Op::LastQuery(_, _, _) | Op::Find(_, _, _, _) => false,
-        Op::Select(_, _, _, _) | Op::Collect(_, _, _) => false,
+        Op::Find(_, _, _, _) | Op::Select(_, _, _, _) | Op::Collect(_, _, _) => false,
         Op::TakeOut(_, _) | Op::Keep(_) => false,
         _ => true,
     }
@@ -57,8 +57,8 @@ impl CodeWriter<'_> {
         ensures { IfOk result (λ r. r ≡ spec.op_routine self.now.writer.program.now self.now.numbers.now 0 (op.Ask pred terms.now many next)) }
     {
         let terms = all_of(self.writer.alloc, terms)?;
-        let rules = self.numbers.pred(pred);
-        let asked = Asked { many, rules };
+        let first = self.numbers.pred(pred);
+        let asked = Asked { many, first };
         self.writer
             .asking_routine(terms.as_slice(), self.numbers.block(next), asked)
     }
@@ -69,10 +69,47 @@ impl CodeWriter<'_> {
         ensures { IfOk result (λ r. r ≡ spec.op_routine self.now.writer.program.now self.now.numbers.now 0 (op.LastAsk pred terms.now many)) }
     {
         let terms = all_of(self.writer.alloc, terms)?;
-        let rules = self.numbers.pred(pred);
-        let asked = Asked { many, rules };
+        let first = self.numbers.pred(pred);
+        let asked = Asked { many, first };
         self.writer
             .last_routine(terms.as_slice(), self.numbers.block(0), asked)
+    }
+
+    // The routine of a query of a closure.
+    fn query(
+        &self,
+        closure: &Term,
+        argument: &Option<Term>,
+        many: bool,
+        next: u32,
+    ) -> Result<Routine, AllocError>
+        requires { spec.TermsFit self.now.writer.program.now (closure.now ∷ option_terms argument.now) }
+        ensures { IfOk result (λ r. r ≡ spec.op_routine self.now.writer.program.now self.now.numbers.now 0 (op.Query closure.now argument.now many next)) }
+    {
+        let behind = self.numbers.block(next);
+        let asked = Asked {
+            many,
+            first: self.numbers.find,
+        };
+        self.writer.query_routine(closure, argument, behind, asked)
+    }
+
+    // The routine of the last query of a rule, where it is one of a closure.
+    fn query_last(
+        &self,
+        closure: &Term,
+        argument: &Option<Term>,
+        many: bool,
+    ) -> Result<Routine, AllocError>
+        requires { spec.TermsFit self.now.writer.program.now (closure.now ∷ option_terms argument.now) }
+        ensures { IfOk result (λ r. r ≡ spec.op_routine self.now.writer.program.now self.now.numbers.now 0 (op.LastQuery closure.now argument.now many)) }
+    {
+        let end = self.numbers.block(0);
+        let asked = Asked {
+            many,
+            first: self.numbers.find,
+        };
+        self.writer.last_query_routine(closure, argument, end, asked)
     }
 
     // The routine that enters a rule.
@@ -106,6 +143,8 @@ impl CodeWriter<'_> {
             Op::Do(action) => self.action(behind, action),
             Op::Ask(pred, terms, many, next) => self.ask(*pred, terms.as_slice(), *many, *next),
             Op::LastAsk(pred, terms, many) => self.ask_last(*pred, terms.as_slice(), *many),
+            Op::Query(a, b, many, next) => self.query(a, b, *many, *next),
+            Op::LastQuery(a, b, many) => self.query_last(a, b, *many),
             Op::Take => goto(alloc, behind),
             Op::Branch(alt) | Op::Retry(alt) => branch(alloc, self.numbers.block(*alt), behind),
             Op::Once => once(alloc, behind),
@@ -135,7 +174,7 @@ impl CodeWriter<'_> {
     // The routines of a block, of which the first has a number.
     fn put_ops(&self, all: &mut Items<Routine>, number: u16, ops: &[Op]) -> Result<(), AllocError>
         requires fits { spec.OpsFit self.now.writer.program.now ops.now }
-        requires few { number + routines_of_ops ops.now ≤ 65535 }
+        requires few { number + size_of ops.now ≤ 65535 }
         ensures { OnOk result (all.new ≡ all.old ++ spec.ops_routines self.now.writer.program.now self.now.numbers.now number ops.now) }
     {
         let mut next = number;
@@ -162,20 +201,8 @@ impl CodeWriter<'_> {
         let mut next = number;
         for block in blocks {
             self.put_ops(all, next, block.ops.as_slice())?;
-            next += size_of(block.ops.as_slice());
+            next += routines_of_ops(block.ops.as_slice());
         }
         Ok(())
     }
-}
-
-// How many routines a block has.
-fn size_of(ops: &[Op]) -> u16
-    requires { routines_of_ops ops.now ≤ 65535 }
-    ensures { result ≡ routines_of_ops ops.now }
-{
-    let mut size = 0;
-    for op in ops {
-        size += routines_of_op(op);
-    }
-    size + 1
 }

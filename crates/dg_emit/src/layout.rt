@@ -3,15 +3,15 @@ ghost use Rattle.std.specs.Prelude.{◌≡◌, ◌+◌, ◌<◌, ◌≤◌, ◌+
 ghost use Rattle.std.specs.List.{slice_get};
 ghost use Rattle.dg_mid.specs.Code.{block_at, label_of};
 ghost use Rattle.dg_turn.specs.Told.{KeyFits};
-ghost use Rattle.dg_emit.specs.Numbers.{rules_count, numbers_from, number_behind};
+ghost use Rattle.dg_emit.specs.Numbers.{rules_count, blocks_size, numbers_from, number_behind};
 ghost use Rattle.dg_emit.specs.Code as spec;
 
 use crate::code::CodeWriter;
-use crate::numbers::{Numbers, first_rule};
+use crate::numbers::{Numbers, first_rule, routines_of_ops};
 use crate::rules::{RulePlace, rule_routine};
 use crate::terms::Writer;
 use dg_base::Items;
-use dg_mid::{Code, Op, RuleCode};
+use dg_mid::{Block, Code, Op, RuleCode};
 use std::alloc::{AllocError, Global};
 use z_lang::Routine;
 
@@ -125,11 +125,10 @@ pub fn put_code(
         writer: *writer,
         numbers,
     };
-    blocks.put_blocks(
-        all,
-        first + rules_of(code.preds.as_slice()),
-        code.blocks.as_slice(),
-    )
+    let first_block = first + rules_of(code.preds.as_slice());
+    let first_body = first_block + blocks_of(code.blocks.as_slice());
+    blocks.put_blocks(all, first_block, code.blocks.as_slice())?;
+    blocks.put_bodies(all, first_body, code.closures.as_slice())
 }
 
 // How many rules there are.
@@ -142,4 +141,16 @@ fn rules_of(preds: &[Items<RuleCode>]) -> u16
         count += rules.len() as u16;
     }
     count
+}
+
+// How many routines blocks have.
+fn blocks_of(blocks: &[Block]) -> u16
+    requires { blocks_size blocks.now ≤ 65535 }
+    ensures { result ≡ blocks_size blocks.now }
+{
+    let mut size = 0;
+    for block in blocks {
+        size += routines_of_ops(block.ops.as_slice());
+    }
+    size
 }

@@ -1,13 +1,16 @@
 //! The routines of register code, as acts.
 #![tactic(auto)]
 
+mod bodies;
 mod choices;
+mod closures;
 mod code;
 mod counting;
 mod layout;
 mod numbers;
 mod queries;
 mod rules;
+mod story;
 mod terms;
 
 pub use choices::{branch, commit, goto, just, leave, once, shield, try_first};
@@ -17,4 +20,5 @@ pub use layout::{RuleWriter, put_code};
 pub use numbers::{NumberFault, Numbers, numbers_from};
 pub use queries::Asked;
 pub use rules::{RulePlace, rule_routine};
+pub use story::story_routines;
 pub use terms::Writer;

@@ -1,10 +1,10 @@
-// The numbers of the routines of code: one for each rule, then those of the blocks.
+// The numbers of the routines of code: one for each rule, then those of the blocks and of the bodies of closures.
 ghost use Rattle.std.specs.Prelude.{◌≡◌, ◌+◌, ◌<◌, ◌≤◌, IfOk, IsErrOf, length};
 ghost use Rattle.dg_emit.specs.Numbers as spec;
 ghost use Rattle.dg_emit.specs.declared.numbers.NumberFault.TheVariants.{TooMany, Memory};
 
 use dg_base::Items;
-use dg_mid::{Action, Block, Code, Op, RuleCode};
+use dg_mid::{Action, Block, BodyCode, Code, Op, RuleCode};
 use dg_rt::numbers::{FAIL, LEAVE, NONE, UNSTOP};
 use std::alloc::{AllocError, Global};
 
@@ -23,11 +23,12 @@ impl From<AllocError> for NumberFault {
     }
 }
 
-/// The first routine of each predicate's rules, and that of each block.
+/// The first routine of each predicate's rules, that of each block, and the one that finds the bodies of closures.
 #[derive(Drop)]
 pub struct Numbers {
     pub preds: Items<u16>,
     pub blocks: Items<u16>,
+    pub find: u16,
 }
 
 fn number_or(other: u16, number: Option<u16>) -> u16
@@ -110,18 +111,41 @@ fn behind_block(number: u16, ops: &[Op]) -> Result<u16, NumberFault>
     number_behind(next, 1)
 }
 
-// The first routine of each block, from a number on.
-fn block_starts(alloc: Global, number: u16, blocks: &[Block]) -> Result<Items<u16>, NumberFault>
-    ensures ok { IfOk result (λ starts. starts ≡ spec.block_starts number blocks.now) }
-    ensures few { IfOk result (λ _. number + spec.blocks_size blocks.now ≤ 65535) }
+/// How many routines a block has.
+pub fn routines_of_ops(ops: &[Op]) -> u16
+    requires { spec.routines_of_ops ops.now ≤ 65535 }
+    ensures { result ≡ spec.routines_of_ops ops.now }
+{
+    let mut size = 0;
+    for op in ops {
+        size += routines_of_op(op);
+    }
+    size + 1
+}
+
+// The number behind the routines of blocks, from a number on.
+fn behind_blocks(number: u16, blocks: &[Block]) -> Result<u16, NumberFault>
+    ensures ok { IfOk result (λ behind. behind ≡ number + spec.blocks_size blocks.now) }
     ensures many { IsErrOf result TooMany → 65535 < number + spec.blocks_size blocks.now }
+{
+    let mut next = number;
+    for block in blocks {
+        next = behind_block(next, block.ops.as_slice())?;
+    }
+    Ok(next)
+}
+
+// The first routine of each block, from a number on.
+fn block_starts(alloc: Global, number: u16, blocks: &[Block]) -> Result<Items<u16>, AllocError>
+    requires { number + spec.blocks_size blocks.now ≤ 65535 }
+    ensures { IfOk result (λ starts. starts ≡ spec.block_starts number blocks.now) }
 {
     let mut starts = Items::new(alloc);
     let mut next = number;
     for block in blocks {
         let ops = block.ops.as_slice();
         starts.push(first_of(next, ops))?;
-        next = behind_block(next, ops)?;
+        next += routines_of_ops(ops);
     }
     Ok(starts)
 }
@@ -156,6 +180,30 @@ fn pred_starts(
     Ok(starts)
 }
 
+// The number behind the routines of bodies, from a number on.
+fn behind_bodies(number: u16, bodies: &[BodyCode]) -> Result<u16, NumberFault>
+    ensures ok { IfOk result (λ behind. behind ≡ number + spec.bodies_size bodies.now) }
+    ensures many { IsErrOf result TooMany → 65535 < number + spec.bodies_size bodies.now }
+{
+    match bodies {
+        [] => Ok(number),
+        [_, others @ ..] => {
+            let forks = number_behind(number, others.len())?;
+            number_behind(forks, bodies.len())
+        }
+    }
+}
+
+// The routine that finds the bodies of closures, where their routines begin with a number.
+fn bodies_start(number: u16, bodies: &[BodyCode]) -> u16
+    ensures { result ≡ spec.bodies_start number bodies.now }
+{
+    match bodies {
+        [] => FAIL,
+        [_, ..] => number,
+    }
+}
+
 /// The numbers of code whose first routine has a number.
 pub fn numbers_from(alloc: Global, first: u16, code: &Code) -> Result<Numbers, NumberFault>
     ensures ok { IfOk result (λ numbers. numbers ≡ spec.numbers_from first code.now) }
@@ -163,8 +211,17 @@ pub fn numbers_from(alloc: Global, first: u16, code: &Code) -> Result<Numbers, N
     ensures many { IsErrOf result TooMany → 65535 < spec.number_behind first code.now }
 {
     let preds = code.preds.as_slice();
+    let blocks = code.blocks.as_slice();
+    let bodies = code.closures.as_slice();
     let first_block = behind_rules(first, preds)?;
-    let blocks = block_starts(alloc, first_block, code.blocks.as_slice())?;
+    let first_body = behind_blocks(first_block, blocks)?;
+    behind_bodies(first_body, bodies)?;
     let preds = pred_starts(alloc, first, preds)?;
-    Ok(Numbers { preds, blocks })
+    let blocks = block_starts(alloc, first_block, blocks)?;
+    let find = bodies_start(first_body, bodies);
+    Ok(Numbers {
+        preds,
+        blocks,
+        find,
+    })
 }

@@ -16,11 +16,11 @@ use dg_rt::registers::{ARGS, CLASH, WORD};
 use std::alloc::AllocError;
 use z_lang::{Act, Args, Atom, Routine};
 
-/// What a query asks: for all answers or for one, and the routine of the first of its rules.
+/// What a query asks: for all answers or for one, and the routine with which looking begins: that of the first rule, or the one that finds a body.
 #[derive(Clone, Copy)]
 pub struct Asked {
     pub many: bool,
-    pub rules: u16,
+    pub first: u16,
 }
 
 // What comes behind the arguments of a query.
@@ -30,12 +30,12 @@ fn put_ask(
     has_first: bool,
     asked: Asked,
 ) -> Result<(), AllocError>
-    ensures { OnOk result (acts.new ≡ acts.old ++ inside.asking_acts behind asked.many has_first asked.rules) }
+    ensures { OnOk result (acts.new ≡ acts.old ++ inside.asking_acts behind asked.many has_first asked.first) }
 {
     let many = Atom::Num(u16::from(asked.many));
     let first = Atom::Num(u16::from(has_first));
     acts.push(Act::Call(None, Atom::Routine(ASK), Args::Three(behind, many, first)))?;
-    acts.push(Act::Return(Atom::Routine(asked.rules)))
+    acts.push(Act::Return(Atom::Routine(asked.first)))
 }
 
 impl Writer<'_> {
@@ -48,7 +48,7 @@ impl Writer<'_> {
     ) -> Result<Routine, AllocError>
         requires nodes { AreNodes self.now.program.now (nodes_of (those terms.now)) }
         requires few { length terms.now ≤ 12 }
-        ensures { IfOk result (λ r. r ≡ spec.asking_routine self.now.program.now (those terms.now) behind asked.many asked.rules) }
+        ensures { IfOk result (λ r. r ≡ spec.asking_routine self.now.program.now (those terms.now) behind asked.many asked.first) }
     {
         let mut body = Items::new(self.alloc);
         self.put_terms(&mut body, ARGS, terms)?;
@@ -65,7 +65,7 @@ impl Writer<'_> {
     ) -> Result<Routine, AllocError>
         requires nodes { AreNodes self.now.program.now (nodes_of (those terms.now)) }
         requires few { length terms.now ≤ 12 }
-        ensures { IfOk result (λ r. r ≡ last.last_routine self.now.program.now (those terms.now) end asked.many asked.rules) }
+        ensures { IfOk result (λ r. r ≡ last.last_routine self.now.program.now (those terms.now) end asked.many asked.first) }
     {
         let end = Args::One(Atom::Routine(end));
         let mut body = Items::new(self.alloc);

@@ -20,8 +20,11 @@ use dg_rt::registers::{ARGS, KEY, PARAMETERS, WORD};
 use std::alloc::{AllocError, Global};
 use z_lang::{Act, Args, Atom, Comparison, Routine, Test};
 
+/// The key of a program's first closure.
+pub const CLOSURES: u16 = 49_152;
+
 /// Where the words of a head are put: behind all other registers.
-const HEAD: u8 = 64;
+pub const HEAD: u8 = 64;
 
 // The word of a key; none where any first argument may be.
 fn key_word(key: Key) -> Option<u16>
@@ -35,7 +38,7 @@ fn key_word(key: Key) -> Option<u16>
         Key::Object(object) => Some(OBJECTS + object),
         Key::Nil => Some(NIL),
         Key::Pair => Some(NIL + 1),
-        Key::Closure(closure) => Some(49_152 + closure),
+        Key::Closure(closure) => Some(CLOSURES + closure),
     }
 }
 
@@ -62,18 +65,23 @@ fn put_found(acts: &mut Items<Act>, place: RulePlace) -> Result<(), AllocError>
     acts.push(Act::Return(Atom::Var(1)))
 }
 
-// The rule is passed over where the register of keys has another key than this word.
-fn put_test(acts: &mut Items<Act>, word: u16, next: u16) -> Result<(), AllocError>
-    ensures { OnOk result (acts.new ≡ acts.old ++ inside.key_acts word next) }
+/// Another routine comes next, unless the register of keys compares so with a word.
+pub fn put_test(
+    acts: &mut Items<Act>,
+    comparison: Comparison,
+    word: u16,
+    other: u16,
+) -> Result<(), AllocError>
+    ensures { OnOk result (acts.new ≡ acts.old ++ inside.key_acts comparison word other) }
 {
     let test = Test {
-        comparison: Comparison::Either(Atom::Num(word)),
+        comparison,
         first: Atom::Var(KEY),
-        second: Atom::Num(32_768),
+        second: Atom::Num(word),
         answer: true,
     };
     acts.push(Act::When(test, 0))?;
-    acts.push(Act::Return(Atom::Routine(next)))?;
+    acts.push(Act::Return(Atom::Routine(other)))?;
     acts.push(Act::Label(0))
 }
 
@@ -84,13 +92,14 @@ pub fn rule_routine(alloc: Global, key: Key, place: RulePlace) -> Result<Routine
 {
     let mut body = Items::new(alloc);
     if let Some(word) = key_word(key) {
-        put_test(&mut body, word, place.next)?;
+        let other = Comparison::Either(Atom::Num(word));
+        put_test(&mut body, other, 32_768, place.next)?;
     }
     put_found(&mut body, place)?;
     Ok(Routine { locals: 1, body })
 }
 
-// So many arguments are matched with the words of a head, or of terms behind them.
+/// So many arguments are matched with the words of a head, or of terms behind them.
 pub fn put_matches(
     acts: &mut Items<Act>,
     arguments: u8,
@@ -108,7 +117,7 @@ pub fn put_matches(
     Ok(())
 }
 
-// What comes behind a unification is answered.
+/// What comes behind a unification is answered.
 pub fn put_last(acts: &mut Items<Act>, behind: u16) -> Result<(), AllocError>
     ensures { OnOk result (acts.new ≡ acts.old ++ turns.last_acts behind) }
 {

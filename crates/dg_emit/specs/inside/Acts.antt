@@ -1,18 +1,21 @@
 -- Single acts. The proofs alone rest on it.
-use Rattle.std.specs.Prelude.{ℕ, List, [], ◌∷◌, Option, None, Bool, true}
+use Rattle.std.specs.Prelude.{ℕ, List, [], ◌∷◌, Option, Some, None, Bool, true}
 use Rattle.z_lang.specs.declared.act.Act.{Act}
 use Rattle.z_lang.specs.declared.act.Act.TheVariants as acts
 use Rattle.z_lang.specs.declared.act.Args.TheVariants as args
 use Rattle.z_lang.specs.declared.act.Atom.{Atom}
 use Rattle.z_lang.specs.declared.act.Atom.TheVariants as atoms
+use Rattle.z_lang.specs.declared.act.Comparison.{Comparison}
 use Rattle.z_lang.specs.declared.act.Comparison.TheVariants as comparisons
 use Rattle.z_lang.specs.declared.act.Function.TheVariants as functions
 use Rattle.z_lang.specs.declared.act.Routine.{Routine}
-use Rattle.dg_rt.specs.declared.numbers.TheConstants.{CAPTURE, ASK, MATCH, OPEN}
-use Rattle.dg_rt.specs.declared.registers.TheConstants.{TERM, KEY}
+use Rattle.dg_rt.specs.declared.numbers.TheConstants.{CAPTURE, ASK, MATCH, OPEN, BODY, VAR, KEY_OF, WALK}
+use Rattle.dg_rt.specs.declared.registers.TheConstants.{TERM, KEY, CLASH, PARAMETERS, MANY}
 use Rattle.dg_rt.specs.RunTime.{routine_of}
 use Rattle.dg_turn.specs.Lies.{bit_of}
 use Rattle.dg_turn.specs.Terms.{two_numbers}
+use Rattle.dg_turn.specs.Turns.{HEAD}
+use Rattle.dg_turn.specs.Bodies.{CALLED}
 
 -- The word of a box that lies so far behind the first cell is put into a variable.
 abbrev pub box_act : ℕ → ℕ → Act
@@ -26,11 +29,11 @@ two vs i = atoms.Num (two_numbers vs i)
 abbrev pub capture_act : List ℕ → Act
 capture_act vs = acts.Call None (atoms.Routine CAPTURE) (args.Three (two vs 0) (two vs 2) (two vs 4))
 
--- A rule with a key is passed over.
-abbrev pub key_acts : ℕ → ℕ → List Act
-key_acts word next =
-    acts.When (record { comparison = comparisons.Either (atoms.Num word); first = atoms.Var KEY; second = atoms.Num 32768; answer = true }) 0
-    ∷ acts.Return (atoms.Routine next) ∷ acts.Label 0 ∷ []
+-- Another routine comes next, unless the register of keys compares so with a word.
+abbrev pub key_acts : Comparison → ℕ → ℕ → List Act
+key_acts comparison word other =
+    acts.When (record { comparison = comparison; first = atoms.Var KEY; second = atoms.Num word; answer = true }) 0
+    ∷ acts.Return (atoms.Routine other) ∷ acts.Label 0 ∷ []
 
 -- A query is asked behind its arguments.
 abbrev pub asking_acts : Atom → Bool → Bool → ℕ → List Act
@@ -45,6 +48,21 @@ open_act into other gathers = acts.Call into (atoms.Routine OPEN) (args.Three (a
 -- The routine that calls one without arguments, and goes on.
 abbrev pub calling_routine : ℕ → ℕ → Routine
 calling_routine called behind = routine_of 0 (acts.Call None (atoms.Routine called) args.Zero ∷ acts.Return (atoms.Routine behind) ∷ [])
+
+-- A body of a closure is entered: the closure's values and its own variables stand in a frame, of which the first of its own, where there is an argument,
+-- has its word in a register.
+abbrev pub entering_acts : (own captured : ℕ) → List Act
+entering_acts own captured =
+    acts.Call None (atoms.Routine BODY) (args.Two (atoms.Num own) (atoms.Var CALLED)) ∷ acts.Copy CLASH (atoms.Num 0)
+    ∷ acts.When (record { comparison = comparisons.Equal; first = atoms.Var PARAMETERS; second = atoms.Num 0; answer = true }) 1
+    ∷ acts.Call (Some HEAD) (atoms.Routine VAR) (args.One (atoms.Num captured)) ∷ []
+
+-- The value that is called is looked up, with its key, and what looks for its body comes next.
+abbrev pub look_acts : ℕ → Bool → ℕ → List Act
+look_acts arguments many find =
+    acts.Copy MANY (atoms.Num (bit_of many)) ∷ acts.Copy PARAMETERS (atoms.Num arguments)
+    ∷ acts.Call (Some KEY) (atoms.Routine KEY_OF) (args.One (atoms.Var CALLED))
+    ∷ acts.Call (Some CALLED) (atoms.Routine WALK) (args.One (atoms.Var CALLED)) ∷ acts.Return (atoms.Routine find) ∷ []
 
 -- An argument is matched with a word of a head.
 abbrev pub match_act : ℕ → ℕ → Act
