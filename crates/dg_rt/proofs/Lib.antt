@@ -62,3 +62,4 @@ pub mod Moving
 pub mod Counting
 pub mod Encoding
 pub mod Lettering
+pub mod Spacing

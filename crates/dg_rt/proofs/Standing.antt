@@ -1,13 +1,13 @@
 -- Where the routines of the run-time stand.
 use Rattle.std.proofs.Common.{◌≡◌, Some, refl}
 use Rattle.z_lang.specs.State.{Program}
-use Rattle.dg_rt.specs.declared.numbers.TheConstants.{WALK, BIND, OCCURS, UNIFY, UNDO, COPY_OUT, COPY_IN, NEWLINE, HEAP_LIMIT, TRAIL_LIMIT, CUT, KEY_OF, FULL, FLAG, SET_FLAG, SEPARATE, FIRST, LETTER}
+use Rattle.dg_rt.specs.declared.numbers.TheConstants.{WALK, BIND, OCCURS, UNIFY, UNDO, COPY_OUT, COPY_IN, NEWLINE, HEAP_LIMIT, TRAIL_LIMIT, CUT, KEY_OF, NUMBER, FULL, FLAG, SET_FLAG, SEPARATE, FIRST, LETTER}
 use Rattle.dg_rt.specs.declared.unify.TheConstants.{WALK_ACTS, BIND_ACTS, OCCURS_ACTS, UNIFY_ACTS, UNDO_ACTS}
 use Rattle.dg_rt.specs.declared.copies.TheConstants.{COPY_OUT_ACTS, COPY_IN_ACTS}
 use Rattle.dg_rt.specs.declared.closings.TheConstants.{NEWLINE_ACTS, HEAP_LIMIT_ACTS, TRAIL_LIMIT_ACTS}
 use Rattle.dg_rt.specs.declared.choices.TheConstants.{CUT_ACTS}
 use Rattle.dg_rt.specs.declared.rules.TheConstants.{KEY_OF_ACTS}
-use Rattle.dg_rt.specs.declared.operands.TheConstants.{FULL_ACTS}
+use Rattle.dg_rt.specs.declared.operands.TheConstants.{NUMBER_ACTS, FULL_ACTS}
 use Rattle.dg_rt.specs.declared.world.TheConstants.{FLAG_ACTS, SET_FLAG_ACTS}
 use Rattle.dg_rt.specs.declared.gaps.TheConstants.{SEPARATE_ACTS, FIRST_ACTS}
 use Rattle.dg_rt.specs.declared.pieces.TheConstants.{LETTER_ACTS}
@@ -49,6 +49,9 @@ module _ (p : Program) (has : HasRunTime p) where
 
   pub key_of_at : p.routine_at (p.names.routine KEY_OF) ≡ Some (routine_of 4 KEY_OF_ACTS)
   key_of_at = has.each 23 (routine_of 4 KEY_OF_ACTS) refl
+
+  pub number_at : p.routine_at (p.names.routine NUMBER) ≡ Some (routine_of 1 NUMBER_ACTS)
+  number_at = has.each 34 (routine_of 1 NUMBER_ACTS) refl
 
   pub full_at : p.routine_at (p.names.routine FULL) ≡ Some (routine_of 3 FULL_ACTS)
   full_at = has.each 37 (routine_of 3 FULL_ACTS) refl

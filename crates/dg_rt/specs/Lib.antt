@@ -19,6 +19,7 @@ pub mod Operands
 pub mod Tables
 pub mod Gaps
 pub mod Pieces
+pub mod Spaces
 pub mod Moves
 pub mod Fits
 pub mod inside

@@ -14,7 +14,7 @@ use Rattle.dg_rt.specs.declared.rules.TheConstants.{KEY_OF_ACTS, FOUND_ACTS, NON
 use Rattle.dg_rt.specs.declared.queries.TheConstants.{LEAVE_ACTS, ASK_ACTS, TAIL_CALL_ACTS, BODY_ACTS}
 use Rattle.dg_rt.specs.declared.operands.TheConstants.{NUMBER_ACTS, OBJECT_ACTS, SIMPLE_ACTS, FULL_ACTS}
 use Rattle.dg_rt.specs.declared.world.TheConstants.{VALUE_ACTS, SET_ACTS, CLEAR_ACTS, CLEAR_ALL_ACTS, FLAG_ACTS, SET_FLAG_ACTS, CLEAR_FLAGS_ACTS}
-use Rattle.dg_rt.specs.declared.gaps.TheConstants.{SEPARATE_ACTS, FIRST_ACTS}
+use Rattle.dg_rt.specs.declared.gaps.TheConstants.{SEPARATE_ACTS, FIRST_ACTS, ASK_SPACES_ACTS}
 use Rattle.dg_rt.specs.declared.pieces.TheConstants.{PRINT_MARK_ACTS, PRINT_NUMBER_ACTS, LETTER_ACTS, PRINT_LETTERS_ACTS}
 use Rattle.dg_rt.specs.declared.keeping.TheConstants.{MOVE_ACTS, CELLS_ACTS}
 use Rattle.dg_rt.specs.Areas.{IsMapped}
@@ -76,11 +76,15 @@ keeping_routines = routine_of 4 MOVE_ACTS ∷ routine_of 4 CELLS_ACTS ∷ []
 abbrev pub letter_routines : List Routine
 letter_routines = routine_of 1 LETTER_ACTS ∷ routine_of 3 PRINT_LETTERS_ACTS ∷ []
 
+-- Those of counted spaces.
+abbrev pub space_routines : List Routine
+space_routines = routine_of 2 ASK_SPACES_ACTS ∷ []
+
 -- All of them. The first has number 1, since a story begins with routine 0.
 abbrev pub runtime : List Routine
 runtime =
     value_routines ++ (closing_routines ++ (frame_routines ++ (rule_routines ++ (query_routines ++ (operand_routines
-    ++ (world_routines ++ (printing_routines ++ (keeping_routines ++ letter_routines))))))))
+    ++ (world_routines ++ (printing_routines ++ (keeping_routines ++ (letter_routines ++ space_routines)))))))))
 
 -- The run-time stands in a program: its areas may be written, and each routine has its number.
 pub record HasRunTime (p : Program) : Type 0 where

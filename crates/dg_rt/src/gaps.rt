@@ -1,7 +1,9 @@
 // What stands between two pieces of text.
-use crate::acts::{one_of, say, sub, when};
+use crate::acts::{add, call, one_of, say, sub, when};
+use crate::numbers::{FAIL, NUMBER};
 use crate::registers::{ASKED, LAST, LINES, SPACES, UPPER};
-use z_lang::{Act, Atom, Comparison, Function, Print, Test};
+use crate::words::NO_VALUE;
+use z_lang::{Act, Args, Atom, Comparison, Function, Print, Test};
 
 /// Prints what separates a piece that begins with the character of local 1 from the text before: newlines and spaces, or spaces, or what stands between
 /// two characters.
@@ -46,4 +48,19 @@ pub const FIRST_ACTS: [Act; 8] = [
     Act::Label(0),
     Act::Print(Print::Unicode, Atom::Var(1)),
     Act::Return(Atom::Num(0)),
+];
+
+/// As many spaces more are asked for as the number of local 1 says, no more than 16,383 in all, and local 2 comes next; where it is no number, what
+/// goes back does.
+pub const ASK_SPACES_ACTS: [Act; 9] = [
+    call!(1, NUMBER, 1),
+    when!(1, Equal, Atom::Num(NO_VALUE), true, 1),
+    add!(SPACES, SPACES, Atom::Var(1)),
+    when!(SPACES, Less, Atom::Num(16_384), true, 0),
+    Act::Copy(SPACES, Atom::Num(16_383)),
+    Act::Label(0),
+    Act::Return(Atom::Var(2)),
+    // no number
+    Act::Label(1),
+    Act::Return(Atom::Routine(FAIL)),
 ];

@@ -7,6 +7,7 @@ ghost use Rattle.dg_rt.specs.Choices.{CommitWorks, CutWorks, FailWorks, OpenInne
 ghost use Rattle.dg_rt.specs.Frames.{CaptureWorks, EnterWorks, VarWorks};
 ghost use Rattle.dg_rt.specs.Fits.{RuntimeFits};
 ghost use Rattle.dg_rt.specs.Gaps.{FirstWorks, SeparateWorks};
+ghost use Rattle.dg_rt.specs.Spaces.{SpacesWork};
 ghost use Rattle.dg_rt.specs.Moves.{CellsWorks, MoveWorks};
 ghost use Rattle.dg_rt.specs.Operands.{FullWorks, OperandsWork};
 ghost use Rattle.dg_rt.specs.Pieces.{PiecesWork};
@@ -184,4 +185,9 @@ pub fn cells_works()
 /// The routines can be assembled.
 pub fn runtime_fits()
     ensures { RuntimeFits }
+{}
+
+/// The routine that asks for so many spaces does so, or fails.
+pub fn spaces_work()
+    ensures { SpacesWork }
 {}

@@ -28,7 +28,7 @@ pub use closings::{
 };
 pub use copies::{COPY_IN_ACTS, COPY_OUT_ACTS};
 pub use frames::{CAPTURE_ACTS, ENTER_ACTS, VAR_ACTS};
-pub use gaps::{FIRST_ACTS, SEPARATE_ACTS};
+pub use gaps::{ASK_SPACES_ACTS, FIRST_ACTS, SEPARATE_ACTS};
 pub use heap::CHARGE_ACTS;
 pub use keeping::{CELLS_ACTS, MOVE_ACTS};
 pub use laws::{
@@ -36,7 +36,7 @@ pub use laws::{
     copy_in_works, copy_works, cut_works, enter_works, fail_works, first_works, found_works,
     full_works, key_works, leave_works, match_works, matched_works, move_works, none_works,
     open_inner_works, open_works, operands_work, pieces_work, runtime_fits, separate_works,
-    tail_call_works, undo_gives_back, undo_unwinds, unify_works, unstop_works, var_works,
+    spaces_work, tail_call_works, undo_gives_back, undo_unwinds, unify_works, unstop_works, var_works,
     world_works,
 };
 pub use operands::{FULL_ACTS, NUMBER_ACTS, OBJECT_ACTS, SIMPLE_ACTS};

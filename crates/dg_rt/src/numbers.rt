@@ -158,3 +158,6 @@ pub const LETTER: u16 = 52;
 
 /// Prints an unknown word as a piece.
 pub const PRINT_LETTERS: u16 = 53;
+
+/// Asks for so many spaces.
+pub const ASK_SPACES: u16 = 54;

@@ -9,7 +9,7 @@ use crate::closings::{
 };
 use crate::copies::{COPY_IN_ACTS, COPY_OUT_ACTS};
 use crate::frames::{CAPTURE_ACTS, ENTER_ACTS, VAR_ACTS};
-use crate::gaps::{FIRST_ACTS, SEPARATE_ACTS};
+use crate::gaps::{ASK_SPACES_ACTS, FIRST_ACTS, SEPARATE_ACTS};
 use crate::heap::CHARGE_ACTS;
 use crate::keeping::{CELLS_ACTS, MOVE_ACTS};
 use crate::operands::{FULL_ACTS, NUMBER_ACTS, OBJECT_ACTS, SIMPLE_ACTS};
@@ -162,6 +162,14 @@ impl Writer {
         self.put(3, &PRINT_LETTERS_ACTS)?;
         Ok(())
     }
+
+    // Those of counted spaces.
+    fn put_spaces(&mut self) -> Result<(), AllocError>
+        ensures { OnOk result (self.new.all ≡ self.old.all ++ spec.space_routines) }
+    {
+        self.put(2, &ASK_SPACES_ACTS)?;
+        Ok(())
+    }
 }
 
 /// All of them, in the order of their numbers, the first of which is 1: a story begins with routine 0.
@@ -182,5 +190,6 @@ pub fn runtime(alloc: Global) -> Result<Items<Routine>, AllocError>
     writer.put_printing()?;
     writer.put_keeping()?;
     writer.put_letters()?;
+    writer.put_spaces()?;
     Ok(writer.all)
 }

@@ -11,4 +11,5 @@ pub mod Leaving
 pub mod LastQueries
 pub mod Stopping
 pub mod Bodies
+pub mod Texts
 pub mod Paid
