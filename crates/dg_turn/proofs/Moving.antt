@@ -31,14 +31,14 @@ pub record Moved (t : Telling) (out : Outside) (y : ℕ) (cells' : ℕ → ℕ) 
   pub cells_are : (k : ℕ) → k ≢ 0 → rep.cells k ≡ cells' k
 
 module _ (t : Telling) (plays : Playing t) (out : Outside) (x : ℕ) (m : Mid) (z : ZState) (r : Represented t out x m z) (body : Routine) (there : t.p.routine_at x ≡ Some body) (few : body.locals ≤ 15) where
-  -- Where a routine's acts lead to memory that stands for a machine, and return the next routine, that is a turn.
-  pub moved : (y n : ℕ) (memory' locals' : List ℕ) (cells' : ℕ → ℕ) (sh' : Shape) (trail' : List ℕ) (m' : Mid) → ActsRun t.p 3500 19000 body.body body.body (routine_entered (state r.memory [] out.typed out.drawn out.output) body.locals (0, 0, 0)) (Returns y) (state memory' locals' out.typed out.drawn out.output) n → Holds t.p.world.layout memory' cells' → y < 65536 → MidIn t out.words sh' cells' trail' m' → Moved t out y cells' sh' m' n z
-  moved y n memory' locals' cells' sh' trail' m' runs holds small mid =
+  -- Where a routine's acts lead to memory that stands for a machine, with something else outside perhaps, and return the next routine, that is a turn.
+  pub moved_to : (out' : Outside) (y n : ℕ) (memory' locals' : List ℕ) (cells' : ℕ → ℕ) (sh' : Shape) (trail' : List ℕ) (m' : Mid) → ActsRun t.p 3500 19000 body.body body.body (routine_entered (state r.memory [] out.typed out.drawn out.output) body.locals (0, 0, 0)) (Returns y) (state memory' locals' out'.typed out'.drawn out'.output) n → Holds t.p.world.layout memory' cells' → y < 65536 → MidIn t out'.words sh' cells' trail' m' → Moved t out' y cells' sh' m' n z
+  moved_to out' y n memory' locals' cells' sh' trail' m' runs holds small mid =
       let high = plays.has.mapped.room in
       let s0 = state r.memory [] out.typed out.drawn out.output in
-      let s1 = state memory' locals' out.typed out.drawn out.output in
+      let s1 = state memory' locals' out'.typed out'.drawn out'.output in
       let put = puts t.p (left_with s0 s1) cells' 16 y holds (omega arith) (omega arith) (omega arith) small in
-      let s2 = state (with_cell memory' 0 y) [] out.typed out.drawn out.output in
+      let s2 = state (with_cell memory' 0 y) [] out'.typed out'.drawn out'.output in
       let b = bounces t.p t.story plays.stands 16 plays.labels t.pc plays.placed plays.from t.context s0 s1 s2 x y 3600 20000 3500 19000 n body r.kept (plays.room r.memory out.typed out.output out.drawn) (register t.p s0 r.cells 16 r.holds (omega arith) (omega arith) (omega arith) ∙ ap word_is r.next_is) there (omega arith) (omega arith) runs put.put_is in
       let sum : suc n + 1 ≡ n + 2 = omega arith in
       record {
@@ -59,10 +59,17 @@ module _ (t : Telling) (plays : Playing t) (out : Outside) (x : ℕ) (m : Mid) (
         cells_are = λ k ne. other_cell cells' 0 y k ne;
       }
 
-  pub moves : (y n most : ℕ) (memory' locals' : List ℕ) (cells' : ℕ → ℕ) (sh' : Shape) (trail' : List ℕ) (m' : Mid) → ActsRun t.p 3500 19000 body.body body.body (routine_entered (state r.memory [] out.typed out.drawn out.output) body.locals (0, 0, 0)) (Returns y) (state memory' locals' out.typed out.drawn out.output) n → Holds t.p.world.layout memory' cells' → y < 65536 → MidIn t out.words sh' cells' trail' m' → n + 2 ≤ most → Comes t out y m' most z
-  moves y n most memory' locals' cells' sh' trail' m' runs holds small mid le =
-      let g = moved y n memory' locals' cells' sh' trail' m' runs holds small mid in
+  pub moves_to : (out' : Outside) (y n most : ℕ) (memory' locals' : List ℕ) (cells' : ℕ → ℕ) (sh' : Shape) (trail' : List ℕ) (m' : Mid) → ActsRun t.p 3500 19000 body.body body.body (routine_entered (state r.memory [] out.typed out.drawn out.output) body.locals (0, 0, 0)) (Returns y) (state memory' locals' out'.typed out'.drawn out'.output) n → Holds t.p.world.layout memory' cells' → y < 65536 → MidIn t out'.words sh' cells' trail' m' → n + 2 ≤ most → Comes t out' y m' most z
+  moves_to out' y n most memory' locals' cells' sh' trail' m' runs holds small mid le =
+      let g = moved_to out' y n memory' locals' cells' sh' trail' m' runs holds small mid in
       record { there = g.there; count = n + 2; some = omega arith; few = le; leads = g.leads; rep = g.rep }
+
+  -- So it is with what is outside as it was.
+  pub moved : (y n : ℕ) (memory' locals' : List ℕ) (cells' : ℕ → ℕ) (sh' : Shape) (trail' : List ℕ) (m' : Mid) → ActsRun t.p 3500 19000 body.body body.body (routine_entered (state r.memory [] out.typed out.drawn out.output) body.locals (0, 0, 0)) (Returns y) (state memory' locals' out.typed out.drawn out.output) n → Holds t.p.world.layout memory' cells' → y < 65536 → MidIn t out.words sh' cells' trail' m' → Moved t out y cells' sh' m' n z
+  moved y n memory' locals' cells' sh' trail' m' runs holds small mid = moved_to out y n memory' locals' cells' sh' trail' m' runs holds small mid
+
+  pub moves : (y n most : ℕ) (memory' locals' : List ℕ) (cells' : ℕ → ℕ) (sh' : Shape) (trail' : List ℕ) (m' : Mid) → ActsRun t.p 3500 19000 body.body body.body (routine_entered (state r.memory [] out.typed out.drawn out.output) body.locals (0, 0, 0)) (Returns y) (state memory' locals' out.typed out.drawn out.output) n → Holds t.p.world.layout memory' cells' → y < 65536 → MidIn t out.words sh' cells' trail' m' → n + 2 ≤ most → Comes t out y m' most z
+  moves y n most memory' locals' cells' sh' trail' m' runs holds small mid le = moves_to out y n most memory' locals' cells' sh' trail' m' runs holds small mid le
 
   -- Where they end the run, it is over.
   pub closes_within : (f w : ℕ) → f < 3600 → body.locals + w ≤ 20000 → (n most : ℕ) (ending : Ending) (memory' locals' : List ℕ) → ActsRun t.p f w body.body body.body (routine_entered (state r.memory [] out.typed out.drawn out.output) body.locals (0, 0, 0)) (Stops AtQuit) (state memory' locals' out.typed out.drawn (out.output ++ closing (r.cells 28) ending)) n → n + 1 ≤ most → Closes t out ending most z

@@ -47,7 +47,7 @@ row_stays : (cells cells' : ℕ → ℕ) (j : ℕ) (xs : List ℕ) → ((k : ℕ
 row_stays cells cells' j [] same h = tt
 row_stays cells cells' j (x ∷ xs) same h = (same j (omega arith) ∙ h.0, row_stays cells cells' (suc j) xs (λ k le. same k (omega arith)) h.1)
 
-gatherings_stay : (t : Telling) (cells cells' : ℕ → ℕ) (gs : List Gathering) → ((k : ℕ) → aux_at ≤ k → cells' k ≡ cells k) → GatheringsIn t cells gs → GatheringsIn t cells' gs
+pub gatherings_stay : (t : Telling) (cells cells' : ℕ → ℕ) (gs : List Gathering) → ((k : ℕ) → aux_at ≤ k → cells' k ≡ cells k) → GatheringsIn t cells gs → GatheringsIn t cells' gs
 gatherings_stay t cells cells' [] same h = tt
 gatherings_stay t cells cells' (x ∷ xs) same h =
     let a = h.0 in (

@@ -6,7 +6,7 @@ use Rattle.dg_rt.specs.Areas.{heap_at, trail_at}
 use Rattle.dg_rt.specs.Shapes.{Shape}
 use Rattle.dg_rt.proofs.Backs.{grown_none, back_grown, trail_stays}
 use Rattle.dg_turn.specs.Told.{Telling}
-use Rattle.dg_turn.specs.Rest.{gather_words}
+use Rattle.dg_turn.specs.Rest.{gather_words, RestIn}
 use Rattle.dg_turn.specs.Lies.{StopNamed, FramesIn, InnersIn, MidIn}
 use Rattle.dg_turn.proofs.Resting.{rest_stays}
 use Rattle.dg_turn.proofs.Growing.{stops_at, choices_at, stands_same}
@@ -28,12 +28,17 @@ rest_kept k lt far = ((λ q. lt), far)
 abbrev pub SameRest : (ℕ → ℕ) → (ℕ → ℕ) → Type 0
 SameRest cells cells' = (k : ℕ) → k ≢ 0 → k ≢ 4 → k ≢ 6 → k ≢ 7 → IsKept k → cells' k ≡ cells k
 
--- Memory stands for the machine with another newest frame, another newest inner construct, and another innermost stoppable part that is open.
-pub mid_parts : (t : Telling) {outer : ℕ → ℕ} (sh : Shape) (cells cells' : ℕ → ℕ) (trail : List ℕ) (m : Mid) (fs : List Frame) (ps : List Place) (stop : Option ℕ) → SameRest cells cells' → FramesIn t sh m.stops (cells' 4) fs → InnersIn sh m.stops (cells' 6) ps → StopNamed (cells' 7) stop m.stops → MidIn t outer sh cells trail m →
-    MidIn t outer sh cells' trail (record m { frames = fs; inner = ps; stop = stop })
-mid_parts t sh cells cells' trail m fs ps stop same frames inner stop_is h =
-    let heap_same : (k : ℕ) → cells' (heap_at + k) ≡ cells (heap_at + k) = λ k. same (heap_at + k) (λ e. (omega arith)) (λ e. (omega arith)) (λ e. (omega arith)) (λ e. (omega arith)) (high_kept (heap_at + k) (omega arith)) in
-    let low : (k : ℕ) → k ≢ 0 → k ≢ 4 → k ≢ 6 → k < 7 → cells' k ≡ cells k = λ k n0 n4 n6 lt. same k n0 n4 n6 (λ e. (omega arith)) (low_kept k (omega arith)) in
+-- Words that differ in registers, but for those of the machine's other parts, and behind the heap and the trail, at most.
+abbrev pub SameParts : (ℕ → ℕ) → (ℕ → ℕ) → Type 0
+SameParts cells cells' = (k : ℕ) → k ≢ 0 → k ≢ 4 → k ≢ 6 → k ≢ 7 → (7 < k → 302 < k) → cells' k ≡ cells k
+
+-- Memory stands for the machine with another newest frame, another newest inner construct, another innermost stoppable part that is open, and other
+-- words outside.
+pub mid_outside : (t : Telling) {outer outer' : ℕ → ℕ} (sh : Shape) (cells cells' : ℕ → ℕ) (trail : List ℕ) (m : Mid) (fs : List Frame) (ps : List Place) (stop : Option ℕ) → SameParts cells cells' → FramesIn t sh m.stops (cells' 4) fs → InnersIn sh m.stops (cells' 6) ps → StopNamed (cells' 7) stop m.stops → RestIn t outer' cells' m.gathered → MidIn t outer sh cells trail m →
+    MidIn t outer' sh cells' trail (record m { frames = fs; inner = ps; stop = stop })
+mid_outside t sh cells cells' trail m fs ps stop same frames inner stop_is rest h =
+    let heap_same : (k : ℕ) → cells' (heap_at + k) ≡ cells (heap_at + k) = λ k. same (heap_at + k) (λ e. (omega arith)) (λ e. (omega arith)) (λ e. (omega arith)) (λ e. (omega arith)) (λ q. (omega arith)) in
+    let low : (k : ℕ) → k ≢ 0 → k ≢ 4 → k ≢ 6 → k < 7 → cells' k ≡ cells k = λ k n0 n4 n6 lt. same k n0 n4 n6 (λ e. (omega arith)) (λ q. (omega arith)) in
     let s = h.state in
     let opens = gather_words m.gathered in
     let there = choices_at t (grown_none sh) opens (cells 5) (cells' 5) h.hb m.choices (low 5 (λ e. (omega arith)) (λ e. (omega arith)) (λ e. (omega arith)) (omega arith)) (λ w le b. back_grown w (grown_none sh) (λ k lt. heap_same k) b) h.choices h.under in
@@ -42,7 +47,7 @@ mid_parts t sh cells cells' trail m fs ps stop same frames inner stop_is h =
       heap = low 3 (λ e. (omega arith)) (λ e. (omega arith)) (λ e. (omega arith)) (omega arith) ∙ h.heap;
       height = low 1 (λ e. (omega arith)) (λ e. (omega arith)) (λ e. (omega arith)) (omega arith) ∙ h.height;
       state = record { shape = s.shape; low = s.low; stands = stands_same sh cells cells' m.state.subst s.low (λ k lt. heap_same k) s.stands; known = s.known; heap = s.heap; vars = s.vars; trail_len = s.trail_len; few = s.few; few_trail = s.few_trail; told = s.told };
-      on_trail = trail_stays cells cells' trail (λ i lt. same (trail_at + i) (λ e. (omega arith)) (λ e. (omega arith)) (λ e. (omega arith)) (λ e. (omega arith)) (high_kept (trail_at + i) (omega arith))) h.on_trail;
+      on_trail = trail_stays cells cells' trail (λ i lt. same (trail_at + i) (λ e. (omega arith)) (λ e. (omega arith)) (λ e. (omega arith)) (λ e. (omega arith)) (λ q. (omega arith))) h.on_trail;
       frames = frames;
       choices = there.choices_are;
       hb = h.hb;
@@ -54,8 +59,16 @@ mid_parts t sh cells cells' trail m fs ps stop same frames inner stop_is h =
       stops = parts.stops_are;
       stops_under = parts.under;
       apart = h.apart;
-      rest = rest_stays t cells cells' m.gathered (λ k lt far. same k (λ e. (omega arith)) (λ e. (omega arith)) (λ e. (omega arith)) (λ e. (omega arith)) (rest_kept k lt (λ q. (let y = far q in omega arith)))) h.rest;
+      rest = rest;
     }
+
+-- Memory stands for the machine with another newest frame, another newest inner construct, and another innermost stoppable part that is open.
+pub mid_parts : (t : Telling) {outer : ℕ → ℕ} (sh : Shape) (cells cells' : ℕ → ℕ) (trail : List ℕ) (m : Mid) (fs : List Frame) (ps : List Place) (stop : Option ℕ) → SameRest cells cells' → FramesIn t sh m.stops (cells' 4) fs → InnersIn sh m.stops (cells' 6) ps → StopNamed (cells' 7) stop m.stops → MidIn t outer sh cells trail m →
+    MidIn t outer sh cells' trail (record m { frames = fs; inner = ps; stop = stop })
+mid_parts t sh cells cells' trail m fs ps stop same frames inner stop_is h =
+    mid_outside t sh cells cells' trail m fs ps stop (λ k n0 n4 n6 n7 far. same k n0 n4 n6 n7 ((λ q. (let y = far q in omega arith)), (λ q. far (omega arith)))) frames inner stop_is
+    (rest_stays t cells cells' m.gathered (λ k lt far. same k (λ e. (omega arith)) (λ e. (omega arith)) (λ e. (omega arith)) (λ e. (omega arith)) (rest_kept k lt (λ q. (let y = far q in omega arith)))) h.rest)
+    h
 
 -- Memory stands for the machine with another newest frame and another newest inner construct.
 pub mid_with : (t : Telling) {outer : ℕ → ℕ} (sh : Shape) (cells cells' : ℕ → ℕ) (trail : List ℕ) (m : Mid) (fs : List Frame) (ps : List Place) → ((k : ℕ) → k ≢ 0 → k ≢ 4 → k ≢ 6 → IsKept k → cells' k ≡ cells k) → FramesIn t sh m.stops (cells' 4) fs → InnersIn sh m.stops (cells' 6) ps → MidIn t outer sh cells trail m → MidIn t outer sh cells' trail (record m { frames = fs; inner = ps })

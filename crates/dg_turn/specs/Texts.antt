@@ -42,17 +42,16 @@ use Rattle.dg_turn.specs.Turns.{goto_routine}
 abbrev pub say : ℕ → Act
 say c = acts.Print prints.Unicode (atoms.Num c)
 
--- The characters of a text are printed behind what separates it from the text before, the first as a capital where one is asked for, and it is kept how
--- the text ends.
+-- The characters of a text are printed behind what separates it from the text before, the first as a capital where one is asked for.
 abbrev pub text_acts : List ℕ → List Act
 text_acts [] = []
 text_acts (c ∷ cs) =
-    acts.Call None (atoms.Routine SEPARATE) (args.One (atoms.Num c)) ∷ acts.Call None (atoms.Routine FIRST) (args.One (atoms.Num c))
-    ∷ (map say cs ++ acts.Copy LAST (atoms.Num (last_word (last_of None (c ∷ cs)))) ∷ [])
+    acts.Call None (atoms.Routine SEPARATE) (args.One (atoms.Num c)) ∷ acts.Call None (atoms.Routine FIRST) (args.One (atoms.Num c)) ∷ map say cs
 
--- The routine of a text of these characters that goes on there.
+-- The routine that prints a text of these characters, keeps how the text ends, and goes on there.
 abbrev pub text_routine : List ℕ → ℕ → Routine
-text_routine cs behind = routine_of 0 (text_acts cs ++ acts.Return (atoms.Routine behind) ∷ [])
+text_routine cs behind =
+    routine_of 0 (text_acts cs ++ acts.Copy LAST (atoms.Num (last_word (last_of None cs))) ∷ acts.Return (atoms.Routine behind) ∷ [])
 
 -- What a gap writes: a line, unless a paragraph stands there, and a paragraph drop the spaces that were counted; of (space) and (no space) the last one
 -- counts.
