@@ -46,3 +46,9 @@ pub mod FindTurn
 pub mod BodyTurn
 pub mod Begun
 pub mod Paid
+pub mod Met
+pub mod GapLaws
+pub mod TextTurn
+pub mod GapTurn
+pub mod SpacesTurn
+pub mod PaidTexts

@@ -35,7 +35,7 @@ one_few program (term.Var n) is = omega arith
 one_few program term.Nil is = omega arith
 one_few program (term.Pair head tail) is = omega arith
 
-all_few : (program : CoreProgram) (xs : List Term) → AreNodes program xs → all_capturing program xs ≤ 600 * length xs
+pub all_few : (program : CoreProgram) (xs : List Term) → AreNodes program xs → all_capturing program xs ≤ 600 * length xs
 all_few program [] are = omega arith
 all_few program (x ∷ xs) are = let a = one_few program (out-Term x) are.0 in let b = all_few program xs are.1 in omega arith
 
@@ -65,7 +65,7 @@ return_is_paid : (g : Setting) (ps : List Print) (m : Mid) (ops : List Op) → m
 return_is_paid g ps m ops e = let k = ap (λ (l : List Op). units_of g ps l m) e in omega arith
 
 -- a step is paid for by 800 at least
-step_is_paid : (g : Setting) (ps : List Print) (m : Mid) (x : Op) (ops : List Op) → m.ops ≡ x ∷ ops → 800 ≤ paid g ps (Runs m)
+pub step_is_paid : (g : Setting) (ps : List Print) (m : Mid) (x : Op) (ops : List Op) → m.ops ≡ x ∷ ops → 800 ≤ paid g ps (Runs m)
 step_is_paid g ps m x ops e = let k = ap (λ (l : List Op). units_of g ps l m) e in omega arith
 
 leave_is_paid : (g : Setting) (ps : List Print) (m : Mid) (place : Place) (places : List Place) (ops : List Op) → m.ops ≡ op.Leave ∷ ops → m.inner ≡ place ∷ places → 4 * dropped place m.choices + 16 ≤ paid g ps (Runs m)

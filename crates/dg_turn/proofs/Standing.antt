@@ -1,13 +1,14 @@
 -- Where the routines stand that turns call.
 use Rattle.std.proofs.Common.{◌≡◌, Some, refl}
 use Rattle.z_lang.specs.State.{Program}
-use Rattle.dg_rt.specs.declared.numbers.TheConstants.{CHARGE, VAR, ENTER, OPEN, FAIL, FAILED, CAPTURE, COMMIT, FOUND, NONE, MATCH, MATCHED, LEAVE, ASK, TAIL_CALL, BODY, OPEN_INNER, UNSTOP, DONE, STOPPED}
+use Rattle.dg_rt.specs.declared.numbers.TheConstants.{CHARGE, VAR, ENTER, OPEN, FAIL, FAILED, CAPTURE, COMMIT, FOUND, NONE, MATCH, MATCHED, LEAVE, ASK, TAIL_CALL, BODY, OPEN_INNER, UNSTOP, DONE, STOPPED, ASK_SPACES}
 use Rattle.dg_rt.specs.declared.closings.TheConstants.{DONE_ACTS, FAILED_ACTS, STOPPED_ACTS}
 use Rattle.dg_rt.specs.declared.heap.TheConstants.{CHARGE_ACTS}
 use Rattle.dg_rt.specs.declared.frames.TheConstants.{VAR_ACTS, CAPTURE_ACTS, ENTER_ACTS}
 use Rattle.dg_rt.specs.declared.choices.TheConstants.{OPEN_ACTS, FAIL_ACTS, COMMIT_ACTS, OPEN_INNER_ACTS, UNSTOP_ACTS}
 use Rattle.dg_rt.specs.declared.rules.TheConstants.{FOUND_ACTS, NONE_ACTS, MATCH_ACTS, MATCHED_ACTS}
 use Rattle.dg_rt.specs.declared.queries.TheConstants.{LEAVE_ACTS, ASK_ACTS, TAIL_CALL_ACTS, BODY_ACTS}
+use Rattle.dg_rt.specs.declared.gaps.TheConstants.{ASK_SPACES_ACTS}
 use Rattle.dg_rt.specs.RunTime.{routine_of, HasRunTime}
 
 module _ (p : Program) (has : HasRunTime p) where
@@ -70,3 +71,6 @@ module _ (p : Program) (has : HasRunTime p) where
 
   pub stopped_at : p.routine_at (p.names.routine STOPPED) ≡ Some (routine_of 0 STOPPED_ACTS)
   stopped_at = has.each 10 (routine_of 0 STOPPED_ACTS) refl
+
+  pub ask_spaces_at : p.routine_at (p.names.routine ASK_SPACES) ≡ Some (routine_of 2 ASK_SPACES_ACTS)
+  ask_spaces_at = has.each 53 (routine_of 2 ASK_SPACES_ACTS) refl

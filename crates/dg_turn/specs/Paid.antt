@@ -1,10 +1,13 @@
 -- What the turns cost is within what code is paid for: 800 instructions a unit, and 9,000 where rules are looked at. Hold it against
 -- dg_mid/specs/Units.antt.
-use Rattle.std.specs.Prelude.{◌≡◌, ℕ, ◌+◌, ◌*◌, ◌≤◌, List, [], ◌∷◌, length, Option, Some, Bool}
+use Rattle.std.specs.Prelude.{◌≡◌, ℕ, ◌+◌, ◌*◌, ◌≤◌, List, [], ◌∷◌, length, Option, Some, Bool, All, encode_utf8_all}
+use Rattle.dg_base.specs.declared.program.GapKind.{GapKind}
 use Rattle.dg_base.specs.declared.program.Term.{Term}
 use Rattle.dg_base.specs.Goals.{option_terms}
+use Rattle.dg_base.specs.Sound.{IsPrintable}
 use Rattle.dg_meaning.specs.Values.{Value}
 use Rattle.dg_meaning.specs.World.{Print}
+use Rattle.dg_meaning.specs.Render.{spaces_from, nothing_met, met_from}
 use Rattle.dg_meaning.specs.Cells.{nodes_of}
 use Rattle.dg_mid.specs.declared.code.Action.TheVariants as action
 use Rattle.dg_mid.specs.declared.code.BodyCode.{BodyCode}
@@ -19,6 +22,7 @@ use Rattle.dg_turn.specs.Turns.{entering_most, equal_most}
 use Rattle.dg_turn.specs.Rules.{keyed}
 use Rattle.dg_turn.specs.Queries.{asking_most}
 use Rattle.dg_turn.specs.Bodies.{querying_most, body_most}
+use Rattle.dg_turn.specs.Texts.{gap_n_most}
 
 -- What a step may cost.
 abbrev pub paid : Setting → List Print → Status → ℕ
@@ -72,3 +76,12 @@ pub record TurnsArePaid : Type 0 where
   pub last_unasked : (g : Setting) (ps : List Print) (m : Mid) (a : Term) (b : Option Term) (many : Bool) (ops : List Op) (depth : ℕ) →
       m.ops ≡ op.LastQuery a b many ∷ ops → AreNodes g.game.program (nodes_of (a ∷ option_terms b)) → depth ≤ 14 →
       querying_most g.game.program a b m + 4 * depth + 30 ≤ paid g ps (Runs m)
+
+-- So are those of a text behind what was printed, of a gap, and of as many spaces as a term says.
+pub record TextsArePaid : Type 0 where
+  pub text : (g : Setting) (ps : List Print) (m : Mid) (cs : List ℕ) (ops : List Op) → m.ops ≡ op.Do (action.Text (encode_utf8_all cs)) ∷ ops →
+      All IsPrintable cs → 3 * spaces_from 0 (met_from nothing_met ps).gap + length cs + 30 ≤ paid g ps (Runs m)
+  pub gap : (g : Setting) (ps : List Print) (m : Mid) (kind : GapKind) (ops : List Op) → m.ops ≡ op.Do (action.Gap kind) ∷ ops →
+      6 ≤ paid g ps (Runs m)
+  pub gap_n : (g : Setting) (ps : List Print) (m : Mid) (a : Term) (ops : List Op) → m.ops ≡ op.Do (action.GapN a) ∷ ops →
+      AreNodes g.game.program (nodes_of (a ∷ [])) → gap_n_most g.game.program a m ≤ paid g ps (Runs m)

@@ -3,11 +3,12 @@ ghost use Rattle.dg_turn.specs.Bodies.{BodyTurns, FindTurns, LastQueryTurns, Que
 ghost use Rattle.dg_turn.specs.Choices.{BackTurns, BranchTurns, OnceTurns};
 ghost use Rattle.dg_turn.specs.LastQueries.{LastTurns};
 ghost use Rattle.dg_turn.specs.Leaving.{JustTurns, ReturnTurns};
-ghost use Rattle.dg_turn.specs.Paid.{TurnsArePaid};
+ghost use Rattle.dg_turn.specs.Paid.{TextsArePaid, TurnsArePaid};
 ghost use Rattle.dg_turn.specs.Queries.{AskBegins, AskTurns, FailBegins, FailEnds, FailTurns};
 ghost use Rattle.dg_turn.specs.Stopping.{DoneTurns, LeaveTurns, NoRuleTurns, RefuseTurns, ShieldTurns, StopTurns};
 ghost use Rattle.dg_turn.specs.Rules.{BeginTurns, FoundTurns, NoneTurns, SelectTurns};
 ghost use Rattle.dg_turn.specs.Terms.{TermsWork};
+ghost use Rattle.dg_turn.specs.Texts.{GapNTurns, GapTurns, QuitTurns, TextTurns};
 ghost use Rattle.dg_turn.specs.Turns.{CommitTurns, EnterTurns, EqualTurns, GotoTurns};
 
 /// Terms are written on the heap, or its limit is met.
@@ -160,7 +161,32 @@ pub fn no_rule_turns()
     ensures { NoRuleTurns }
 {}
 
+/// Printing a text is a turn.
+pub fn text_turns()
+    ensures { TextTurns }
+{}
+
+/// Asking for a gap is a turn.
+pub fn gap_turns()
+    ensures { GapTurns }
+{}
+
+/// Asking for as many spaces as a term says is a turn.
+pub fn gap_n_turns()
+    ensures { GapNTurns }
+{}
+
+/// A run that quits ends.
+pub fn quit_turns()
+    ensures { QuitTurns }
+{}
+
 /// What the turns cost is paid for.
 pub fn turns_are_paid()
     ensures { TurnsArePaid }
+{}
+
+/// What texts and gaps cost is paid for.
+pub fn texts_are_paid()
+    ensures { TextsArePaid }
 {}

@@ -5,6 +5,7 @@ mod laws;
 
 pub use laws::{
     ask_begins, ask_turns, back_turns, begin_turns, branch_turns, commit_turns, enter_turns,
-    equal_turns, fail_begins, fail_ends, fail_turns, found_turns, goto_turns, just_turns,
-    last_turns, none_turns, once_turns, return_turns, select_turns, terms_work, turns_are_paid,
+    equal_turns, fail_begins, fail_ends, fail_turns, found_turns, gap_n_turns, gap_turns,
+    goto_turns, just_turns, last_turns, none_turns, once_turns, quit_turns, return_turns,
+    select_turns, terms_work, text_turns, turns_are_paid,
 };
