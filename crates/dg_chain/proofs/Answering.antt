@@ -23,8 +23,7 @@ use Rattle.dg_chain.specs.Steps.{Comes}
 use Rattle.dg_chain.specs.Routines.{GoesOn, OpsAt, BlocksAt}
 use Rattle.dg_chain.specs.Stands.{Printed, Stands}
 use Rattle.dg_chain.specs.Whole.{OpLeads, story_setting}
-use Rattle.dg_chain.proofs.Leading.{Lead, led_runs, led_fails, at_op, silently, a_unit}
-use Rattle.dg_chain.proofs.Jumping.{more_none}
+use Rattle.dg_chain.proofs.Leading.{more_none, Lead, led_runs, led_fails, at_op, silently, a_unit}
 
 module _ (t : Telling) (plays : Playing t) (code : Code) (blocks : BlocksAt t code) (dice : List ℕ) where
   abbrev set : Setting
@@ -46,7 +45,7 @@ module _ (t : Telling) (plays : Playing t) (code : Code) (blocks : BlocksAt t co
       let k = ap (λ (l : List Op). units_of set ps l m) e in
       let d : dropped (cut_of m.frames) m.choices ≡ dropped f.cut m.choices = ap (λ (p : Place). dropped p m.choices) cut in
       led_runs t code dice 1 (omega arith) ps s.printed (t.p.names.routine o.behind) (cut_to f.cut m) (cut_to (cut_of m.frames) (more 0 m0)) (4 * dropped f.cut m.choices + 10) (cost ps m) z
-      (ap (λ (p : Place). cut_to p (more 0 m0)) cut ∙ ap (cut_to f.cut) (more_none t plays code blocks dice m0)) o.next (omega arith) (just_turns t plays s.printed.out s.at.x o.behind m f fs z o.is i names.0 s.at.rep)
+      (ap (λ (p : Place). cut_to p (more 0 m0)) cut ∙ ap (cut_to f.cut) (more_none m0)) o.next (omega arith) (just_turns t plays s.printed.out s.at.x o.behind m f fs z o.is i names.0 s.at.rep)
 
   pub just_leads : OpLeads t code dice (op.Do action.Just)
   just_leads ps m rest z e always s =

@@ -13,6 +13,7 @@ use Rattle.dg_chain.specs.Whole.{OpLeads, OthersLead, CodeLeads}
 use Rattle.dg_chain.proofs.Leading.{at_op}
 use Rattle.dg_chain.proofs.Choosing.{branch_leads, try_leads, shield_leads, once_leads, commit_leads, refuse_leads, leave_leads}
 use Rattle.dg_chain.proofs.Jumping.{take_leads, goto_leads, back_leads, fail_leads, stop_leads, done_leads}
+use Rattle.dg_chain.proofs.Printing.{text_leads, gap_leads, gap_n_leads, quit_leads}
 use Rattle.dg_chain.proofs.Answering.{just_leads, return_leads}
 use Rattle.dg_chain.proofs.Asking.{ask_leads, last_leads}
 use Rattle.dg_chain.proofs.Unifying.{equal_leads, enters_lead}
@@ -29,10 +30,10 @@ module _ (t : Telling) (plays : Playing t) (code : Code) (blocks : BlocksAt t co
   never_leads x never ps m rest z e always s = absurd (never rest (subst MayRun e always.begins.0))
 
   act_leads : (a : Action) → OpLeads t code dice (op.Do a)
-  act_leads (action.Text name) = none_leads (op.Do (action.Text name)) (λ b y h. h)
+  act_leads (action.Text name) = text_leads t plays code dice name
   act_leads (action.Print x) = none_leads (op.Do (action.Print x)) (λ b y h. h)
-  act_leads (action.Gap kind) = none_leads (op.Do (action.Gap kind)) (λ b y h. h)
-  act_leads (action.GapN x) = none_leads (op.Do (action.GapN x)) (λ b y h. h)
+  act_leads (action.Gap kind) = gap_leads t plays code dice kind
+  act_leads (action.GapN x) = gap_n_leads t plays code dice x
   act_leads (action.Equal a b) = equal_leads t plays code dice a b
   act_leads (action.Test kind x) = none_leads (op.Do (action.Test kind x)) (λ b y h. h)
   act_leads (action.Now place args sets) = none_leads (op.Do (action.Now place args sets)) (λ b y h. h)
@@ -45,7 +46,7 @@ module _ (t : Telling) (plays : Playing t) (code : Code) (blocks : BlocksAt t co
   act_leads action.Just = just_leads t plays code blocks dice
   act_leads action.Fail = fail_leads t plays code blocks dice
   act_leads action.Stop = stop_leads t plays code blocks dice
-  act_leads action.Quit = none_leads (op.Do action.Quit) (λ b y h. h)
+  act_leads action.Quit = quit_leads t plays code dice
 
   op_leads : (x : Op) → OpLeads t code dice x
   op_leads (op.Do a) = act_leads a

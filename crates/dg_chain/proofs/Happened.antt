@@ -22,7 +22,7 @@ use Rattle.dg_mid.specs.Reads.{At}
 
 -- ## Texts
 
-render_more : (m : Met) (xs ys : List Print) → render_from m (xs ++ ys) ≡ render_from m xs ++ render_from (met_from m xs) ys
+pub render_more : (m : Met) (xs ys : List Print) → render_from m (xs ++ ys) ≡ render_from m xs ++ render_from (met_from m xs) ys
 render_more m [] ys = refl
 render_more m (x ∷ xs) ys = ap (λ (l : List ℕ). written m x ++ l) (render_more (met_behind m x) xs ys) ∙ sym (append_assoc (written m x) (render_from (met_behind m x) xs) (render_from (met_from (met_behind m x) xs) ys))
 

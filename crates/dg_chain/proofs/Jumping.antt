@@ -26,7 +26,7 @@ use Rattle.dg_chain.specs.Always.{Always}
 use Rattle.dg_chain.specs.Routines.{GoesOn, Jumps, FailsAt, OpsAt, BlocksAt}
 use Rattle.dg_chain.specs.Stands.{Stands}
 use Rattle.dg_chain.specs.Whole.{OpLeads, story_setting}
-use Rattle.dg_chain.proofs.Leading.{Lead, led_runs, led_fails, finishes, at_op, silently, a_unit}
+use Rattle.dg_chain.proofs.Leading.{more_none, Lead, led_runs, led_fails, finishes, at_op, silently, a_unit}
 
 module _ (t : Telling) (plays : Playing t) (code : Code) (blocks : BlocksAt t code) (dice : List ℕ) where
   abbrev set : Setting
@@ -56,10 +56,6 @@ module _ (t : Telling) (plays : Playing t) (code : Code) (blocks : BlocksAt t co
       let unit = a_unit t code dice ps m in
       silently t code dice ps m rest z op.Back e (Fails (record m { ops = rest })) (cost ps m) refl
       (led_fails t code dice 1 (omega arith) ps s.printed m (record m { ops = rest }) 3 (cost ps m) z refl (omega arith) (goto_turns t plays s.printed.out s.at.x FAIL m z there s.at.rep))
-
-  -- no cells more are none
-  pub more_none : (m : Mid) → more 0 m ≡ m
-  more_none m = let q : m.state.heap + 0 ≡ m.state.heap = omega arith in ap (λ (n : ℕ). record m { state = record m.state { heap = n } }) q
 
   pub fail_leads : OpLeads t code dice (op.Do action.Fail)
   fail_leads ps m rest z e always s =

@@ -11,7 +11,7 @@ use Rattle.dg_mid.specs.declared.code.Op.{Op}
 use Rattle.dg_mid.specs.declared.code.RuleCode.{RuleCode}
 use Rattle.dg_mid.specs.Code.{selected}
 use Rattle.dg_mid.specs.State.{Call, Calls, Mid, Status, Runs, Enters, Resumes, Fails, Ended}
-use Rattle.dg_mid.specs.Step.{Setting, charged, bound, unified, if_agreed, trail_more, passed, inside, at_rule, enters, begins, first_of, step, said_in, said_to, said, followed}
+use Rattle.dg_mid.specs.Step.{Setting, more, charged, bound, unified, if_agreed, trail_more, passed, inside, at_rule, enters, begins, first_of, step, said_in, said_to, said, followed}
 use Rattle.dg_mid.specs.Units.{units}
 use Rattle.z_model.specs.declared.end.ZEnd.{ZEnd}
 use Rattle.z_model.specs.declared.end.ZEnd.TheVariants as ends
@@ -31,12 +31,17 @@ use Rattle.dg_chain.specs.Routines.{OpAt, OpsAt, BlocksAt}
 use Rattle.dg_chain.specs.Stands.{Printed, Stands}
 use Rattle.dg_chain.specs.Whole.{story_setting}
 use Rattle.dg_chain.proofs.Points.{units_never_none}
+use Rattle.dg_chain.proofs.Printed.{closed_is}
 
 -- ## Machines with the same parts
 
 -- Machines whose parts that memory has words for are the same.
 abbrev pub Alike : Mid → Mid → Type 0
 Alike m m' = m' ≡ record m { ops = m'.ops; next_tag = m'.next_tag; lasting = m'.lasting }
+
+-- No cells more are none.
+pub more_none : (m : Mid) → more 0 m ≡ m
+more_none m = let q : m.state.heap + 0 ≡ m.state.heap = omega arith in ap (λ (n : ℕ). record m { state = record m.state { heap = n } }) q
 
 pub alike : (t : Telling) (out : Outside) (x : ℕ) (m m' : Mid) (z : ZState) → Alike m m' → Represented t out x m z → Represented t out x m' z
 alike t out x m m' z e r = record {
@@ -178,7 +183,7 @@ module _ (t : Telling) (code : Code) (dice : List ℕ) where
         let some = ends_some t.p.world k.count z k.at_end k.ends in
         record {
           last = k.at_end;
-          output = k.written ∙ ap (λ (o : List ℕ). o ++ closing (w.out.words last_reg) e) w.written ∙ sym (written_is ps e other ∙ w.closed e);
+          output = k.written ∙ ap (λ (o : List ℕ). o ++ closing (w.out.words last_reg) e) w.written ∙ sym (written_is ps e other ∙ closed_is ps w e);
           count = k.count;
           some = omega arith;
           few = omega arith;

@@ -7,6 +7,7 @@ pub mod Ops
 pub mod Beginning
 pub mod Framed
 pub mod InRules
+pub mod Printed
 pub mod Leading
 pub mod Choosing
 pub mod Jumping
@@ -14,6 +15,7 @@ pub mod Answering
 pub mod Asking
 pub mod Unifying
 pub mod Querying
+pub mod Printing
 pub mod Going
 pub mod Coded
 pub mod Whole

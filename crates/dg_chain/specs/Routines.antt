@@ -3,6 +3,7 @@
 use Rattle.std.specs.Prelude.{◌≡◌, ◌≢◌, ℕ, ◌≤◌, List, [], ◌∷◌, length, Option, Some, Bool}
 use Rattle.dg_base.specs.declared.program.Term.{Term}
 use Rattle.dg_base.specs.Goals.{option_terms}
+use Rattle.dg_base.specs.Sound.{IsName}
 use Rattle.dg_meaning.specs.Cells.{nodes_of}
 use Rattle.dg_mid.specs.declared.code.Action.TheVariants as action
 use Rattle.dg_mid.specs.declared.code.Code.{Code}
@@ -20,6 +21,7 @@ use Rattle.dg_turn.specs.Choices.{branch_routine, try_routine, once_routine}
 use Rattle.dg_turn.specs.Leaving.{just_routine}
 use Rattle.dg_turn.specs.Rules.{keyed}
 use Rattle.dg_turn.specs.Bodies.{query_routine, last_query_routine, FindsBodies}
+use Rattle.dg_turn.specs.Texts.{text_routine, gap_routine, gap_n_routine, quit_routine}
 use Rattle.dg_turn.specs.Stopping.{shield_routine, leave_routine}
 
 -- ## One instruction
@@ -40,6 +42,16 @@ pub record Opens (behind_is : ℕ → Type 0) (t : Telling) (x : ℕ) (routine :
 pub record Unifies (behind_is : ℕ → Type 0) (t : Telling) (x : ℕ) (a b : Term) : Type 0 where
   pub goes : GoesOn behind_is t x (equal_routine t.program a b)
   pub nodes : AreNodes t.program (nodes_of (a ∷ b ∷ []))
+
+-- So does that of a text, of characters that a story prints.
+pub record Says (behind_is : ℕ → Type 0) (t : Telling) (x : ℕ) (text : List ℕ) : Type 0 where
+  pub name : IsName text
+  pub goes : GoesOn behind_is t x (text_routine name.characters)
+
+-- So does that of as many spaces as a term says, which is one of a story.
+pub record AsksSpaces (behind_is : ℕ → Type 0) (t : Telling) (x : ℕ) (a : Term) : Type 0 where
+  pub goes : GoesOn behind_is t x (gap_n_routine t.program a)
+  pub nodes : AreNodes t.program (nodes_of (a ∷ []))
 
 -- So does the first of a rule, of no more than 300 variables and 12 terms in its head.
 pub record Enters (behind_is : ℕ → Type 0) (t : Telling) (x vars : ℕ) (head : List Term) : Type 0 where
@@ -109,6 +121,10 @@ FailsAt t x = t.p.routine_at x ≡ Some (goto_routine FAIL)
 
 -- The routine of an instruction stands at an address, and what is said of the one behind it. The other instructions have no routines yet.
 abbrev pub OpAt : (ℕ → Type 0) → Telling → Code → ℕ → Op → Type 0
+OpAt behind_is t code x (op.Do (action.Text text)) = Says behind_is t x text
+OpAt behind_is t code x (op.Do (action.Gap kind)) = GoesOn behind_is t x (gap_routine kind)
+OpAt behind_is t code x (op.Do (action.GapN a)) = AsksSpaces behind_is t x a
+OpAt behind_is t code x (op.Do action.Quit) = t.p.routine_at x ≡ Some quit_routine
 OpAt behind_is t code x (op.Do action.Just) = GoesOn behind_is t x just_routine
 OpAt behind_is t code x (op.Do (action.Equal a b)) = Unifies behind_is t x a b
 OpAt behind_is t code x (op.Do action.Fail) = FailsAt t x

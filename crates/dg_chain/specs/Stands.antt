@@ -1,20 +1,18 @@
 -- What memory stands for in each status of a machine, and what is outside. Hold it against dg_mid/specs/State.antt, and docs/STORIES.md, where it says with
 -- which line a story ends.
-use Rattle.std.specs.Prelude.{◌≡◌, ℕ, List, ◌++◌, length}
-use Rattle.dg_base.specs.declared.run.Ending.{Ending}
+use Rattle.std.specs.Prelude.{◌≡◌, ℕ, List, length}
 use Rattle.dg_meaning.specs.Values.{Value}
 use Rattle.dg_meaning.specs.World.{Print}
-use Rattle.dg_meaning.specs.Render.{render}
-use Rattle.dg_meaning.specs.Transcript.{line_of, closed_text}
+use Rattle.dg_meaning.specs.Render.{nothing_met, met_from, render}
 use Rattle.dg_mid.specs.declared.code.Code.{Code}
 use Rattle.dg_mid.specs.declared.code.RuleCode.{RuleCode}
 use Rattle.dg_mid.specs.State.{Place, Frame, Call, Way, Goes, Takes, Calls, Tries, Mid, Status, Runs, Enters, Resumes, Fails, Ended}
 use Rattle.dg_mid.specs.Step.{first_of}
 use Rattle.z_model.specs.Run.{ZState}
 use Rattle.dg_rt.specs.declared.numbers.TheConstants.{FAIL}
-use Rattle.dg_rt.specs.Areas.{back_reg, last_reg}
+use Rattle.dg_rt.specs.Areas.{back_reg}
+use Rattle.dg_rt.specs.Gaps.{Meets}
 use Rattle.dg_rt.specs.Shapes.{Shows}
-use Rattle.dg_rt.specs.Closings.{closing}
 use Rattle.dg_turn.specs.Told.{Telling, FirstIs, RulesAt}
 use Rattle.dg_turn.specs.Plays.{Outside, Represented, CallAt}
 use Rattle.dg_turn.specs.Rules.{LooksAt}
@@ -71,11 +69,11 @@ StandsFor t code out (Ended e) z = ⊥
 
 -- ## What is outside
 
--- Outside is what was printed: it was written, and the word of the register of how the text ends says how it is closed.
+-- Outside is what was printed: it was written, and the registers say what the next piece meets.
 pub record Printed (ps : List Print) : Type 0 where
   pub out : Outside
   pub written : out.output ≡ render ps
-  pub closed : (e : Ending) → closed_text ps (line_of e) ≡ render ps ++ closing (out.words last_reg) e
+  pub meets : Meets out.words (met_from nothing_met ps)
 
 -- Memory stands for a status where so much was printed.
 pub record Stands (t : Telling) (code : Code) (ps : List Print) (now : Status) (z : ZState) : Type 0 where

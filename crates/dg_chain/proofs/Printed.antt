@@ -1,0 +1,66 @@
+-- What was printed, with one thing more, and how it is closed.
+use Rattle.std.proofs.Common.{◌≡◌, ℕ, ◌+◌, Bool, true, false, List, [], ◌∷◌, ◌++◌, Option, Some, None, refl, sym, ap, ◌∙◌, subst}
+use Rattle.std.specs.Prelude.{◌==◌, if◌then◌else◌}
+use Rattle.std.proofs.lemmas.List.{append-nil}
+use Rattle.dg_base.specs.declared.run.Ending.{Ending}
+use Rattle.dg_meaning.specs.Render.{opens, Met, nothing_met, met_from, met_behind, render_from, render, written}
+use Rattle.dg_meaning.specs.Transcript.{line_of, newline_behind, closed_text}
+use Rattle.dg_meaning.specs.World.{Print}
+use Rattle.dg_mid.specs.State.{Mid, Status, Runs, Ended}
+use Rattle.dg_mid.specs.Step.{Setting, does, runs, step, said_in, said_to, said, followed}
+use Rattle.dg_mid.specs.declared.code.Op.{Op}
+use Rattle.dg_rt.specs.Areas.{last_reg}
+use Rattle.dg_rt.specs.Closings.{closing}
+use Rattle.dg_rt.specs.Gaps.{last_word, Meets}
+use Rattle.dg_turn.specs.Texts.{met_words, printed}
+use Rattle.dg_turn.proofs.Met.{met_meets}
+use Rattle.dg_chain.specs.Stands.{Printed}
+use Rattle.dg_chain.proofs.Happened.{render_more}
+
+-- ## Closings
+
+-- a newline comes behind a text of which something was printed
+newline_is : (o : Option ℕ) → newline_behind o ≡ (if last_word o == 0 then [] else 10 ∷ [])
+newline_is None = refl
+newline_is (Some b) = by_open (opens b)
+  where
+    by_open : (t : Bool) → 10 ∷ [] ≡ (if (if t then 1 else 2) == 0 then [] else 10 ∷ [])
+    by_open true = refl
+    by_open false = refl
+
+-- The register of how the text ends says how it is closed.
+pub closed_is : (ps : List Print) (w : Printed ps) (e : Ending) → closed_text ps (line_of e) ≡ render ps ++ closing (w.out.words last_reg) e
+closed_is ps w e =
+    let last = (met_from nothing_met ps).last in
+    ap (λ (l : List ℕ). render ps ++ (l ++ line_of e)) (newline_is last) ∙ ap (λ (i : ℕ). render ps ++ closing i e) (sym w.meets.last)
+
+-- ## One thing more
+
+met_more : (m : Met) (xs : List Print) (e : Print) → met_from m (xs ++ e ∷ []) ≡ met_behind (met_from m xs) e
+met_more m [] e = refl
+met_more m (x ∷ xs) e = met_more (met_behind m x) xs e
+
+render_one : (ps : List Print) (e : Print) → render (ps ++ e ∷ []) ≡ render ps ++ written (met_from nothing_met ps) e
+unfolding render
+render_one ps e = render_more nothing_met ps (e ∷ []) ∙ ap (λ (l : List ℕ). render_from nothing_met ps ++ l) (append-nil (written (met_from nothing_met ps) e))
+
+-- What is outside behind it.
+pub printed_more : (ps : List Print) (w : Printed ps) (e : Print) → Printed (ps ++ e ∷ [])
+printed_more ps w e =
+    let m = met_from nothing_met ps in
+    record {
+      out = printed m e w.out;
+      written = ap (λ (l : List ℕ). l ++ written m e) w.written ∙ sym (render_one ps e);
+      meets = subst (Meets (met_words (met_behind m e) w.out.words)) (sym (met_more nothing_met ps e)) (met_meets (met_behind m e) w.out.words);
+    }
+
+-- ## What a step prints
+
+-- What the instruction at hand prints is printed.
+pub said_by_op : (set : Setting) (ps : List Print) (m : Mid) (x : Op) (rest : List Op) → m.ops ≡ x ∷ rest → followed ps (said set (Runs m)) ≡ followed ps (said_to (said_in set m (x ∷ rest)) (does set x (record m { ops = rest })))
+said_by_op set ps m x rest e = ap (λ (l : List Op). followed ps (said_to (said_in set m l) (runs set l m))) e
+
+-- Nothing is where the run ends.
+pub said_at_end : (l : List Print) (e : Ending) → said_to l (Ended e) ≡ []
+said_at_end [] e = refl
+said_at_end (p ∷ l) e = refl
