@@ -1,3 +1,5 @@
 mod Left
 mod Nodes
 mod Matching
+mod Halving
+mod Names

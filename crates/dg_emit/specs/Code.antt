@@ -1,8 +1,10 @@
 -- The routines of code, in the order of their numbers. Hold it against dg_mid/specs/Step.antt, and each against what dg_turn says that it does.
 use Rattle.std.specs.Prelude.{ℕ, ◌+◌, ◌≤◌, List, [], ◌∷◌, ◌++◌, length, Bool, true, false, ◌&&◌}
+use Rattle.std.specs.Str.{chars}
 use Rattle.dg_base.specs.declared.program.CoreProgram.{CoreProgram}
 use Rattle.dg_base.specs.declared.program.Term.{Term}
 use Rattle.dg_base.specs.Goals.{option_terms}
+use Rattle.dg_base.specs.Sound.{IsName}
 use Rattle.dg_meaning.specs.Cells.{nodes_of}
 use Rattle.dg_mid.specs.declared.code.Action.TheVariants as action
 use Rattle.dg_mid.specs.declared.code.Op.{Op}
@@ -23,6 +25,7 @@ use Rattle.dg_turn.specs.Choices.{branch_routine, try_routine, once_routine}
 use Rattle.dg_turn.specs.Leaving.{just_routine}
 use Rattle.dg_turn.specs.Stopping.{shield_routine, leave_routine}
 use Rattle.dg_turn.specs.Bodies.{query_routine, last_query_routine}
+use Rattle.dg_turn.specs.Texts.{text_routine, gap_routine, gap_n_routine, quit_routine}
 use Rattle.dg_emit.specs.declared.numbers.Numbers.{Numbers}
 use Rattle.dg_emit.specs.Numbers.{routines_of_op, routines_of_ops, first_of, first_rule, rules_count, behind_blocks, numbers_from, block_number, pred_number}
 use Rattle.dg_emit.specs.Bodies.{bodies_routines, ClosuresFit}
@@ -34,6 +37,10 @@ abbrev pub is_built : Op → Bool
 is_built (op.Do action.Just) = true
 is_built (op.Do action.Fail) = true
 is_built (op.Do action.Stop) = true
+is_built (op.Do action.Quit) = true
+is_built (op.Do (action.Text text)) = true
+is_built (op.Do (action.Gap kind)) = true
+is_built (op.Do (action.GapN a)) = true
 is_built (op.Do (action.Equal a b)) = true
 is_built (op.Do other) = false
 is_built (op.Ask pred terms many next) = true
@@ -63,6 +70,10 @@ are_built (x ∷ ops) = is_built x && are_built ops
 -- The routine of an instruction that has one of its own, where the code behind it begins with another. What isn't built fails.
 abbrev pub op_routine : CoreProgram → Numbers → ℕ → Op → Routine
 op_routine program numbers behind (op.Do action.Just) = just_routine behind
+op_routine program numbers behind (op.Do action.Quit) = quit_routine
+op_routine program numbers behind (op.Do (action.Text text)) = text_routine (chars text) behind
+op_routine program numbers behind (op.Do (action.Gap kind)) = gap_routine kind behind
+op_routine program numbers behind (op.Do (action.GapN a)) = gap_n_routine program a behind
 op_routine program numbers behind (op.Do (action.Equal a b)) = equal_routine program a b behind
 op_routine program numbers behind (op.Ask pred terms many next) =
     asking_routine program terms (block_number numbers next) many (pred_number numbers pred)
@@ -140,8 +151,10 @@ code_routines program first code =
 abbrev pub TermsFit : CoreProgram → List Term → Type 0
 TermsFit program terms = (length terms ≤ 12) × AreNodes program (nodes_of terms)
 
--- An instruction whose terms are those of a story.
+-- An instruction whose terms are those of a story, and whose text is one of printable characters.
 abbrev pub OpFits : CoreProgram → Op → Type 0
+OpFits program (op.Do (action.Text text)) = IsName text
+OpFits program (op.Do (action.GapN a)) = TermsFit program (a ∷ [])
 OpFits program (op.Do (action.Equal a b)) = TermsFit program (a ∷ b ∷ [])
 OpFits program (op.Ask pred terms many next) = TermsFit program terms
 OpFits program (op.LastAsk pred terms many) = TermsFit program terms
@@ -167,6 +180,6 @@ abbrev pub PredsFit : Code → List (List RuleCode) → Type 0
 PredsFit code [] = Unit {0}
 PredsFit code (rules ∷ preds) = RulesFit code rules × PredsFit code preds
 
--- Code whose terms, keys and closures are those of a story.
+-- Code whose terms, texts, keys and closures are those of a story.
 abbrev pub CodeFits : CoreProgram → Code → Type 0
 CodeFits program code = BlocksFit program code.blocks × PredsFit code code.preds × ClosuresFit program code

@@ -11,6 +11,7 @@ use crate::counting::all_of;
 use crate::numbers::{Numbers, first_of, routines_of_op, routines_of_ops};
 use crate::queries::Asked;
 use crate::terms::Writer;
+use crate::texts::{gap_routine, text_routine};
 use dg_base::{Items, Term};
 use dg_mid::{Action, Block, Op};
 use dg_rt::numbers::{DONE, FAIL};
@@ -23,7 +24,8 @@ pub fn is_built(op: &Op) -> bool
 {
     match op {
         Op::Do(Action::Just) | Op::Do(Action::Fail) | Op::Do(Action::Stop) => true,
-        Op::Do(Action::Equal(_, _)) => true,
+        Op::Do(Action::Quit) | Op::Do(Action::Equal(_, _)) => true,
+        Op::Do(Action::Text(_)) | Op::Do(Action::Gap(_)) | Op::Do(Action::GapN(_)) => true,
         Op::Do(_) => false,
         Op::Find(_, _, _, _) | Op::Select(_, _, _, _) | Op::Collect(_, _, _) => false,
         Op::TakeOut(_, _) | Op::Keep(_) => false,
@@ -126,10 +128,15 @@ impl CodeWriter<'_> {
         requires { spec.OpFits self.now.writer.program.now (op.Do action.now) }
         ensures { IfOk result (λ r. r ≡ spec.op_routine self.now.writer.program.now self.now.numbers.now behind (op.Do action.now)) }
     {
+        let alloc = self.writer.alloc;
         match action {
-            Action::Just => just(self.writer.alloc, behind),
+            Action::Just => just(alloc, behind),
+            Action::Quit => goto(alloc, DONE),
+            Action::Text(text) => text_routine(alloc, text.as_slice(), behind),
+            Action::Gap(kind) => gap_routine(alloc, *kind, behind),
+            Action::GapN(term) => self.writer.gap_n_routine(term, behind),
             Action::Equal(a, b) => self.writer.equal_routine(a, b, behind),
-            _ => goto(self.writer.alloc, FAIL),
+            _ => goto(alloc, FAIL),
         }
     }
 

@@ -12,6 +12,7 @@ mod queries;
 mod rules;
 mod story;
 mod terms;
+mod texts;
 
 pub use choices::{branch, commit, goto, just, leave, once, shield, try_first};
 pub use code::{CodeWriter, are_built, is_built};

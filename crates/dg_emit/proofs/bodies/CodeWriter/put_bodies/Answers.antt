@@ -1,0 +1,23 @@
+use Rattle.std.proofs.Common.{◌++◌, ◌∙◌, List, ap, sym, arith}
+use Rattle.z_lang.specs.declared.act.Routine.{Routine}
+use Rattle.dg_emit.specs.inside.Parts.{parts_routines, parts_weight}
+use Rattle.dg_emit.proofs.Halving.{pushed_routines, pushed_weight, next_part}
+use Rattle.dg_emit.proofs.bodies.CodeWriter.put_bodies.Goals as goal
+
+pub put_part-requires-clause-fits : goal.put_part-requires-clause-fits
+put_part-requires-clause-fits c = (next_part c.loop-part.left c.pop.new.self c.in-Some.part c.in-Some.ensures c.loop-part.invariant.1).fits
+
+pub loop-part-smaller : goal.loop-part-smaller
+loop-part-smaller c =
+    let w = ap parts_weight c.in-Some.ensures ∙ pushed_weight c.pop.new.self c.in-Some.part in
+    let less = c.in_ok-put_part.ensures.less in
+    omega (arith, w, less)
+
+pub loop-part-preserved : goal.loop-part-preserved
+loop-part-preserved c =
+    let p = c.args.self.now.writer.program.now in
+    let ns = c.args.self.now.numbers.now in
+    let made = c.in_ok-put_part.ensures in
+    let n = next_part c.loop-part.left c.pop.new.self c.in-Some.part c.in-Some.ensures c.loop-part.invariant.1 in
+    let before = ap (parts_routines p ns) c.in-Some.ensures ∙ pushed_routines p ns c.pop.new.self c.in-Some.part in
+    (made.same ∙ ap (λ (rs : List Routine). c.loop-part.all ++ rs) (sym before) ∙ c.loop-part.invariant.0, made.fit n.others)
