@@ -71,7 +71,7 @@ fn put_says(acts: &mut Items<Act>, characters: &[u16]) -> Result<(), AllocError>
     Ok(())
 }
 
-// So are those of a text, behind what separates it from the text before, and it is kept how the text ends.
+// So are those of a text, behind what separates it from the text before.
 fn put_text(acts: &mut Items<Act>, characters: &[u16]) -> Result<(), AllocError>
     ensures { OnOk result (acts.new ≡ acts.old ++ spec.text_acts characters.now) }
 {
@@ -81,13 +81,12 @@ fn put_text(acts: &mut Items<Act>, characters: &[u16]) -> Result<(), AllocError>
             let first = Args::One(Atom::Num(*first));
             acts.push(Act::Call(None, Atom::Routine(SEPARATE), first))?;
             acts.push(Act::Call(None, Atom::Routine(FIRST), first))?;
-            put_says(acts, others)?;
-            acts.push(Act::Copy(LAST, Atom::Num(end_of(characters))))
+            put_says(acts, others)
         }
     }
 }
 
-/// The routine that prints a text, and goes on there.
+/// The routine that prints a text, keeps how it ends, and goes on there.
 pub fn text_routine(alloc: Global, text: &[u8], behind: u16) -> Result<Routine, AllocError>
     requires { IsName text.now }
     ensures { IfOk result (λ r. r ≡ spec.text_routine (chars text.now) behind) }
@@ -95,6 +94,7 @@ pub fn text_routine(alloc: Global, text: &[u8], behind: u16) -> Result<Routine, 
     let characters = characters(alloc, text_of(text))?;
     let mut body = Items::new(alloc);
     put_text(&mut body, characters.as_slice())?;
+    body.push(Act::Copy(LAST, Atom::Num(end_of(characters.as_slice()))))?;
     body.push(Act::Return(Atom::Routine(behind)))?;
     Ok(Routine { locals: 0, body })
 }
