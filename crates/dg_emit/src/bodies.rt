@@ -1,5 +1,5 @@
 // The routines that find and enter the bodies of closures.
-ghost use Rattle.std.specs.Prelude.{◌≡◌, ◌+◌, ◌<◌, ◌≤◌, ◌++◌, IfOk, OnOk, length};
+ghost use Rattle.std.specs.Prelude.{◌≡◌, ℕ, ◌+◌, ◌<◌, ◌≤◌, ◌++◌, IfOk, OnOk, length};
 ghost use Rattle.std.specs.List.{slice_get};
 ghost use Rattle.dg_meaning.specs.Cells.{captured_count};
 ghost use Rattle.dg_turn.specs.Bodies.{fork_routine};
@@ -85,7 +85,7 @@ impl CodeWriter<'_> {
     ) -> Result<(), AllocError>
         requires some { 2 ≤ length part.bodies.now }
         requires fits { parts.PartFits part }
-        ensures { OnOk result (parts.Shrinks self.now.writer.program.now self.now.numbers.now part all.old all.new left.old left.new) }
+        ensures { OnOk result (parts.Shrinks self.now.writer.program.now self.now.numbers.now part.entry all.old all.new left.old left.new) }
     {
         let half = part.bodies.len() / 2;
         let (first, others) = part.bodies.split_at(half);
@@ -114,7 +114,7 @@ impl CodeWriter<'_> {
     ) -> Result<(), AllocError>
         requires fits { parts.PartFits part }
         requires few { (place : ℕ) → captured_count (slice_get self.now.writer.program.now.closures place) ≤ 64 }
-        ensures { OnOk result (parts.Shrinks self.now.writer.program.now self.now.numbers.now part all.old all.new left.old left.new) }
+        ensures { OnOk result (parts.Shrinks self.now.writer.program.now self.now.numbers.now part.entry all.old all.new left.old left.new) }
     {
         match part.bodies {
             [] => Ok(()),
