@@ -159,7 +159,7 @@ closes_branch old new before after s t others b none on lands put comes good lig
 
 -- what is next weighs no more than the branches that are left
 pub light_next : (w : Weights) (s t : Branching) (popped : List (List Goal)) (list others : List Goal) (levels : List Level) (after : Work) → s.left ≡ popped ++ list ∷ [] → t.left ≡ popped →
-    form.Select t.site t.mode [] ≡ form.Select s.site s.mode [] → after.ops.items ≡ tail_ops s.tail → after.goals ≡ list → after.levels ≡ levels ++ level.Branches t others ∷ [] →
+    w.own (form.Select t.site t.mode []) ≡ w.own (form.Select s.site s.mode []) → after.ops.items ≡ tail_ops s.tail → after.goals ≡ list → after.levels ≡ levels ++ level.Branches t others ∷ [] →
     work_weight w after ≤ w.own (form.Select s.site s.mode []) + lists_weight w s.left + body_weight w others + levels_weight w levels
 light_next w s t popped list others levels after split same goal_is ops_are goals_are levels_are =
     omega (
@@ -167,7 +167,7 @@ light_next w s t popped list others levels after split same goal_is ops_are goal
       ap (lists_weight w) split,
       lists_append w popped (list ∷ []),
       ap (lists_weight w) same,
-      ap w.own goal_is,
+      goal_is,
       tail_weight w s.tail after.ops.items ops_are,
       ap (body_weight w) goals_are,
       level_added w levels after.levels (level.Branches t others) levels_are,
