@@ -13,7 +13,7 @@ use Rattle.dg_rt.specs.Areas.{last_reg}
 use Rattle.dg_rt.specs.Closings.{closing}
 use Rattle.dg_rt.specs.Gaps.{last_word, Meets}
 use Rattle.dg_turn.specs.Texts.{met_words, printed}
-use Rattle.dg_turn.proofs.Met.{met_meets}
+use Rattle.dg_turn.proofs.Meeting.{met_meets}
 use Rattle.dg_chain.specs.Stands.{Printed}
 use Rattle.dg_chain.proofs.Happened.{render_more}
 

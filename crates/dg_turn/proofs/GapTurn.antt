@@ -24,7 +24,7 @@ use Rattle.dg_turn.specs.Told.{Telling}
 use Rattle.dg_turn.specs.Plays.{Playing, Outside, Represented, Comes}
 use Rattle.dg_turn.specs.Texts.{gap_acts, gap_routine, printed, GapTurns}
 use Rattle.dg_turn.proofs.GapLaws.{spaces_on, asked_on, break_same, break_par, upper_same, upper_more, line_none, line_some}
-use Rattle.dg_turn.proofs.Met.{meets_here, mid_met}
+use Rattle.dg_turn.proofs.Meeting.{meets_here, mid_met}
 use Rattle.dg_turn.proofs.Moving.{moves_to}
 
 -- Nothing is written.

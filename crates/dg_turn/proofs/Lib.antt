@@ -46,7 +46,7 @@ pub mod FindTurn
 pub mod BodyTurn
 pub mod Begun
 pub mod Paid
-pub mod Met
+pub mod Meeting
 pub mod GapLaws
 pub mod TextTurn
 pub mod GapTurn

@@ -40,7 +40,7 @@ use Rattle.dg_turn.specs.Terms.{written_in, Wrote}
 use Rattle.dg_turn.specs.Texts.{gap_n_routine, gap_n_most, printed, Spacing, GapNTurns, QuitTurns}
 use Rattle.dg_turn.proofs.GapLaws.{spaces_on, spaces_few, asked_on, break_same, upper_same}
 use Rattle.dg_turn.proofs.GapTurn.{unwritten}
-use Rattle.dg_turn.proofs.Met.{meets_here, mid_met}
+use Rattle.dg_turn.proofs.Meeting.{meets_here, mid_met}
 use Rattle.dg_turn.proofs.Moving.{moves, moves_to, closes, closes_within, closes_then}
 use Rattle.dg_turn.proofs.OnceTurn.{goto_turns}
 use Rattle.dg_turn.proofs.Standing.{ask_spaces_at, done_at}

@@ -32,7 +32,7 @@ use Rattle.dg_rt.proofs.Separating.{separate_works, calls_separate}
 use Rattle.dg_turn.specs.Told.{Telling}
 use Rattle.dg_turn.specs.Plays.{Playing, Outside, Represented, Comes}
 use Rattle.dg_turn.specs.Texts.{say, text_routine, printed, TextTurns}
-use Rattle.dg_turn.proofs.Met.{meets_here, mid_met}
+use Rattle.dg_turn.proofs.Meeting.{meets_here, mid_met}
 use Rattle.dg_turn.proofs.Moving.{moves_to}
 
 -- ## Characters
