@@ -66,7 +66,7 @@ pub break_par : (gap : List Print) → break_word (gap ++ GapOf kinds.Par ∷ []
 break_par gap = rw (any_more is_par gap (GapOf kinds.Par) refl) refl
 
 pub upper_same : (gap : List Print) (e : Print) → is_upper e ≡ false → bit (list_any is_upper (gap ++ e ∷ [])) ≡ bit (list_any is_upper gap)
-upper_same gap e no = rw (any_same is_upper gap e no) refl
+upper_same gap e off = rw (any_same is_upper gap e off) refl
 
 pub upper_more : (gap : List Print) → bit (list_any is_upper (gap ++ GapOf kinds.Upper ∷ [])) ≡ 1
 upper_more gap = rw (any_more is_upper gap (GapOf kinds.Upper) refl) refl
