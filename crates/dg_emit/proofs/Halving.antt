@@ -1,6 +1,6 @@
 -- Bodies of closures that are halved until each stands alone.
 use Rattle.std.specs.Borrow.{Bor}
-use Rattle.std.proofs.Common.{◌≡◌, ℕ, zero, suc, ◌+◌, ◌*◌, ◌/◌, ◌<◌, ◌≤◌, List, [], ◌∷◌, ◌++◌, length, take, drop, refl, sym, ap, ◌∙◌, subst, arith, length-drop, append_assoc, append-nil}
+use Rattle.std.proofs.Common.{◌≡◌, ℕ, zero, suc, ◌+◌, ◌*◌, ◌/◌, ◌<◌, ◌≤◌, List, [], ◌∷◌, ◌++◌, length, take, drop, get_or, refl, sym, ap, ◌∙◌, subst, arith, length-drop, append_assoc, append-nil}
 use Rattle.std.proofs.lemmas.List.{length-take-le}
 use Rattle.dg_base.specs.declared.program.CoreProgram.{CoreProgram}
 use Rattle.dg_mid.specs.declared.code.BodyCode.{BodyCode}
@@ -88,6 +88,11 @@ shrinks_none p ns part all left is = record {
   fit = λ h. h;
   less = omega arith;
 }
+
+pub single : (cs : List BodyCode) (d : BodyCode) → 1 ≤ length cs → length cs < 2 → cs ≡ get_or cs 0 d ∷ []
+single [] d some few = absurd (omega arith)
+single (c ∷ []) d some few = refl
+single (c ∷ e ∷ cs) d some few = absurd (omega arith)
 
 -- A body stands alone.
 pub shrinks_one : (p : CoreProgram) (ns : Numbers) (part : Part) (body : BodyCode) (r : Routine) (all all' : List Routine) (left : List Part) → part.bodies.now ≡ body ∷ [] → r ≡ entering_routine p ns part.place body → all' ≡ all ++ r ∷ [] → Shrinks p ns part all all' left left

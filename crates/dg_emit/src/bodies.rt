@@ -77,6 +77,7 @@ impl CodeWriter<'_> {
     }
 
     // Bodies are halved: a fork comes first, and both halves are left.
+    #[tactic(auto, using(crate::proofs::Halving::size_is))]
     fn put_fork<'p>(
         &self,
         all: &mut Items<Routine>,
@@ -102,7 +103,8 @@ impl CodeWriter<'_> {
             number,
             place: part.place,
             bodies: first,
-        })
+        })?;
+        Ok(())
     }
 
     // The first routines of a part are written, and what is left of it is left.
@@ -118,7 +120,10 @@ impl CodeWriter<'_> {
     {
         match part.bodies {
             [] => Ok(()),
-            [body] => all.push(self.entering(part.place, body)?),
+            [body] => {
+                all.push(self.entering(part.place, body)?)?;
+                Ok(())
+            }
             _ => self.put_fork(all, left, part),
         }
     }

@@ -1,7 +1,7 @@
 use Rattle.std.proofs.Common.{◌≡◌, ◌++◌, length}
 use Rattle.dg_emit.specs.Bodies.{bodies_routines}
 use Rattle.dg_emit.specs.inside.Parts.{PartsFit, parts_routines, parts_weight}
-use Rattle.dg_emit.proofs.bodies.CodeWriter.put_bodies.Given as goal
+use Rattle.dg_emit.proofs.code.CodeWriter.put_bodies.Given as goal
 
 abbrev pub invariant-loop-part : goal.invariant-loop-part
 invariant-loop-part l =

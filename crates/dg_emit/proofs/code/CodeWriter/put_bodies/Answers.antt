@@ -2,7 +2,7 @@ use Rattle.std.proofs.Common.{◌++◌, ◌∙◌, List, ap, sym, arith}
 use Rattle.z_lang.specs.declared.act.Routine.{Routine}
 use Rattle.dg_emit.specs.inside.Parts.{parts_routines, parts_weight}
 use Rattle.dg_emit.proofs.Halving.{pushed_routines, pushed_weight, next_part}
-use Rattle.dg_emit.proofs.bodies.CodeWriter.put_bodies.Goals as goal
+use Rattle.dg_emit.proofs.code.CodeWriter.put_bodies.Goals as goal
 
 pub put_part-requires-clause-fits : goal.put_part-requires-clause-fits
 put_part-requires-clause-fits c = (next_part c.loop-part.left c.pop.new.self c.in-Some.part c.in-Some.ensures c.loop-part.invariant.1).fits
