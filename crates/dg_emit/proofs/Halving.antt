@@ -129,13 +129,13 @@ shrinks_more p ns part half first others r all all' left left1 left2 some half_i
     let w = ap parts_weight two ∙ pushed_weight left1 a in
     let w1 = ap parts_weight one ∙ pushed_weight left b in
     let routines : parts_routines p ns left2 ≡ part_routines p ns a ++ (part_routines p ns b ++ parts_routines p ns left) =
-        ap (parts_routines p ns) two ∙ pushed_routines p ns left1 a
-        ∙ ap (λ (rs : List Routine). part_routines p ns a ++ rs) (ap (parts_routines p ns) one ∙ pushed_routines p ns left b) in
+    ap (parts_routines p ns) two ∙ pushed_routines p ns left1 a
+    ∙ ap (λ (rs : List Routine). part_routines p ns a ++ rs) (ap (parts_routines p ns) one ∙ pushed_routines p ns left b) in
     let whole : part_routines p ns part ≡ r ∷ (part_routines p ns a ++ part_routines p ns b) =
-        halved p ns part.number part.place half cs some half_is
-        ∙ ap (λ (l : List BodyCode). fork_routine (part.place + half) (part.number + 1) (part.number + 2 * half) ∷ (bodies_routines p ns (length l) (part.number + 1) part.place l ++ bodies_routines p ns (length (drop half cs)) (part.number + 2 * half) (part.place + half) (drop half cs))) (sym first_is)
-        ∙ ap (λ (l : List BodyCode). fork_routine (part.place + half) (part.number + 1) (part.number + 2 * half) ∷ (part_routines p ns a ++ bodies_routines p ns (length l) (part.number + 2 * half) (part.place + half) l)) (sym others_is)
-        ∙ ap (λ (x : Routine). x ∷ (part_routines p ns a ++ part_routines p ns b)) (sym r_is) in
+    halved p ns part.number part.place half cs some half_is
+    ∙ ap (λ (l : List BodyCode). fork_routine (part.place + half) (part.number + 1) (part.number + 2 * half) ∷ (bodies_routines p ns (length l) (part.number + 1) part.place l ++ bodies_routines p ns (length (drop half cs)) (part.number + 2 * half) (part.place + half) (drop half cs))) (sym first_is)
+    ∙ ap (λ (l : List BodyCode). fork_routine (part.place + half) (part.number + 1) (part.number + 2 * half) ∷ (part_routines p ns a ++ bodies_routines p ns (length l) (part.number + 2 * half) (part.place + half) l)) (sym others_is)
+    ∙ ap (λ (x : Routine). x ∷ (part_routines p ns a ++ part_routines p ns b)) (sym r_is) in
     record {
       same =
           ap (λ (rs : List Routine). rs ++ parts_routines p ns left2) made

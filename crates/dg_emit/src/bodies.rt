@@ -138,7 +138,8 @@ impl CodeWriter<'_> {
         requires room { number + bodies_size bodies.now ≤ 65535 }
         requires places { length bodies.now ≤ 16384 }
         requires few { (place : ℕ) → captured_count (slice_get self.now.writer.program.now.closures place) ≤ 64 }
-        ensures { OnOk result (all.new ≡ all.old ++ spec.bodies_routines self.now.writer.program.now self.now.numbers.now (length bodies.now) number 0 bodies.now) }
+        ensures { OnOk result (all.new ≡ all.old
+            ++ spec.bodies_routines self.now.writer.program.now self.now.numbers.now (length bodies.now) number 0 bodies.now) }
     {
         let mut left = Items::new(self.writer.alloc);
         left.push(Part {

@@ -111,7 +111,8 @@ impl CodeWriter<'_> {
             many,
             first: self.numbers.find,
         };
-        self.writer.last_query_routine(closure, argument, end, asked)
+        self.writer
+            .last_query_routine(closure, argument, end, asked)
     }
 
     // The routine that enters a rule.

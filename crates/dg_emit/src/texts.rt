@@ -51,13 +51,7 @@ fn end_of(characters: &[u16]) -> u16
 {
     match characters {
         [] => 0,
-        [.., last] => {
-            if opens(*last) {
-                1
-            } else {
-                2
-            }
-        }
+        [.., last] => { if opens(*last) { 1 } else { 2 } }
     }
 }
 
