@@ -3,3 +3,4 @@ mod Nodes
 mod Matching
 mod Halving
 mod Names
+pub mod Alike

@@ -2,10 +2,12 @@
 #![tactic(auto)]
 
 mod bodies;
+mod captures;
 mod choices;
 mod closures;
 mod code;
 mod counting;
+mod laws;
 mod layout;
 mod numbers;
 mod queries;
@@ -14,9 +16,11 @@ mod story;
 mod terms;
 mod texts;
 
+pub use captures::captures_of;
 pub use choices::{branch, commit, goto, just, leave, once, shield, try_first};
 pub use code::{CodeWriter, are_built, is_built};
 pub use counting::{all_of, captured, cells};
+pub use laws::routines_alike;
 pub use layout::{RuleWriter, put_code};
 pub use numbers::{NumberFault, Numbers, numbers_from};
 pub use queries::Asked;
