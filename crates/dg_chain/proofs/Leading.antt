@@ -119,11 +119,11 @@ module _ (t : Telling) (code : Code) (dice : List ℕ) where
 
   -- ## Limits
 
-  charged_on : (n : ℕ) (m : Mid) (next : Status) → m.state.heap + n ≤ 10000 → charged set n m next ≡ next
+  pub charged_on : (n : ℕ) (m : Mid) (next : Status) → m.state.heap + n ≤ 10000 → charged set n m next ≡ next
   charged_on zero m next le = refl
   charged_on (suc n) m next le = cond-false (nat_lt 10000 (m.state.heap + suc n)) (Ended ending.HeapLimit) next (le-ltb 10000 (m.state.heap + suc n) le)
 
-  charged_off : (n : ℕ) (m : Mid) (next : Status) → m.state.heap ≤ 10000 → 10000 < m.state.heap + n → charged set n m next ≡ Ended ending.HeapLimit
+  pub charged_off : (n : ℕ) (m : Mid) (next : Status) → m.state.heap ≤ 10000 → 10000 < m.state.heap + n → charged set n m next ≡ Ended ending.HeapLimit
   charged_off zero m next fits lt = absurd (omega arith)
   charged_off (suc n) m next fits lt = cond-true (nat_lt 10000 (m.state.heap + suc n)) (Ended ending.HeapLimit) next (lt-ltb 10000 (m.state.heap + suc n) lt)
 

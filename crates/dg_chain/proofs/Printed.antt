@@ -19,12 +19,15 @@ use Rattle.dg_chain.proofs.Happened.{render_more}
 
 -- ## Closings
 
+abbrev newline : ℕ → List ℕ
+newline last = if last == 0 then [] else 10 ∷ []
+
 -- a newline comes behind a text of which something was printed
-newline_is : (o : Option ℕ) → newline_behind o ≡ (if last_word o == 0 then [] else 10 ∷ [])
+newline_is : (o : Option ℕ) → newline_behind o ≡ newline (last_word o)
 newline_is None = refl
 newline_is (Some b) = by_open (opens b)
   where
-    by_open : (t : Bool) → 10 ∷ [] ≡ (if (if t then 1 else 2) == 0 then [] else 10 ∷ [])
+    by_open : (t : Bool) → newline_behind (Some b) ≡ newline (if t then 1 else 2)
     by_open true = refl
     by_open false = refl
 
@@ -36,16 +39,16 @@ closed_is ps w e =
 
 -- ## One thing more
 
-met_more : (m : Met) (xs : List Print) (e : Print) → met_from m (xs ++ e ∷ []) ≡ met_behind (met_from m xs) e
+pub met_more : (m : Met) (xs : List Print) (e : Print) → met_from m (xs ++ e ∷ []) ≡ met_behind (met_from m xs) e
 met_more m [] e = refl
 met_more m (x ∷ xs) e = met_more (met_behind m x) xs e
 
-render_one : (ps : List Print) (e : Print) → render (ps ++ e ∷ []) ≡ render ps ++ written (met_from nothing_met ps) e
+pub render_one : (ps : List Print) (e : Print) → render (ps ++ e ∷ []) ≡ render ps ++ written (met_from nothing_met ps) e
 unfolding render
 render_one ps e = render_more nothing_met ps (e ∷ []) ∙ ap (λ (l : List ℕ). render_from nothing_met ps ++ l) (append-nil (written (met_from nothing_met ps) e))
 
 -- What is outside behind it.
-pub printed_more : (ps : List Print) (w : Printed ps) (e : Print) → Printed (ps ++ e ∷ [])
+abbrev pub printed_more : (ps : List Print) (w : Printed ps) (e : Print) → Printed (ps ++ e ∷ [])
 printed_more ps w e =
     let m = met_from nothing_met ps in
     record {
