@@ -6,8 +6,8 @@ use Rattle.dg_base.specs.declared.run.Ending.{Ending}
 use Rattle.dg_meaning.specs.Render.{opens, Met, nothing_met, met_from, met_behind, render_from, render, written}
 use Rattle.dg_meaning.specs.Transcript.{line_of, newline_behind, closed_text}
 use Rattle.dg_meaning.specs.World.{Print}
-use Rattle.dg_mid.specs.State.{Mid, Status, Runs, Ended}
-use Rattle.dg_mid.specs.Step.{Setting, does, runs, step, said_in, said_to, said, followed}
+use Rattle.dg_mid.specs.State.{Mid, Runs, Ended}
+use Rattle.dg_mid.specs.Step.{Setting, does, runs, said_in, said_to, said, followed}
 use Rattle.dg_mid.specs.declared.code.Op.{Op}
 use Rattle.dg_rt.specs.Areas.{last_reg}
 use Rattle.dg_rt.specs.Closings.{closing}

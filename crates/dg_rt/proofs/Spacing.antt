@@ -1,8 +1,8 @@
 -- The routine that asks for so many spaces does so.
-use Rattle.std.proofs.Common.{◌≡◌, ◌≢◌, ℕ, suc, ◌+◌, ◌*◌, ◌<◌, ◌≤◌, inl, inr, Bool, true, false, List, [], ◌∷◌, drop, Some, refl, sym, ap, ◌∙◌, subst, arith}
+use Rattle.std.proofs.Common.{◌≡◌, ℕ, suc, ◌+◌, ◌*◌, ◌<◌, ◌≤◌, inl, inr, Bool, true, false, List, [], ◌∷◌, drop, Some, refl, sym, ap, ◌∙◌, subst, arith}
 use Rattle.std.specs.Prelude.{min}
 use Rattle.std.proofs.lemmas.Bool.{ne_eqb, eq-eqb, cases_lt}
-use Rattle.dg_meaning.specs.Values.{Num, Value, Values, Node}
+use Rattle.dg_meaning.specs.Values.{Num, Value}
 use Rattle.dg_meaning.specs.Substitutions.{Substitution, walk, links}
 use Rattle.z_lang.specs.declared.act.Atom.TheVariants as atoms
 use Rattle.z_lang.specs.declared.act.Comparison.TheVariants as comparisons
@@ -15,7 +15,6 @@ use Rattle.dg_rt.specs.declared.gaps.TheConstants.{ASK_SPACES_ACTS}
 use Rattle.dg_rt.specs.declared.operands.TheConstants.{NUMBER_ACTS}
 use Rattle.dg_rt.specs.Cells.{compared, with_cell, replaced, Holds}
 use Rattle.dg_rt.specs.Areas.{state}
-use Rattle.dg_rt.specs.Shapes.{Shape, IsShape, Shows, Stands}
 use Rattle.dg_rt.specs.RunTime.{HasRunTime}
 use Rattle.dg_rt.specs.Operands.{number_word, FitsStory, LooksUp}
 use Rattle.dg_rt.specs.Spaces.{AsksSpaces, HasNoNumber, SpacesWork}
@@ -113,7 +112,7 @@ module _ (p : Program) (has : HasRunTime p) (f w : ℕ) (some : 2 ≤ f) (enough
         }
 
     counts : AsksSpaces p f w memory typed output drawn x next n cells (5 * links S v + 15)
-    counts = elim (cases_lt sum 16384) [ | inl lt ↦ few_more lt | inr le ↦ too_many le ]
+    counts = elim (cases_lt sum 16384) [ inl lt ↦ few_more lt | inr le ↦ too_many le ]
 
 pub spaces_work : SpacesWork
 spaces_work = record {

@@ -36,10 +36,11 @@ pub record HasNoNumber (p : Program) (f w : ℕ) (memory typed output : List ℕ
 
 -- So it is by what a value is, looked up, in 5 instructions a link and 15.
 pub record SpacesWork : Type 0 where
-  pub counts : (p : Program) → HasRunTime p → (f w : ℕ) → 2 ≤ f → 5 ≤ w → (memory typed output : List ℕ) (drawn : ℕ) (sh : Shape) → IsShape sh →
-      (cells : ℕ → ℕ) → Holds p.world.layout memory cells → (S : Substitution) → Stands sh cells S → (x next : ℕ) (v : Value) → Shows sh x v →
-      (n : ℕ) (parts : Values) → walk S v ≡ Node (Num n) parts → cells spaces_reg ≤ 16383 →
+  pub counts : (p : Program) → HasRunTime p → (f w : ℕ) → 2 ≤ f → 5 ≤ w → (memory typed output : List ℕ) (drawn : ℕ) (sh : Shape) →
+      IsShape sh → (cells : ℕ → ℕ) → Holds p.world.layout memory cells → (S : Substitution) → Stands sh cells S → (x next : ℕ)
+      (v : Value) → Shows sh x v → (n : ℕ) (parts : Values) → walk S v ≡ Node (Num n) parts → cells spaces_reg ≤ 16383 →
       AsksSpaces p f w memory typed output drawn x next n cells (5 * links S v + 15)
-  pub fails : (p : Program) → HasRunTime p → (f w : ℕ) → 2 ≤ f → 5 ≤ w → (memory typed output : List ℕ) (drawn : ℕ) (sh : Shape) → IsShape sh →
-      (cells : ℕ → ℕ) → Holds p.world.layout memory cells → (S : Substitution) → Stands sh cells S → (x next : ℕ) (v : Value) → Shows sh x v →
-      number_word (walk S v) ≡ no_value → HasNoNumber p f w memory typed output drawn x next (5 * links S v + 15)
+  pub fails : (p : Program) → HasRunTime p → (f w : ℕ) → 2 ≤ f → 5 ≤ w → (memory typed output : List ℕ) (drawn : ℕ) (sh : Shape) →
+      IsShape sh → (cells : ℕ → ℕ) → Holds p.world.layout memory cells → (S : Substitution) → Stands sh cells S → (x next : ℕ)
+      (v : Value) → Shows sh x v → number_word (walk S v) ≡ no_value →
+      HasNoNumber p f w memory typed output drawn x next (5 * links S v + 15)

@@ -36,8 +36,8 @@ pub use laws::{
     copy_in_works, copy_works, cut_works, enter_works, fail_works, first_works, found_works,
     full_works, key_works, leave_works, match_works, matched_works, move_works, none_works,
     open_inner_works, open_works, operands_work, pieces_work, runtime_fits, separate_works,
-    spaces_work, tail_call_works, undo_gives_back, undo_unwinds, unify_works, unstop_works, var_works,
-    world_works,
+    spaces_work, tail_call_works, undo_gives_back, undo_unwinds, unify_works, unstop_works,
+    var_works, world_works,
 };
 pub use operands::{FULL_ACTS, NUMBER_ACTS, OBJECT_ACTS, SIMPLE_ACTS};
 pub use pieces::{LETTER_ACTS, PRINT_LETTERS_ACTS, PRINT_MARK_ACTS, PRINT_NUMBER_ACTS};

@@ -1,5 +1,5 @@
 -- A gap is asked for: one turn of the story.
-use Rattle.std.proofs.Common.{◌≡◌, ◌≢◌, ℕ, suc, ◌+◌, ◌<◌, ◌≤◌, inl, inr, Bool, true, false, List, [], ◌∷◌, ◌++◌, Some, None, refl, sym, ap, ◌∙◌, subst, arith}
+use Rattle.std.proofs.Common.{◌≡◌, ◌≢◌, ℕ, ◌+◌, ◌<◌, ◌≤◌, inl, inr, Bool, true, false, List, [], ◌∷◌, ◌++◌, Some, None, refl, sym, ap, ◌∙◌, subst, arith}
 use Rattle.std.specs.List.{list_any}
 use Rattle.std.proofs.lemmas.Bool.{cases_eq, eq-eqb, ne_eqb}
 use Rattle.std.proofs.lemmas.List.{append-nil}
@@ -19,10 +19,10 @@ use Rattle.dg_rt.specs.Cells.{compared, bit, with_cell, replaced, Holds}
 use Rattle.dg_rt.specs.Areas.{state}
 use Rattle.dg_rt.specs.Gaps.{break_word, asked_word, Meets}
 use Rattle.dg_rt.proofs.Cells.{other_cell, same_cell}
-use Rattle.dg_rt.proofs.Following.{word as word_is, IsPut, tested, copies, register, puts}
+use Rattle.dg_rt.proofs.Following.{IsPut, tested, copies, register, puts}
 use Rattle.dg_turn.specs.Told.{Telling}
 use Rattle.dg_turn.specs.Plays.{Playing, Outside, Represented, Comes}
-use Rattle.dg_turn.specs.Texts.{gap_acts, gap_routine, printed, GapTurns}
+use Rattle.dg_turn.specs.Texts.{gap_routine, printed, GapTurns}
 use Rattle.dg_turn.proofs.GapLaws.{spaces_on, asked_on, break_same, break_par, upper_same, upper_more, line_none, line_some}
 use Rattle.dg_turn.proofs.Meeting.{meets_here, mid_met}
 use Rattle.dg_turn.proofs.Moving.{moves_to}
@@ -158,7 +158,7 @@ module _ (t : Telling) (plays : Playing t) (out : Outside) (x behind : ℕ) (m :
       (taken (asks_break false (ne_eqb (r.cells 30) 0 some)) refl (done (copies t.p (now r.memory) (now m1) 47 (atoms.Num 0) 0 refl put.put_is) (returns refl)))
 
   a_line : Turns kinds.Line
-  a_line there = elim (cases_eq (r.cells 30) 0) [ | inl e ↦ first_line e there | inr ne ↦ more_lines ne there ]
+  a_line there = elim (cases_eq (r.cells 30) 0) [ inl e ↦ first_line e there | inr ne ↦ more_lines ne there ]
 
 pub gap_turns : GapTurns
 gap_turns t plays out x behind m z met kinds.NoSpace there meets r = no_space t plays out x behind m z met meets r there

@@ -1,5 +1,5 @@
 -- What the registers say of the text is written anew.
-use Rattle.std.proofs.Common.{◌≡◌, ◌≢◌, ℕ, ◌+◌, ◌<◌, ◌≤◌, inl, inr, List, Option, None, refl, sym, ap, ◌∙◌, subst, arith}
+use Rattle.std.proofs.Common.{◌≡◌, ◌≢◌, ℕ, ◌<◌, ◌≤◌, inl, inr, List, None, refl, sym, ◌∙◌, subst, arith}
 use Rattle.std.specs.List.{list_any}
 use Rattle.std.proofs.lemmas.Bool.{cases_eq}
 use Rattle.dg_meaning.specs.Render.{is_upper, spaces_from, last_asked, Met}
@@ -9,7 +9,7 @@ use Rattle.dg_rt.specs.Shapes.{Shape}
 use Rattle.dg_rt.specs.Gaps.{last_word, break_word, asked_word, Meets}
 use Rattle.dg_rt.proofs.Cells.{other_cell}
 use Rattle.dg_turn.specs.Told.{Telling}
-use Rattle.dg_turn.specs.Rest.{aux_at, aux_end, OuterAre, RestIn}
+use Rattle.dg_turn.specs.Rest.{OuterAre, RestIn}
 use Rattle.dg_turn.specs.Lies.{StopNamed, FramesIn, InnersIn, MidIn}
 use Rattle.dg_turn.specs.Texts.{met_words}
 use Rattle.dg_turn.proofs.Resting.{gatherings_stay}

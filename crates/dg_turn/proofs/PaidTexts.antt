@@ -1,5 +1,5 @@
 -- What text costs is paid for.
-use Rattle.std.proofs.Common.{◌≡◌, ◌≢◌, ℕ, zero, suc, ◌+◌, ◌-◌, ◌*◌, ◌/◌, ◌%◌, ◌<◌, ◌≤◌, inl, inr, Bool, true, false, List, [], ◌∷◌, ◌++◌, length, replicate, Option, Some, None, refl, sym, ap, ◌∙◌, subst, arith}
+use Rattle.std.proofs.Common.{◌≡◌, ℕ, zero, suc, ◌+◌, ◌-◌, ◌*◌, ◌/◌, ◌<◌, ◌≤◌, inl, inr, Bool, true, false, List, [], ◌∷◌, ◌++◌, length, replicate, Option, Some, None, refl, sym, ap, ◌∙◌, subst, arith}
 use Rattle.std.specs.Prelude.{All, encode_utf8_all, nat_lt, nat_le, ◌||◌, if◌then◌else◌}
 use Rattle.std.specs.List.{list_any}
 use Rattle.std.proofs.lemmas.Bool.{lt-ltb, le-ltb, le-leb, ltb-false, cases_lt}
@@ -8,10 +8,10 @@ use Rattle.dg_base.specs.declared.program.Term.{Term}
 use Rattle.dg_base.specs.Sound.{IsPrintable}
 use Rattle.dg_meaning.specs.Cells.{nodes_of, cells as cells_of}
 use Rattle.dg_meaning.specs.Moves.{looked_up, spaces}
-use Rattle.dg_meaning.specs.Render.{is_line, is_par, is_upper, spaces_from, spaces_of, last_asked, space_for, upper, capital, separator, first_of, Met, nothing_met, met_from, growth, characters}
-use Rattle.dg_meaning.specs.Substitutions.{walk, links}
+use Rattle.dg_meaning.specs.Render.{is_line, is_par, is_upper, spaces_from, spaces_of, last_asked, space_for, upper, capital, separator, first_of, nothing_met, met_from, growth, characters}
+use Rattle.dg_meaning.specs.Substitutions.{walk}
 use Rattle.dg_meaning.specs.Values.{Num, Word, Unknown, Object, Nil, Pair, Closure, Value, Var, Node, value_of}
-use Rattle.dg_meaning.specs.World.{World, Print, Piece, prints, worked}
+use Rattle.dg_meaning.specs.World.{World, Print, Piece, worked}
 use Rattle.dg_mid.specs.declared.code.Action.TheVariants as action
 use Rattle.dg_mid.specs.declared.code.Op.{Op}
 use Rattle.dg_mid.specs.declared.code.Op.TheVariants as op
@@ -20,7 +20,7 @@ use Rattle.dg_mid.specs.State.{Mid, Runs, vars_of}
 use Rattle.dg_mid.specs.Step.{Setting, more}
 use Rattle.dg_mid.specs.Units.{act_work, units_of}
 use Rattle.dg_mid.proofs.Acts.{nothing_first}
-use Rattle.dg_rt.proofs.Encoding.{AllSmall, encoded}
+use Rattle.dg_rt.proofs.Encoding.{AllSmall}
 use Rattle.dg_rt.proofs.First.{upper_low, upper_high, upper_letter}
 use Rattle.dg_turn.specs.Terms.{AreNodes}
 use Rattle.dg_turn.specs.Texts.{gap_n_most}

@@ -24,7 +24,7 @@ use Rattle.dg_rt.specs.declared.closings.TheConstants.{DONE_ACTS}
 use Rattle.dg_rt.specs.inside.Walks.{steps}
 use Rattle.dg_rt.specs.Cells.{with_cell, replaced, Holds}
 use Rattle.dg_rt.specs.Areas.{state}
-use Rattle.dg_rt.specs.Closings.{closing, closing_most}
+use Rattle.dg_rt.specs.Closings.{closing_most}
 use Rattle.dg_rt.specs.Gaps.{asked_word, Meets}
 use Rattle.dg_rt.specs.Operands.{number_word}
 use Rattle.dg_rt.specs.RunTime.{routine_of}

@@ -6,7 +6,7 @@ use Rattle.std.proofs.lemmas.List.{append-nil}
 use Rattle.std.proofs.lemmas.List.Elements.{All-head, All-tail}
 use Rattle.std.proofs.Math.Utf8.{encode, scalar_cases}
 use Rattle.dg_base.specs.Sound.{IsPrintable}
-use Rattle.dg_meaning.specs.World.{Print, Piece}
+use Rattle.dg_meaning.specs.World.{Piece}
 use Rattle.dg_meaning.specs.Render.{opens, capital, separator, first_of, last_of, spaces_from, Met, met_behind, written}
 use Rattle.dg_mid.specs.State.{Mid}
 use Rattle.z_model.specs.Run.{ZState}
@@ -20,7 +20,7 @@ use Rattle.z_lang.specs.State.{State, Program}
 use Rattle.z_lang.specs.Acts.{with_output}
 use Rattle.z_lang.specs.Runs.{ActsRun, ActsOutcome, Returns, done, returns}
 use Rattle.dg_rt.specs.declared.numbers.TheConstants.{FIRST}
-use Rattle.dg_rt.specs.Cells.{with_cell, replaced, Holds}
+use Rattle.dg_rt.specs.Cells.{with_cell, replaced}
 use Rattle.dg_rt.specs.Areas.{state}
 use Rattle.dg_rt.specs.Gaps.{last_word, Meets, Separates, PrintsFirst}
 use Rattle.dg_rt.proofs.Cells.{other_cell, same_cell}

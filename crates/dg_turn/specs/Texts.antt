@@ -8,7 +8,7 @@ use Rattle.dg_base.specs.declared.program.GapKind.TheVariants as kinds
 use Rattle.dg_base.specs.declared.program.Term.{Term}
 use Rattle.dg_base.specs.declared.run.Ending.TheVariants.{Quit, HeapLimit}
 use Rattle.dg_base.specs.Sound.{IsPrintable}
-use Rattle.dg_meaning.specs.Values.{Num, Value, Node, Values, value_of}
+use Rattle.dg_meaning.specs.Values.{Num, Node, Values, value_of}
 use Rattle.dg_meaning.specs.Substitutions.{walk, links}
 use Rattle.dg_meaning.specs.World.{Print, Piece, GapOf, SpacesOf}
 use Rattle.dg_meaning.specs.Render.{is_upper, spaces_from, last_asked, last_of, Met, written, met_behind}
