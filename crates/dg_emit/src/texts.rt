@@ -1,5 +1,5 @@
 // The routines of texts, printed character by character, and of gaps.
-ghost use Rattle.std.specs.Prelude.{◌≡◌, ◌++◌, ◌∷◌, [], None, IfOk, OnOk, length, map};
+ghost use Rattle.std.specs.Prelude.{◌≡◌, ◌++◌, ◌∷◌, [], Some, None, IfOk, OnOk, length, map};
 ghost use Rattle.std.specs.Str.{chars};
 ghost use Rattle.dg_base.specs.declared.program.GapKind.TheVariants as kinds;
 ghost use Rattle.dg_base.specs.Sound.{IsName};
@@ -45,13 +45,20 @@ fn opens(character: u16) -> bool
     matches!(character, 40 | 91 | 123)
 }
 
-// How a text ends: 1 with a character that opens, 2 with another.
+// How a text ends that ends with this character: 1 if it opens, else 2.
+fn end_with(last: u16) -> u16
+    ensures { result ≡ last_word (Some last) }
+{
+    if opens(last) { 1 } else { 2 }
+}
+
+// How a text ends.
 fn end_of(characters: &[u16]) -> u16
     ensures { result ≡ last_word (last_of None characters.now) }
 {
     match characters {
         [] => 0,
-        [.., last] => { if opens(*last) { 1 } else { 2 } }
+        [.., last] => end_with(*last),
     }
 }
 
