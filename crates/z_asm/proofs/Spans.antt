@@ -1,13 +1,14 @@
 -- Where routines begin and end.
-use Rattle.std.proofs.Common.{◌≡◌, ℕ, zero, suc, ◌+◌, ◌*◌, ◌/◌, ◌<◌, ◌≤◌, List, [], ◌∷◌, length, map, drop, get_or, Some, refl, sym, ap, ◌∙◌, arith}
+use Rattle.std.proofs.Common.{◌≡◌, ℕ, zero, suc, ◌+◌, ◌*◌, ◌/◌, ◌<◌, ◌≤◌, List, [], ◌∷◌, ◌++◌, length, map, drop, get_or, Some, refl, sym, ap, ◌∙◌, subst, arith, append_assoc}
 use Rattle.std.specs.Prelude.{slice_get, slice_index}
+use Rattle.std.proofs.lemmas.List.{at_drop_more}
 use Rattle.std.proofs.lemmas.Option.{same_Some}
 use Rattle.z_asm.specs.declared.image.Code.{Code}
 use Rattle.z_asm.specs.declared.image.Image.{Image}
 use Rattle.z_asm.specs.Layout.{aligned, code_size, stand_from, spans_from, end_from, packed_address}
 use Rattle.z_asm.specs.Story.{routines_from}
 use Rattle.z_asm.specs.Assembled.{ArePlaces}
-use Rattle.z_asm.proofs.Layouts.{aligned_is, near}
+use Rattle.z_asm.proofs.Layouts.{aligned_is, near, next_end}
 
 spans_many : (at : ℕ) (codes : List Code) → length (spans_from at (map code_size codes)) ≡ length codes
 spans_many at [] = refl
@@ -32,3 +33,26 @@ are_places image = record {
 pub routine_near : (codes : List Code) (k : ℕ) (c : Code) (at : ℕ) → k < length codes → c ≡ get_or codes k c →
     end_from at (map code_size (drop k codes)) ≤ 524280 → aligned at + code_size c < 524281
 routine_near codes k c at lt is h = near code_size codes k c at 524281 lt is (omega arith)
+
+-- one more routine
+pub span_next : (codes : List Code) (i : ℕ) (code : Code) (from end start size : ℕ) (places new : List (ℕ × ℕ)) → i < length codes → code ≡ get_or codes i code → start ≡ aligned end → size ≡ code_size code →
+    spans_from from (map code_size codes) ≡ places ++ spans_from end (map code_size (drop i codes)) → new ≡ places ++ (start, start + size) ∷ [] →
+    spans_from from (map code_size codes) ≡ new ++ spans_from (start + size) (map code_size (drop (i + 1) codes))
+span_next codes i code from end start size places new lt is there same e n =
+    e ∙ ap (λ (l : List (ℕ × ℕ)). places ++ l) next ∙ sym (append_assoc places ((start, start + size) ∷ []) (spans_from (start + size) tail))
+    ∙ ap (λ (l : List (ℕ × ℕ)). l ++ spans_from (start + size) tail) (sym n)
+  where
+    tail : List ℕ
+    tail = map code_size (drop (i + 1) codes)
+
+    next : spans_from end (map code_size (drop i codes)) ≡ (start, start + size) ∷ spans_from (start + size) tail
+    next = at_drop_more (λ (l : List Code). spans_from end (map code_size l)) codes i code lt
+        ∙ ap (λ (s : ℕ). (aligned end, aligned end + s) ∷ spans_from (aligned end + s) tail) (sym (same ∙ ap code_size is))
+        ∙ ap (λ (a : ℕ). (a, a + size) ∷ spans_from (a + size) tail) (sym there)
+
+pub near_next : (codes : List Code) (i : ℕ) (code : Code) (end start size : ℕ) → i < length codes → code ≡ get_or codes i code → start ≡ aligned end → size ≡ code_size code →
+    end_from end (map code_size (drop i codes)) ≤ 524280 → end_from (start + size) (map code_size (drop (i + 1) codes)) ≤ 524280
+near_next codes i code end start size lt is there same h =
+    let tail = map code_size (drop (i + 1) codes) in
+    subst (λ (n : ℕ). n ≤ 524280)
+    (next_end code_size codes i code end lt is ∙ ap (λ (s : ℕ). end_from (aligned end + s) tail) (sym same) ∙ ap (λ (a : ℕ). end_from (a + size) tail) (sym there)) h
