@@ -4,8 +4,10 @@ use Rattle.std.specs.Prelude.{IsTrue}
 use Rattle.dg_base.specs.Tree.{Parts, Stmt, Value, nested, parts_of}
 use Rattle.dg_base.specs.TreeView.{part_view}
 use Rattle.dg_base.specs.declared.tree.Part as code
-use Rattle.dg_reader.specs.Grammar.{Keyword, Sign, keyword_of}
-use Rattle.dg_reader.specs.inside.Machine.{Asking, Stack, Frame, asked, of_item, new_body, put_stmt, put_value, put_change, query_closes, nested_closes, change_closes, head_closes}
+use Rattle.dg_reader.specs.Grammar.{Keyword, keyword_of}
+use Rattle.dg_open.specs.Shapes.{Sign}
+use Rattle.dg_open.specs.inside.Standing.{Asking, Stack, Frame, of_item}
+use Rattle.dg_reader.specs.inside.Machine.{asked, new_body, put_stmt, put_value, put_change, query_closes, nested_closes, change_closes, head_closes}
 
 untrue : IsTrue false → ⊥
 untrue e = cc

@@ -5,9 +5,10 @@ use Rattle.std.specs.Str.{bytes_eq}
 use Rattle.dg_base.specs.declared.program.Mode.TheVariants.{Stopping}
 use Rattle.dg_base.specs.Tree.{Part, part_word, part_value, Parts, no_parts, part, Value, anonymous, plain_list, tailed_list, closure, nested, Stmt, text, print, ask_all, ask_not, group, not_group, now, choice, choice_else, collect, accumulate, select, Stmts, no_changes, change, parts_of, values_of, arms_of, changes_of}
 use Rattle.dg_reader.specs.Tokens.{Tok, word, anon, open_round, close_round, close_square, close_brace}
-use Rattle.dg_reader.specs.Grammar.{Bare, Keyword, keyword_words, keyword_of, IsQuery, Follow, TokenAt, Sign, plain_rule, Shape, topic_line, clause}
-use Rattle.dg_reader.specs.Grammar.{are_words, keyword_among, bare_keywords}
-use Rattle.dg_reader.specs.inside.Machine.{Asking, Owner, of_item, of_group, of_not_group, of_closure, of_condition, of_then, of_else, of_select, of_collect, of_accumulate, Wrapper, Frame, start, start_of, whole_topic, in_head, in_nested, in_query, in_change, in_list, in_tail, in_list_end, behind_star, behind_tilde, behind_now, in_changes, behind_clear, in_body, Stack, asked, wrapped, body_of, new_body, put_stmt, put_value, put_printed, put_change, head_closes, nested_closes, query_closes, change_closes, step, run, finished}
+use Rattle.dg_reader.specs.Grammar.{Bare, Keyword, keyword_words, keyword_of, IsQuery, Follow, TokenAt, are_words, keyword_among, bare_keywords}
+use Rattle.dg_open.specs.Shapes.{Sign, plain_rule, Shape, topic_line, clause}
+use Rattle.dg_open.specs.inside.Standing.{Asking, Owner, of_item, of_group, of_not_group, of_closure, of_condition, of_then, of_else, of_select, of_collect, of_accumulate, Wrapper, Frame, start, start_of, whole_topic, in_head, in_nested, in_query, in_change, in_list, in_tail, in_list_end, behind_star, behind_tilde, behind_now, in_changes, behind_clear, in_body, Stack, body_of, finished}
+use Rattle.dg_reader.specs.inside.Machine.{asked, wrapped, new_body, put_stmt, put_value, put_printed, put_change, head_closes, nested_closes, query_closes, change_closes, step, run}
 use Rattle.dg_reader.proofs.Sound.{FitsStack, IsBody, TakesValue, TakesPrinted, TakesChange, Reads, Each, each_map}
 use Rattle.dg_reader.proofs.Steps.{step_reads}
 use Rattle.dg_reader.proofs.Complete.{if_not}

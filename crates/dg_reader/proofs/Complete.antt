@@ -4,8 +4,10 @@ use Rattle.std.specs.Prelude.{if◌then◌else◌, option_and_then}
 use Rattle.dg_base.specs.declared.program.Mode.TheVariants.{Stopping, Cycling, PurelyAtRandom, AtRandom, ThenAtRandom, ThenPurelyAtRandom}
 use Rattle.dg_base.specs.Tree.{Part, part_word, part_value, Parts, no_parts, part, Value, num, dict_word, object_name, current_topic, anonymous, variable, plain_list, tailed_list, closure, nested, word_choice, Values, no_values, value, Stmt, Stmts, no_stmts, stmt, Body, no_branches, branch, Arms, no_arms, arm, Changes, no_changes, change, parts_of, values_of, stmts_of, branches_of, arms_of, changes_of}
 use Rattle.dg_reader.specs.Tokens.{Tok, word, dict, object, open_round, close_round, open_square, open_brace, star, are_digits, digits_number, word_parts, are_several}
-use Rattle.dg_reader.specs.Grammar.{Bare, now_word, if_word, then_word, elseif_word, else_word, endif_word, or_word, exhaust_word, stoppable_word, select_word, end_word, Keyword, bare, keyword_words, keyword_of, is_query, IsQuery, Follow, OneAt, TokenAt, WordsAt, KeywordAt, Place, of_nested, of_query, has_choices, IsWhole, SpellsWord, SpellsChoice, IsPrinted, HasElement, ValueAt, Sign, head_place}
-use Rattle.dg_reader.specs.inside.Machine.{Asking, for_one, Owner, of_item, of_closure, Wrapper, Frame, in_head, in_nested, in_query, in_change, in_list, in_tail, in_body, Stack, asked, new_body, put_stmt, put_element, put_value, put_printed, put_number, element_of, put_change, keyword_step, head_closes, nested_closes, query_closes, change_closes, put_bar, step, run, Outcome, outcome_from}
+use Rattle.dg_reader.specs.Grammar.{Bare, now_word, if_word, then_word, elseif_word, else_word, endif_word, or_word, exhaust_word, stoppable_word, select_word, end_word, Keyword, bare, keyword_words, keyword_of, is_query, IsQuery, Follow, OneAt, TokenAt, WordsAt, KeywordAt, Place, of_nested, of_query, has_choices, IsWhole, SpellsWord, SpellsChoice, IsPrinted, HasElement, ValueAt, head_place}
+use Rattle.dg_open.specs.Shapes.{Sign}
+use Rattle.dg_open.specs.inside.Standing.{Asking, for_one, Owner, of_item, of_closure, Wrapper, Frame, in_head, in_nested, in_query, in_change, in_list, in_tail, in_body, Stack}
+use Rattle.dg_reader.specs.inside.Machine.{asked, new_body, put_stmt, put_element, put_value, put_printed, put_number, element_of, put_change, keyword_step, head_closes, nested_closes, query_closes, change_closes, put_bar, step, run, Outcome, outcome_from}
 use Rattle.dg_reader.proofs.Sound.{TakesValue, place_in}
 
 -- ---- lists in reading order

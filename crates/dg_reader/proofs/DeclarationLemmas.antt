@@ -10,7 +10,8 @@ use Rattle.dg_base.specs.Tree.{Part, Parts, Body, Said, Item}
 use Rattle.dg_base.specs.declared.refusal.Kind.TheVariants.{NotInProfile, BadHead}
 use Rattle.dg_lex.specs.Tokens.{Seen}
 use Rattle.dg_reader.specs.Declarations.{begins_with_topic, IsDeclaration, AreDeclarations}
-use Rattle.dg_reader.specs.Grammar.{Shape, topic_line, clause, plain_rule, negated, access_rule, is_declaration}
+use Rattle.dg_open.specs.Shapes.{Shape, topic_line, clause, plain_rule, negated, access_rule}
+use Rattle.dg_reader.specs.Grammar.{is_declaration}
 use Rattle.dg_reader.specs.Heads.{is_reserved, is_unsigned, is_empty_body, declared_query, declares_query, keeps_declaration_rules, queries_have_values, keeps_access_rules, keeps_own_rules, keeps_rules, keeps_topic_rule, fault_of}
 use Rattle.dg_reader.specs.Profile as profile
 use Rattle.dg_reader.specs.Profile.{has_refused, has_topic}

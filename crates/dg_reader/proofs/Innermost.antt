@@ -4,9 +4,9 @@ use Rattle.std.specs.Prelude.{reverse, slice_get}
 use Rattle.std.specs.Option.{option_map, option_copied}
 use Rattle.std.proofs.lemmas.List.{reverse-reverse, length-append}
 use Rattle.std.proofs.lemmas.Grind.{reverse_onto}
-use Rattle.dg_reader.specs.declared.frames.Frame as code
-use Rattle.dg_reader.specs.inside.Machine.{Frame, Stack}
-use Rattle.dg_reader.specs.inside.Frames.{frame_view, stack_view}
+use Rattle.dg_open.specs.declared.frames.Frame as code
+use Rattle.dg_open.specs.inside.Standing.{Frame, Stack}
+use Rattle.dg_open.specs.inside.Views.{frame_view, stack_view}
 
 abbrev pub innermost : Stack → Option Frame
 innermost [] = None

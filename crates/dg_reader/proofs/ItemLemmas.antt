@@ -9,7 +9,8 @@ use Rattle.dg_lex.specs.Tokens.{Seen, seen}
 use Rattle.dg_lex.specs.declared.token.Token.{Token}
 use Rattle.dg_reader.specs.Tokens.{Tok}
 use Rattle.dg_reader.specs.TokenView.{token_view}
-use Rattle.dg_reader.specs.Grammar.{Shape, InItem, IsUnclosed, IsUnexpectedAt}
+use Rattle.dg_open.specs.Shapes.{Shape}
+use Rattle.dg_reader.specs.Grammar.{InItem, IsUnclosed, IsUnexpectedAt}
 use Rattle.dg_reader.specs.inside.Machine.{Outcome, done, unclosed, at_end, outcome_from, outcome}
 use Rattle.dg_reader.specs.inside.Items.{IsOpen, EndsAs}
 use Rattle.dg_reader.proofs.Laws.{Says, outcome_says}

@@ -1,18 +1,15 @@
 -- Each list of tokens is an item, begins one, or does neither, and the outcome says which.
 use Rattle.std.proofs.Common.{◌≡◌, ◌⊎◌, inl, inr, ◌+◌, ◌<◌, ℕ, List, [], ◌∷◌, ◌++◌, length, take, Bool, true, false, Option, Some, None, refl, sym, ◌∙◌, ap, subst}
-use Rattle.std.specs.Prelude.{option_and_then}
+use Rattle.std.specs.Prelude.{option_and_then, map, get_or}
 use Rattle.dg_base.specs.Tree.{Part, part_word, part_value, Parts, no_parts, part, Body}
 use Rattle.dg_reader.specs.Tokens.{Tok, word, object, at, open_round, close_round, tilde, are_digits}
-use Rattle.dg_reader.specs.Grammar.{IsQuery, Follow, TokenAt, Where, Parenthesis, Place, PartsAt, ValueAt, BodyAt, Sign, plain_rule, negated, access_rule, Shape, topic_line, clause, head_place, SignAt, ShapeAt, IsEnd, InItem, HasShape, IsUnclosed, IsUnexpected, IsDecided}
-use Rattle.dg_reader.specs.inside.Machine.{of_item, Frame, start, start_of, whole_topic, in_head, in_body, Stack, body_of, step, run, finished, Outcome, done, unclosed, unexpected, at_end, outcome_from, outcome}
-use Rattle.dg_reader.specs.inside.Machine.{outcome_in}
-use Rattle.std.specs.Prelude.{IsTrue, map, reverse, get_or}
+use Rattle.dg_reader.specs.Grammar.{IsQuery, Follow, TokenAt, Where, Parenthesis, Place, PartsAt, ValueAt, BodyAt, head_place, SignAt, ShapeAt, IsEnd, InItem, HasShape, IsUnclosed, IsUnexpected, IsDecided}
+use Rattle.dg_open.specs.Shapes.{Sign, plain_rule, negated, access_rule, Shape, topic_line, clause}
+use Rattle.dg_open.specs.inside.Standing.{of_item, start, start_of, whole_topic, in_head, in_body, Stack, body_of, finished}
+use Rattle.dg_reader.specs.inside.Machine.{step, run, Outcome, done, unclosed, unexpected, at_end, outcome_from, outcome, outcome_in}
 use Rattle.std.proofs.lemmas.List.{map_more}
 use Rattle.dg_reader.specs.TokenView.{token_view}
 use Rattle.dg_lex.specs.declared.token.Token.{Token}
-use Rattle.std.proofs.lemmas.List.{reverse-reverse}
-use Rattle.dg_reader.specs.inside.Frames.{stack_view, frame_view}
-use Rattle.dg_reader.specs.declared.frames.Frame as code
 use Rattle.dg_reader.proofs.More.{Leads}
 use Rattle.dg_reader.proofs.Spelled.{StackAt, body-spelled}
 use Rattle.dg_reader.proofs.Sound.{FitsStack, Reads, Each, same}
@@ -169,19 +166,6 @@ goes_on ts new e u =
     u h.rest (record { shape = h.shape; item = item_there (ts ++ h.rest) h.new h.shape whole h.ends })
 
 -- ---- reading on
-
-reversed_empty : (fs : List code.Frame) → reverse fs ≡ [] → fs ≡ []
-reversed_empty fs e = sym (reverse-reverse fs) ∙ ap reverse e
-
-pub not_last : (fs : List code.Frame) (f : Frame) → (fs ≡ [] → IsTrue false) → None ≡ finished (f ∷ stack_view fs)
-not_last fs f some = here (reverse fs) refl
-  where
-    untrue : IsTrue false → ⊥
-    untrue e = cc
-
-    here : (l : List code.Frame) → reverse fs ≡ l → None ≡ finished (f ∷ map frame_view l)
-    here [] e = absurd (untrue (some (reversed_empty fs e)))
-    here (g ∷ gs) e = refl
 
 pub run_more : (ts : List Token) (index : ℕ) (d : Token) (st : Stack) → index < length ts → run (map token_view (take index ts)) (start ∷ []) ≡ Some st → run (map token_view (take (index + 1) ts)) (start ∷ []) ≡ step (token_view (get_or ts index d)) st
 run_more ts index d st lt r =

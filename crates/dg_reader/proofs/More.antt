@@ -2,7 +2,8 @@
 use Rattle.std.proofs.Common.{◌≡◌, ◌⊎◌, inl, inr, ℕ, List, [], ◌∷◌, Bool, true, false}
 use Rattle.dg_base.specs.Tree.{Part, part_word, part_value, Parts, no_parts, part, Value, num, dict_word, object_name, current_topic, anonymous, variable, plain_list, tailed_list, closure, nested, word_choice, Values, no_values, value, Stmt, text, print, ask, ask_all, ask_not, group, not_group, now, choice, choice_else, exhaust, stoppable, collect, accumulate, select, first_answer, Stmts, no_stmts, stmt, Body, no_branches, branch, Arms, no_arms, arm, Changes, no_changes, change}
 use Rattle.dg_reader.specs.Tokens.{Tok, word, object, var, anon, at, open_round, close_round, open_square, close_square, open_brace, close_brace, bar, star, tilde, are_digits}
-use Rattle.dg_reader.specs.Grammar.{Bare, now_word, if_word, then_word, elseif_word, else_word, endif_word, or_word, exhaust_word, stoppable_word, select_word, end_word, keyword_words, IsQuery, Follow, OneAt, TokenAt, Where, WordsAt, KeywordAt, Parenthesis, WordAndValue, Place, of_nested, of_query, of_list, behind_bar, printed, has_choices, TakesQuery, SpellsNumber, SpellsWord, SpellsChoice, IsPrinted, HasElement, HasArm, IsOneChange, ChangeSignAt, PartAt, PartsAt, ValueAt, ElementsAt, StmtAt, StmtsAt, BodyAt, BranchesAt, ArmsAt, ChangesAt, Sign, plain_rule, negated, access_rule, SignAt}
+use Rattle.dg_reader.specs.Grammar.{Bare, now_word, if_word, then_word, elseif_word, else_word, endif_word, or_word, exhaust_word, stoppable_word, select_word, end_word, keyword_words, IsQuery, Follow, OneAt, TokenAt, Where, WordsAt, KeywordAt, Parenthesis, WordAndValue, Place, of_nested, of_query, of_list, behind_bar, printed, has_choices, TakesQuery, SpellsNumber, SpellsWord, SpellsChoice, IsPrinted, HasElement, HasArm, IsOneChange, ChangeSignAt, PartAt, PartsAt, ValueAt, ElementsAt, StmtAt, StmtsAt, BodyAt, BranchesAt, ArmsAt, ChangesAt, SignAt}
+use Rattle.dg_open.specs.Shapes.{Sign, plain_rule, negated, access_rule}
 
 -- Of each rest the one leads to the other.
 abbrev pub Leads : Follow → Follow → Type 0

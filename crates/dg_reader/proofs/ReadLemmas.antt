@@ -8,8 +8,8 @@ use Rattle.dg_base.specs.declared.refusal.Kind.{Kind}
 use Rattle.dg_base.specs.declared.refusal.Kind.TheVariants.{Unclosed, Unexpected}
 use Rattle.dg_lex.specs.Tokens.{Seen}
 use Rattle.dg_reader.specs.Tokens.{Tok}
-use Rattle.dg_reader.specs.Grammar.{Shape, InItem, HasShape}
-use Rattle.dg_reader.specs.Grammar.{IsUnclosed, IsUnexpected, IsUnexpectedAt}
+use Rattle.dg_open.specs.Shapes.{Shape}
+use Rattle.dg_reader.specs.Grammar.{InItem, HasShape, IsUnclosed, IsUnexpected, IsUnexpectedAt}
 use Rattle.dg_reader.proofs.Laws.{shape_decided}
 use Rattle.dg_reader.specs.Read.{toks, all_behind, begins_item, IsFront, item_of, is_topic, behind_topic, IsItemAt, ReadTo, IsFaultOf, line_at, IsRefusedAt, not_closed, not_expected, not_allowed, IsRead, item_fault}
 

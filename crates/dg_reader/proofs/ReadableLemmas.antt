@@ -5,7 +5,7 @@ use Rattle.std.specs.List.{All}
 use Rattle.std.proofs.lemmas.Bool.Decides.{nat_tests}
 use Rattle.std.proofs.lemmas.List.Elements.{All-nil, All-cons, All-append, All-head, All-tail}
 use Rattle.dg_base.specs.Heads.{name_of}
-use Rattle.dg_base.specs.Mentions.{Thing, Mentions, nothing, thing, closed, join, of_parts, of_value, of_values, of_stmt, of_stmts, of_branches, of_body, of_arms, of_changes, of_said, things, things_in, mentioned}
+use Rattle.dg_base.specs.Mentions.{Mentions, nothing, thing, closed, join, of_parts, of_value, of_values, of_stmt, of_stmts, of_branches, of_body, of_arms, of_changes, of_said, things, things_in, mentioned}
 use Rattle.dg_base.specs.Mentions as mentions
 use Rattle.dg_base.specs.Sound.{IsName}
 use Rattle.dg_base.specs.Tree as tree
@@ -15,7 +15,8 @@ use Rattle.dg_lex.specs.Tokens.{Seen}
 use Rattle.dg_lex.specs.declared.token.TokenKind.{TokenKind}
 use Rattle.dg_lex.specs.declared.token.TokenKind.TheVariants.{Word, Dict, Object}
 use Rattle.dg_lex.proofs.TextLemmas.{name_from}
-use Rattle.dg_reader.specs.Grammar.{Bare, now_word, if_word, then_word, elseif_word, else_word, endif_word, or_word, exhaust_word, stoppable_word, select_word, end_word, keyword_words, IsQuery, Follow, OneAt, TokenAt, Where, WordsAt, KeywordAt, Place, of_nested, of_query, of_list, behind_bar, printed, has_choices, TakesQuery, SpellsNumber, SpellsElement, SpellsWord, SpellsChoice, IsPrinted, HasElement, HasArm, IsOneChange, ChangeSignAt, PartsAt, ValueAt, ElementsAt, StmtAt, StmtsAt, BodyAt, BranchesAt, ArmsAt, ChangesAt, Sign, plain_rule, negated, access_rule, Shape, topic_line, clause, is_declaration, head_place, SignAt, ShapeAt, IsEnd}
+use Rattle.dg_reader.specs.Grammar.{Bare, now_word, if_word, then_word, elseif_word, else_word, endif_word, or_word, exhaust_word, stoppable_word, select_word, end_word, keyword_words, IsQuery, Follow, OneAt, TokenAt, Where, WordsAt, KeywordAt, Place, of_nested, of_query, of_list, behind_bar, printed, has_choices, TakesQuery, SpellsNumber, SpellsElement, SpellsWord, SpellsChoice, IsPrinted, HasElement, HasArm, IsOneChange, ChangeSignAt, PartsAt, ValueAt, ElementsAt, StmtAt, StmtsAt, BodyAt, BranchesAt, ArmsAt, ChangesAt, is_declaration, head_place, SignAt, ShapeAt, IsEnd}
+use Rattle.dg_open.specs.Shapes.{Sign, plain_rule, negated, access_rule, Shape, topic_line, clause}
 use Rattle.dg_reader.specs.Read.{toks, declared, said_of, IsItemAt, ReadTo}
 use Rattle.dg_base.specs.Readable.{IsReadable}
 use Rattle.dg_reader.specs.TokenView.{kind_view}

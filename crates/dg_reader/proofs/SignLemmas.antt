@@ -8,10 +8,10 @@ use Rattle.dg_base.specs.TreeView.{part_view, head_view, body_view}
 use Rattle.dg_base.specs.declared.tree.Body.{Body}
 use Rattle.dg_base.specs.declared.tree.Head.{Head}
 use Rattle.dg_base.specs.declared.tree.Part.{Part}
-use Rattle.dg_reader.specs.inside.Frames.{sign_view}
+use Rattle.dg_open.specs.inside.Views.{sign_view}
 use Rattle.dg_reader.specs.Heads.{is_unsigned, is_empty_body, declared_query, declares_query, keeps_declaration_rules}
-use Rattle.dg_reader.specs.declared.frames.Sign.{Sign}
-use Rattle.dg_reader.specs.declared.frames.Sign.TheVariants as sign
+use Rattle.dg_open.specs.declared.frames.Sign.{Sign}
+use Rattle.dg_open.specs.declared.frames.Sign.TheVariants as sign
 use Rattle.dg_reader.specs.contracts.frames.Sign.{the_type}
 use Rattle.dg_reader.proofs.Views.{head_seen}
 

@@ -4,7 +4,8 @@ use Rattle.std.specs.Prelude.{if◌then◌else◌}
 use Rattle.dg_base.specs.Tree.{Part, part_word, part_value, Value, num, dict_word, object_name, current_topic, word_choice, Stmt, text, print, parts_of, stmts_of}
 use Rattle.dg_reader.specs.Tokens.{Tok, word, dict, object, open_round, open_square, star, are_digits, digits_number, word_parts, are_several}
 use Rattle.dg_reader.specs.Grammar.{Follow, OneAt, TokenAt, Place, of_head, of_nested, of_query, of_list, behind_bar, printed, has_choices, SpellsNumber, SpellsElement, SpellsWord, SpellsChoice, IsPrinted, ChangeSignAt, PartAt, PartsAt, ValueAt, StmtAt, StmtsAt, head_place, SignAt}
-use Rattle.dg_reader.specs.inside.Machine.{Owner, of_item, of_closure, Frame, start, start_of, whole_topic, in_head, in_nested, in_query, in_change, in_list, in_tail, in_list_end, behind_star, behind_tilde, behind_now, in_changes, behind_clear, in_body, Stack, wrapped, put_stmt, put_part, put_element, put_value, put_printed, put_number, word_part, element_of, word_element, word_value, put_word, put_star, put_object}
+use Rattle.dg_open.specs.inside.Standing.{Owner, of_item, of_closure, Frame, start, start_of, whole_topic, in_head, in_nested, in_query, in_change, in_list, in_tail, in_list_end, behind_star, behind_tilde, behind_now, in_changes, behind_clear, in_body, Stack}
+use Rattle.dg_reader.specs.inside.Machine.{wrapped, put_stmt, put_part, put_element, put_value, put_printed, put_number, word_part, element_of, word_element, word_value, put_word, put_star, put_object}
 use Rattle.dg_reader.proofs.More.{Leads}
 use Rattle.dg_reader.proofs.Spelled.{OwnerAt, EarlierAt, AskingAt, FrameAt, StackAt, stack_more, parts-push, elements-push, stmts-push, wrapped-spelled, word_in_head, value_in_head}
 

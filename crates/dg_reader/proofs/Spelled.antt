@@ -4,7 +4,8 @@ use Rattle.std.specs.Prelude.{codes}
 use Rattle.dg_base.specs.Tree.{Part, part_word, part_value, Parts, Value, Stmt, Stmts, Body, parts_of, values_of, stmts_of, branches_of, arms_of, changes_of}
 use Rattle.dg_reader.specs.Tokens.{object, open_round, open_square, open_brace, bar, star, tilde}
 use Rattle.dg_reader.specs.Grammar.{Bare, now_word, if_word, then_word, elseif_word, else_word, or_word, exhaust_word, stoppable_word, select_word, Follow, TokenAt, Where, KeywordAt, Parenthesis, WordAndValue, Place, of_nested, of_query, of_list, behind_bar, HasElement, HasArm, ChangeSignAt, PartAt, PartsAt, ValueAt, ElementsAt, StmtAt, StmtsAt, BodyAt, BranchesAt, ArmsAt, ChangesAt, head_place, SignAt}
-use Rattle.dg_reader.specs.inside.Machine.{Asking, for_one, for_all, for_none, Owner, of_item, of_group, of_not_group, of_closure, of_condition, of_then, of_else, of_select, of_collect, of_accumulate, Wrapper, exhausting, stopping, Frame, start, start_of, whole_topic, in_head, in_nested, in_query, in_change, in_list, in_tail, in_list_end, behind_star, behind_tilde, behind_now, in_changes, behind_clear, in_body, Stack, wrap, wrapped, body_of}
+use Rattle.dg_open.specs.inside.Standing.{Asking, for_one, for_all, for_none, Owner, of_item, of_group, of_not_group, of_closure, of_condition, of_then, of_else, of_select, of_collect, of_accumulate, Wrapper, exhausting, stopping, Frame, start, start_of, whole_topic, in_head, in_nested, in_query, in_change, in_list, in_tail, in_list_end, behind_star, behind_tilde, behind_now, in_changes, behind_clear, in_body, Stack, body_of}
+use Rattle.dg_reader.specs.inside.Machine.{wrap, wrapped}
 use Rattle.dg_reader.proofs.More.{HandsOn, token_more, where_more, keyword_more, change_sign_more, sign_more, word_and_value_more, parts_more, value_more, elements_more, stmts_more, body_more, arms_more, changes_more, parenthesis_more}
 
 -- the arms behind these begin with this keyword

@@ -5,9 +5,10 @@ use Rattle.std.specs.Str.{bytes_eq}
 use Rattle.std.proofs.lemmas.Slice.Eq.{bytes_eq-Decides}
 use Rattle.dg_base.specs.Tree.{Part, part_word, part_value, Parts, no_parts, part, Value, anonymous, variable, plain_list, tailed_list, closure, nested, Stmt, group, not_group, now, choice, choice_else, collect, accumulate, select, Stmts, Body, no_changes, change, parts_of, values_of, stmts_of, arms_of, changes_of}
 use Rattle.dg_reader.specs.Tokens.{Tok, word, dict, object, var, anon, at, hash, open_round, close_round, open_square, close_square, open_brace, close_brace, bar, star, tilde}
-use Rattle.dg_reader.specs.Grammar.{Bare, now_word, if_word, then_word, elseif_word, else_word, endif_word, or_word, exhaust_word, stoppable_word, select_word, end_word, Keyword, bare, collect_word, accumulate_word, into_word, keyword_words, keyword_of, keyword_with, is_query, IsQuery, Follow, TokenAt, WordsAt, KeywordAt, WordAndValue, Place, of_nested, of_query, behind_bar, has_choices, IsPrinted, ChangeSignAt, PartsAt, ValueAt, ElementsAt, StmtAt, StmtsAt, BodyAt, ArmsAt, Sign, plain_rule, negated, access_rule, head_place}
-use Rattle.dg_reader.specs.Grammar.{are_words, keyword_among, bare_keywords}
-use Rattle.dg_reader.specs.inside.Machine.{Asking, for_one, for_all, for_none, Owner, of_item, of_group, of_not_group, of_closure, of_condition, of_then, of_else, of_select, of_collect, of_accumulate, Wrapper, exhausting, stopping, start, start_of, in_head, in_nested, in_query, in_change, in_list, in_tail, in_list_end, behind_star, behind_tilde, behind_now, in_changes, behind_clear, in_body, Stack, asked, body_of, new_body, put_stmt, put_value, put_printed, put_change, choices_in, open_list, open_body, open_paren, end_of, end_unless_waiting, keyword_step, body_keyword, head_closes, nested_closes, query_closes, change_closes, close_paren, close_list, body_closes, close_body, put_bar, put_tilde, put_at, step}
+use Rattle.dg_reader.specs.Grammar.{Bare, now_word, if_word, then_word, elseif_word, else_word, endif_word, or_word, exhaust_word, stoppable_word, select_word, end_word, Keyword, bare, collect_word, accumulate_word, into_word, keyword_words, keyword_of, keyword_with, is_query, IsQuery, Follow, TokenAt, WordsAt, KeywordAt, WordAndValue, Place, of_nested, of_query, behind_bar, has_choices, IsPrinted, ChangeSignAt, PartsAt, ValueAt, ElementsAt, StmtAt, StmtsAt, BodyAt, ArmsAt, head_place, are_words, keyword_among, bare_keywords}
+use Rattle.dg_open.specs.Shapes.{Sign, plain_rule, negated, access_rule}
+use Rattle.dg_open.specs.inside.Standing.{Asking, for_one, for_all, for_none, Owner, of_item, of_group, of_not_group, of_closure, of_condition, of_then, of_else, of_select, of_collect, of_accumulate, Wrapper, exhausting, stopping, start, start_of, in_head, in_nested, in_query, in_change, in_list, in_tail, in_list_end, behind_star, behind_tilde, behind_now, in_changes, behind_clear, in_body, Stack, body_of}
+use Rattle.dg_reader.specs.inside.Machine.{asked, new_body, put_stmt, put_value, put_printed, put_change, choices_in, open_list, open_body, open_paren, end_of, end_unless_waiting, keyword_step, body_keyword, head_closes, nested_closes, query_closes, change_closes, close_paren, close_list, body_closes, close_body, put_bar, put_tilde, put_at, step}
 use Rattle.dg_reader.proofs.More.{Leads, token_more, keyword_more, change_sign_more, sign_more, changes_more}
 use Rattle.dg_reader.proofs.Spelled.{next_arm, OwnerAt, EarlierAt, AskingAt, changes-push, earlier-push, arms-push, next_arm-push, HasArms-push, HasArm-of, body-spelled, waiting-push}
 use Rattle.dg_reader.proofs.Sound.{word_reads, dict_reads, object_reads, star_reads, FitsStack, IsHead, place_in, Reads, Each, each_map, same, instead, closed, opened, replaced, itself, put_stmt_reads, put_value_reads, put_printed_reads}

@@ -10,7 +10,8 @@ use Rattle.dg_reader.specs.Grammar.{IsUnexpected, IsUnexpectedAt}
 use Rattle.dg_reader.specs.inside.Items.{StopsAt, OnUnexpected}
 use Rattle.dg_reader.specs.declared.item.ShapeFault.{ShapeFault}
 use Rattle.dg_reader.specs.declared.item.ShapeFault.TheVariants as fault
-use Rattle.dg_reader.specs.inside.Machine.{Stack, run, start}
+use Rattle.dg_open.specs.inside.Standing.{Stack, start}
+use Rattle.dg_reader.specs.inside.Machine.{run}
 use Rattle.dg_reader.proofs.Closing.{run-append}
 use Rattle.dg_reader.proofs.Laws.{unexpected_there, goes_on}
 

@@ -4,7 +4,8 @@ use Rattle.std.specs.Prelude.{codes}
 use Rattle.dg_base.specs.Tree.{Part, part_word, part_value, Parts, no_parts, part, Value, num, dict_word, object_name, current_topic, anonymous, variable, plain_list, tailed_list, closure, nested, word_choice, Values, no_values, value, Stmt, text, print, ask, ask_all, ask_not, group, not_group, now, choice, choice_else, exhaust, stoppable, collect, accumulate, select, first_answer, Stmts, no_stmts, stmt, Body, no_branches, branch, Arms, no_arms, arm, Changes, no_changes, change, stmts_of, arms_of}
 use Rattle.dg_reader.specs.Tokens.{Tok, word, object, var, anon, open_round, close_round, open_square, close_square, open_brace, close_brace, bar, star, tilde}
 use Rattle.dg_reader.specs.Grammar.{now_word, if_word, then_word, elseif_word, else_word, endif_word, or_word, exhaust_word, stoppable_word, select_word, end_word, Keyword, collect_word, accumulate_word, into_word, keyword_with, is_query, IsQuery, Follow, TokenAt, Where, KeywordAt, Parenthesis, Place, of_query, has_choices, TakesQuery, SpellsNumber, SpellsWord, SpellsChoice, HasArm, IsOneChange, ChangeSignAt, PartAt, PartsAt, ValueAt, ElementsAt, StmtAt, StmtsAt, BodyAt, BranchesAt, ArmsAt, ChangesAt}
-use Rattle.dg_reader.specs.inside.Machine.{Asking, for_one, for_all, for_none, Owner, of_group, of_not_group, of_closure, of_condition, of_then, of_else, of_select, of_collect, of_accumulate, Wrapper, exhausting, stopping, Frame, in_head, in_nested, in_query, in_change, in_list, in_tail, behind_now, in_changes, behind_clear, in_body, Stack, asked, wrap, wrapped, body_of, new_body, put_stmt, put_value, put_printed, put_change, body_keyword, query_closes, step, Outcome}
+use Rattle.dg_open.specs.inside.Standing.{Asking, for_one, for_all, for_none, Owner, of_group, of_not_group, of_closure, of_condition, of_then, of_else, of_select, of_collect, of_accumulate, Wrapper, exhausting, stopping, Frame, in_head, in_nested, in_query, in_change, in_list, in_tail, behind_now, in_changes, behind_clear, in_body, Stack, body_of}
+use Rattle.dg_reader.specs.inside.Machine.{asked, wrap, wrapped, new_body, put_stmt, put_value, put_printed, put_change, body_keyword, query_closes, step, Outcome}
 use Rattle.dg_reader.proofs.Sound.{TakesChange, IsBody, place_in}
 use Rattle.dg_reader.proofs.Complete.{parts_onto, parts_of-onto, elements_onto, values_of-onto, stmts_onto, stmts_of-onto, branches_after, branches_after-push, branches_after-last, arms_after, arms_after-push, arms_after-none, changes_onto, changes_of-onto, out, outs, by, one_read, token_read, Round, nested_round, query_round, change_round, round_frame, round_place, word_step, keyword_read, Shows, number_step, dict_step, choice_step, object_step, star_step, list_opens, closure_opens, closure_put, bar_step, no_query, query_end, nested_end, change_end, if_not}
 

@@ -5,6 +5,7 @@ use Rattle.std.specs.Str.{bytes_eq}
 use Rattle.dg_base.specs.Tree.{Part, part_word, part_value, Parts, no_parts, part, Value, num, dict_word, object_name, current_topic, anonymous, variable, plain_list, tailed_list, closure, nested, word_choice, Values, no_values, value, Stmt, text, print, ask, ask_all, ask_not, group, not_group, now, choice, choice_else, exhaust, stoppable, collect, accumulate, select, first_answer, Stmts, no_stmts, stmt, Body, no_branches, branch, Arms, no_arms, arm, Changes, no_changes, change}
 use Rattle.dg_base.specs.declared.program.Mode.{Mode}
 use Rattle.dg_base.specs.declared.program.Mode.TheVariants.{Stopping, Cycling, PurelyAtRandom, AtRandom, ThenAtRandom, ThenPurelyAtRandom}
+use Rattle.dg_open.specs.Shapes.{Sign, plain_rule, negated, access_rule, Shape, topic_line, clause}
 use Rattle.dg_reader.specs.Tokens.{Tok, word, dict, object, var, anon, at, open_round, close_round, open_square, close_square, open_brace, close_brace, bar, star, tilde, are_digits, digits_number, word_parts, is_choice}
 
 -- ---- keywords
@@ -284,17 +285,6 @@ abbrev mutual
   ChangesAt (change ps set cs) K = ChangeSignAt set (Parenthesis ps (λ F. PartsAt of_query ps F) (ChangesAt cs K))
 
 -- ---- items
-
--- What the sign before a head makes of it.
-pub data Sign : Type 0 where
-  plain_rule : Sign
-  negated : Sign
-  access_rule : Sign
-
--- What an item is, before its head is looked at.
-pub data Shape : Type 0 where
-  topic_line : List ℕ → Shape
-  clause : Sign → Parts → Body → Shape
 
 -- Whether a head declares a global variable: whether its first words are these.
 abbrev pub is_declaration : Parts → Bool

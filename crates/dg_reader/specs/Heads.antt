@@ -8,7 +8,8 @@ use Rattle.dg_base.specs.Names.{keywords, prelude_names, name_among, builtin_nam
 use Rattle.dg_base.specs.Tree.{Part, part_word, part_value, Parts, no_parts, part, Value, num, dict_word, object_name, current_topic, anonymous, variable, plain_list, nested, Values, no_values, value, Stmt, ask, ask_all, ask_not, Stmts, no_stmts, stmt, Body, no_branches, branch, Said, rule, deny, access}
 use Rattle.dg_base.specs.declared.refusal.Kind.{Kind}
 use Rattle.dg_base.specs.declared.refusal.Kind.TheVariants.{NotInProfile, BadHead}
-use Rattle.dg_reader.specs.Grammar.{Sign, plain_rule, negated, access_rule, is_declaration}
+use Rattle.dg_open.specs.Shapes.{Sign, plain_rule, negated, access_rule}
+use Rattle.dg_reader.specs.Grammar.{is_declaration}
 use Rattle.dg_reader.specs.Profile.{has_refused, has_topic}
 
 -- ---- names

@@ -8,7 +8,8 @@ use Rattle.dg_base.specs.declared.refusal.Kind.TheVariants.{Unclosed, Unexpected
 use Rattle.dg_lex.specs.Tokens.{Seen}
 use Rattle.dg_reader.specs.Tokens.{Tok}
 use Rattle.dg_reader.specs.TokenView.{kind_view}
-use Rattle.dg_reader.specs.Grammar.{Sign, plain_rule, negated, access_rule, Shape, topic_line, clause, is_declaration, InItem, IsUnclosed, IsUnexpectedAt}
+use Rattle.dg_open.specs.Shapes.{Sign, plain_rule, negated, access_rule, Shape, topic_line, clause}
+use Rattle.dg_reader.specs.Grammar.{is_declaration, InItem, IsUnclosed, IsUnexpectedAt}
 use Rattle.dg_reader.specs.Heads.{declared_query, fault_of}
 
 -- ---- the tokens of an item

@@ -4,19 +4,20 @@ ghost use Rattle.dg_base.specs.Tree as tree;
 ghost use Rattle.dg_base.specs.TreeView.{part_view, stmt_view, branch_view};
 ghost use Rattle.dg_reader.specs.Grammar.{keyword_of};
 ghost use Rattle.dg_reader.specs.inside.Machine as machine;
-ghost use Rattle.dg_reader.specs.inside.Frames.{stack_view, owner_view, sign_view, asking_view, keyword_view, Moves};
+ghost use Rattle.dg_open.specs.inside.Standing as standing;
+ghost use Rattle.dg_open.specs.inside.Views.{stack_view, owner_view, sign_view, asking_view};
+ghost use Rattle.dg_reader.specs.inside.Frames.{keyword_view, Moves};
 
 use crate::ends::put_keyword;
-use crate::forms::{
-    ask, body, closure, group, head, nested, not_group, now, plain_list, tailed_list,
-};
-use crate::frames::{Asking, Frame, Owner, Sign, Stop};
+use crate::forms::{ask, closure, group, head, nested, not_group, now, plain_list, tailed_list};
+use crate::halts::Stop;
 use crate::keyword::{Closed, Keyword, close_parenthesis};
 use crate::open::new_body;
 use crate::put::{
     put_change, put_frame, put_printed, put_stmt, put_value, refuse, refuse_body, refuse_keyword,
 };
 use dg_base::{Items, Part, Stmt};
+use dg_open::{Asking, Frame, Owner, Sign, body};
 use std::alloc::Global;
 
 fn close_head(
@@ -144,7 +145,7 @@ fn close_owner(
     branches: Items<Items<Stmt>>,
     stmts: Items<Stmt>,
 ) -> Result<(), Stop>
-    ensures { Moves (machine.body_closes (owner_view owner) (machine.body_of (map branch_view branches) (map stmt_view stmts))
+    ensures { Moves (machine.body_closes (owner_view owner) (standing.body_of (map branch_view branches) (map stmt_view stmts))
         (stack_view stack.old.items)) result (stack_view stack.new.items) }
 {
     match owner {

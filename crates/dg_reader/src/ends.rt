@@ -1,21 +1,21 @@
 // Keywords in a body.
 ghost use Rattle.std.specs.Prelude.{◌≡◌, ◌∷◌, map, Err};
-ghost use Rattle.dg_reader.specs.declared.frames.Stop.TheVariants.{Unexpected};
-ghost use Rattle.dg_base.specs.Tree as tree;
+ghost use Rattle.dg_reader.specs.declared.halts.Stop.TheVariants.{Unexpected};
 ghost use Rattle.dg_base.specs.TreeView.{value_view, stmt_view, branch_view};
 ghost use Rattle.dg_reader.specs.Grammar as grammar;
 ghost use Rattle.dg_reader.specs.inside.Machine as machine;
-ghost use Rattle.dg_reader.specs.inside.Frames.{stack_view, frame_view, owner_view, wrapper_view, bare_view, keyword_view, opening_view, Moves};
+ghost use Rattle.dg_open.specs.inside.Standing as standing;
+ghost use Rattle.dg_open.specs.inside.Views.{stack_view, frame_view, owner_view, wrapper_view};
+ghost use Rattle.dg_reader.specs.inside.Frames.{bare_view, keyword_view, opening_view, Moves};
 
-use crate::forms::{
-    accumulated, all_branches, body, choice, choice_else, collected, one_more_arm, select,
-};
-use crate::frames::{Frame, Owner, Stop, Wrapper};
+use crate::forms::{accumulated, choice, choice_else, collected, one_more_arm, select};
+use crate::halts::Stop;
 use crate::keyword::{Bare, Keyword};
 use crate::open::new_body;
 use crate::put::{put_frame, put_stmt, refuse, refuse_body, refuse_keyword};
-use crate::release::{let_go_body, let_go_frame, let_go_keyword};
+use crate::release::let_go_keyword;
 use dg_base::{Items, Mode, Stmt, Value};
+use dg_open::{Frame, Owner, Wrapper, all_branches, body, let_go_body, let_go_frame};
 use std::alloc::Global;
 
 /// What a keyword does in a body: it begins a construct, waits for a statement, or ends something.
@@ -69,7 +69,7 @@ fn put_waiting(
     wrapper: Wrapper,
 ) -> Result<(), Stop>
     ensures { Moves (machine.put_opening (machine.waits (wrapper_view wrapper))
-        (machine.in_body (owner_view owner) (map branch_view branches) (map stmt_view stmts) (map wrapper_view wrappers) ∷
+        (standing.in_body (owner_view owner) (map branch_view branches) (map stmt_view stmts) (map wrapper_view wrappers) ∷
         stack_view stack.old.items)) result (stack_view stack.new.items) }
 {
     match wrappers.push(wrapper) {

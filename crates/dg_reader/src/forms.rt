@@ -3,10 +3,11 @@ ghost use Rattle.std.specs.Prelude.{◌≡◌, ◌∷◌, ◌++◌, [], map, IfO
 ghost use Rattle.dg_base.specs.Tree as tree;
 ghost use Rattle.dg_base.specs.TreeView.{part_view, value_view, stmt_view, arm_view, body_view, head_view, change_view, branch_view};
 ghost use Rattle.dg_reader.specs.inside.Machine as machine;
-ghost use Rattle.dg_reader.specs.inside.Frames.{wrapper_view, asking_view};
+ghost use Rattle.dg_open.specs.inside.Standing as standing;
+ghost use Rattle.dg_open.specs.inside.Views.{wrapper_view, asking_view};
 
-use crate::frames::{Asking, Wrapper};
 use dg_base::{Arm, Body, Boxed, Head, Items, Mode, Name, NowChange, Part, Stmt, Value};
+use dg_open::{Asking, Wrapper, body};
 use std::alloc::{AllocError, Global};
 
 pub fn head(parts: Items<Part>) -> Head
@@ -79,30 +80,6 @@ pub fn nested(parts: Items<Part>) -> Value
     ensures { value_view result ≡ tree.nested (tree.parts_of (map part_view parts)) }
 {
     Value::Query(Head { parts })
-}
-
-fn branches(branches: Items<Items<Stmt>>) -> Body
-    ensures { body_view result ≡ tree.branches_of (map branch_view branches) }
-{
-    Body { branches }
-}
-
-/// The branches behind these with this last one.
-pub fn all_branches(
-    mut earlier: Items<Items<Stmt>>,
-    last: Items<Stmt>,
-) -> Result<Items<Items<Stmt>>, AllocError>
-    ensures { IfOk result (λ bs. tree.branches_of (map branch_view bs) ≡ machine.body_of (map branch_view earlier) (map stmt_view last)) }
-{
-    earlier.push(last)?;
-    Ok(earlier)
-}
-
-/// The body of these branches and a last one.
-pub fn body(earlier: Items<Items<Stmt>>, last: Items<Stmt>) -> Result<Body, AllocError>
-    ensures { IfOk result (λ b. body_view b ≡ machine.body_of (map branch_view earlier) (map stmt_view last)) }
-{
-    Ok(branches(all_branches(earlier, last)?))
 }
 
 pub fn text(word: Name) -> Stmt
@@ -208,7 +185,7 @@ pub fn collected(
     stmts: Items<Stmt>,
     into: Value,
 ) -> Result<Stmt, AllocError>
-    ensures { IfOk result (λ s. stmt_view s ≡ tree.collect (value_view value) (machine.body_of (map branch_view branches) (map stmt_view stmts))
+    ensures { IfOk result (λ s. stmt_view s ≡ tree.collect (value_view value) (standing.body_of (map branch_view branches) (map stmt_view stmts))
         (value_view into)) }
 {
     match body(branches, stmts) {
@@ -228,7 +205,7 @@ pub fn accumulated(
     stmts: Items<Stmt>,
     into: Value,
 ) -> Result<Stmt, AllocError>
-    ensures { IfOk result (λ s. stmt_view s ≡ tree.accumulate (value_view value) (machine.body_of (map branch_view branches) (map stmt_view stmts))
+    ensures { IfOk result (λ s. stmt_view s ≡ tree.accumulate (value_view value) (standing.body_of (map branch_view branches) (map stmt_view stmts))
         (value_view into)) }
 {
     match body(branches, stmts) {

@@ -4,21 +4,19 @@ ghost use Rattle.std.specs.Option.{option_map};
 ghost use Rattle.dg_base.specs.Heads.{name_of as head_name};
 ghost use Rattle.dg_base.specs.Tree.{parts_of, stmts_of, values_of};
 ghost use Rattle.dg_base.specs.TreeView.{part_view, value_view, stmt_view, head_view, body_view, said_view};
-ghost use Rattle.dg_reader.specs.inside.Frames.{sign_view};
+ghost use Rattle.dg_open.specs.inside.Views.{sign_view, shape_view};
 ghost use Rattle.dg_reader.specs.Heads as spec;
-ghost use Rattle.dg_reader.specs.inside.Items.{shape_view};
 ghost use Rattle.dg_reader.specs.Read.{declared, declared_or, signed_of};
 ghost use Rattle.dg_reader.specs.inside.Sizes.{is_atom, elements_of, all_constant, work, value_size, values_size};
 
 use crate::distinct::are_distinct_variables;
-use crate::frames::Sign;
-use crate::item::Shape;
 use crate::open::declares;
 use crate::profile::{has_refused, has_topic};
 use dg_base::{
     Body, Head, ItemBody, Items, Kind, Part, Stmt, Value, builtin_of, is_keyword, is_named,
     is_prelude_name, mentions_of,
 };
+use dg_open::{Shape, Sign};
 use std::alloc::{AllocError, Global};
 
 const PARENTS: &[u8] = b"($ has parent $)";

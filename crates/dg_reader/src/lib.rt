@@ -17,7 +17,7 @@ mod close;
 mod distinct;
 mod ends;
 mod forms;
-mod frames;
+mod halts;
 mod heads;
 mod item;
 mod keyword;

@@ -4,13 +4,15 @@ ghost use Rattle.dg_base.specs.Tree as tree;
 ghost use Rattle.dg_base.specs.TreeView.{part_view};
 ghost use Rattle.dg_reader.specs.Grammar.{is_declaration};
 ghost use Rattle.dg_reader.specs.inside.Machine as machine;
-ghost use Rattle.dg_reader.specs.inside.Frames.{stack_view, frame_view, owner_view, Moves};
+ghost use Rattle.dg_open.specs.inside.Views.{stack_view, frame_view, owner_view};
+ghost use Rattle.dg_reader.specs.inside.Frames.{Moves};
 
 use crate::forms::object_name;
-use crate::frames::{Asking, Frame, Owner, Sign, Stop};
+use crate::halts::Stop;
 use crate::keyword::is_named;
 use crate::put::{put_both, put_frame, put_printed, put_value, refuse};
 use dg_base::{Items, Name, Part, Value};
+use dg_open::{Asking, Frame, Owner, Sign};
 use std::alloc::Global;
 
 /// Whether a head declares a global variable.

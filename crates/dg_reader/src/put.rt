@@ -3,18 +3,21 @@ ghost use Rattle.std.specs.Prelude.{◌≡◌, ◌∷◌, map, Some, Err};
 ghost use Rattle.dg_base.specs.TreeView.{part_view, value_view, stmt_view, head_view, branch_view};
 ghost use Rattle.dg_reader.specs.Tokens.{digits_number};
 ghost use Rattle.dg_reader.specs.inside.Machine as machine;
-ghost use Rattle.dg_reader.specs.declared.frames.Stop.TheVariants.{Unexpected};
-ghost use Rattle.dg_reader.specs.inside.Frames.{stack_view, frame_view, owner_view, wrapper_view, Moves};
+ghost use Rattle.dg_open.specs.inside.Standing as standing;
+ghost use Rattle.dg_reader.specs.declared.halts.Stop.TheVariants.{Unexpected};
+ghost use Rattle.dg_open.specs.inside.Views.{stack_view, frame_view, owner_view, wrapper_view};
+ghost use Rattle.dg_reader.specs.inside.Frames.{Moves};
 
 use crate::forms::{
     dict_word, now, num, one_more_change, one_more_part, one_more_stmt, print, text, value_part,
     word_part,
 };
-use crate::frames::{Frame, Owner, Stop, Wrapper};
+use crate::halts::Stop;
 use crate::keyword::Keyword;
-use crate::release::{let_go_body, let_go_frame, let_go_keyword, let_go_stmt};
+use crate::release::{let_go_keyword, let_go_stmt};
 use crate::words::{element, is_number, number};
 use dg_base::{Head, Items, Name, NowChange, Part, Stmt, Value};
+use dg_open::{Frame, Owner, Wrapper, let_go_body, let_go_frame};
 use std::alloc::Global;
 
 /// One more construct stands open.
@@ -77,7 +80,7 @@ fn put_in_body(
     stmt: Stmt,
 ) -> Result<(), Stop>
     ensures { Moves (machine.put_stmt (stmt_view stmt)
-        (machine.in_body (owner_view owner) (map branch_view branches) (map stmt_view stmts) (map wrapper_view wrappers) ∷
+        (standing.in_body (owner_view owner) (map branch_view branches) (map stmt_view stmts) (map wrapper_view wrappers) ∷
         stack_view stack.old.items)) result (stack_view stack.new.items) }
 {
     match one_more_stmt(alloc, stmts, wrappers, stmt) {
@@ -152,7 +155,7 @@ fn put_listed(
     mut values: Items<Value>,
     value: Value,
 ) -> Result<(), Stop>
-    ensures { Moves (machine.put_element (value_view value) (machine.in_list choices (map value_view values) ∷ stack_view stack.old.items)) result
+    ensures { Moves (machine.put_element (value_view value) (standing.in_list choices (map value_view values) ∷ stack_view stack.old.items)) result
         (stack_view stack.new.items) }
 {
     values.push(value)?;

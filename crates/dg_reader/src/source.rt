@@ -2,15 +2,16 @@
 ghost use Rattle.std.specs.Prelude.{◌≡◌, ◌<◌, ◌≤◌, [], true, None, length, take, drop, map, Ok, Err, IfOk, IfErr};
 ghost use Rattle.dg_base.specs.TreeView.{said_view, item_view, tree_view};
 ghost use Rattle.dg_lex.specs.Tokens.{seen};
-ghost use Rattle.dg_reader.specs.inside.Items.{shape_view};
+ghost use Rattle.dg_open.specs.inside.Views.{shape_view};
 ghost use Rattle.dg_base.specs.Faults.{IsFault};
 ghost use Rattle.dg_reader.specs.Read as spec;
 
 use crate::heads::{declared_or, fault_of, signed_of};
-use crate::item::{Shape, ShapeFault, find};
+use crate::item::{ShapeFault, find};
 use crate::release::let_go_item;
 use dg_base::{Item, ItemBody, Items, Kind, ReadFault, Refusal, Tree};
 use dg_lex::Token;
+use dg_open::Shape;
 use std::alloc::Global;
 
 // How many tokens go on an item.

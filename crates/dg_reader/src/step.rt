@@ -3,11 +3,12 @@ ghost use Rattle.std.specs.Prelude.{◌≡◌, drop, IfOk};
 ghost use Rattle.dg_lex.specs.Spelled.{without_escapes};
 ghost use Rattle.dg_reader.specs.TokenView.{token_view};
 ghost use Rattle.dg_reader.specs.inside.Machine as machine;
-ghost use Rattle.dg_reader.specs.inside.Frames.{stack_view, Moves};
+ghost use Rattle.dg_open.specs.inside.Views.{stack_view};
+ghost use Rattle.dg_reader.specs.inside.Frames.{Moves};
 
 use crate::close::{close_body, close_list, close_paren};
 use crate::forms::{dict_word, variable};
-use crate::frames::{Frame, Stop};
+use crate::halts::Stop;
 use crate::open::{
     open_body, open_list, open_paren, put_at, put_bar, put_object, put_star, put_tilde,
 };
@@ -15,6 +16,7 @@ use crate::put::{put_printed, put_word};
 use crate::words::name_of;
 use dg_base::{Name, Value};
 use dg_lex::{Token, TokenKind};
+use dg_open::Frame;
 use std::alloc::{AllocError, Global};
 
 // The name behind a sign.

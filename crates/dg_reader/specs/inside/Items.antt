@@ -1,20 +1,13 @@
 -- What the reader answers for one item, in the words of reading token by token. The proofs alone rest on it.
 use Rattle.std.specs.Prelude.{◌≡◌, ◌+◌, ◌<◌, ℕ, List, [], ◌∷◌, take, length, map, Some, None, Result, Ok, Err}
-use Rattle.dg_base.specs.TreeView.{head_view, body_view}
-use Rattle.dg_reader.specs.Grammar.{Shape, topic_line, clause}
+use Rattle.dg_open.specs.Shapes.{Shape}
 use Rattle.dg_reader.specs.Tokens.{Tok}
-use Rattle.dg_reader.specs.inside.Machine.{run, start, finished, Stack}
-use Rattle.dg_reader.specs.inside.Frames.{sign_view}
+use Rattle.dg_reader.specs.inside.Machine.{run}
+use Rattle.dg_open.specs.inside.Standing.{start, finished, Stack}
 use Rattle.dg_reader.specs.TokenView.{token_view}
 use Rattle.dg_lex.specs.declared.token.Token.{Token}
-use Rattle.dg_reader.specs.declared.item.Shape as code
 use Rattle.dg_reader.specs.declared.item.ShapeFault.{ShapeFault}
 use Rattle.dg_reader.specs.declared.item.ShapeFault.TheVariants as fault
-use Rattle.dg_reader.specs.declared.item.Shape.TheVariants as shape
-
-abbrev pub shape_view : code.Shape → Shape
-shape_view (shape.Topic n) = topic_line n
-shape_view (shape.Clause s h b) = clause (sign_view s) (head_view h) (body_view b)
 
 -- The token of this number is the first that isn't taken.
 pub record StopsAt (ts : List Token) (index : ℕ) : Type 0 where

@@ -1,60 +1,10 @@
 -- Reading token by token, with no token looked at ahead: what stands open, the innermost first. The proofs alone rest on it.
 use Rattle.std.specs.Prelude.{◌&&◌, ℕ, List, [], ◌∷◌, ◌++◌, Bool, true, false, not, Option, Some, None, option_and_then, if◌then◌else◌}
-use Rattle.dg_base.specs.Tree.{Part, part_word, part_value, Parts, no_parts, part, Value, num, dict_word, object_name, current_topic, anonymous, variable, plain_list, tailed_list, closure, nested, word_choice, Stmt, text, print, ask, ask_all, ask_not, group, not_group, now, choice, choice_else, exhaust, stoppable, collect, accumulate, select, Stmts, Body, parts_of, values_of, stmts_of, branches_of, arms_of, changes_of}
+use Rattle.dg_base.specs.Tree.{Part, part_word, part_value, Parts, no_parts, part, Value, num, dict_word, object_name, current_topic, anonymous, variable, plain_list, tailed_list, closure, nested, word_choice, Stmt, text, print, ask, ask_all, ask_not, group, not_group, now, choice, choice_else, exhaust, stoppable, collect, accumulate, select, Stmts, Body, parts_of, values_of, stmts_of, arms_of, changes_of}
 use Rattle.dg_reader.specs.Tokens.{Tok, word, dict, object, var, anon, at, hash, open_round, close_round, open_square, close_square, open_brace, close_brace, bar, star, tilde, are_digits, digits_number, word_parts, are_several}
-use Rattle.dg_reader.specs.Grammar.{now_word, if_word, then_word, elseif_word, else_word, endif_word, or_word, exhaust_word, stoppable_word, select_word, end_word, Keyword, bare, collect_word, accumulate_word, into_word, keyword_of, is_declaration, Sign, plain_rule, negated, access_rule, Shape, topic_line, clause}
-
--- What asks: a query for one answer, for all answers, or for none.
-pub data Asking : Type 0 where
-  for_one : Asking
-  for_all : Asking
-  for_none : Asking
-
--- What a body is the body of.
-pub data Owner : Type 0 where
-  of_item : Sign → Parts → Owner
-  of_group : Owner
-  of_not_group : Owner
-  of_closure : Owner
-  of_condition : List (Body × Body) → Owner
-  of_then : List (Body × Body) → Body → Owner
-  of_else : List (Body × Body) → Owner
-  of_select : Owner
-  of_collect : Value → Owner
-  of_accumulate : Value → Owner
-
--- A keyword that waits for its statement.
-pub data Wrapper : Type 0 where
-  exhausting : Wrapper
-  stopping : Wrapper
-
--- One construct that stands open, with what was read of it.
-pub data Frame : Type 0 where
-  -- before an item's first token, and behind its sign
-  start : Frame
-  start_of : Sign → Frame
-  whole_topic : List ℕ → Frame
-  -- inside a parenthesis, behind these parts: of an item, of a query in a head, of a query in a body, of a change
-  in_head : Sign → List Part → Frame
-  in_nested : Bool → List Part → Frame
-  in_query : Asking → List Part → Frame
-  in_change : Bool → List Part → Frame
-  -- inside a list, behind these elements; behind its bar; behind its tail
-  in_list : Bool → List Value → Frame
-  in_tail : Bool → List Value → Frame
-  in_list_end : Bool → List Value → Value → Frame
-  -- behind a `*` or `~` of a body
-  behind_star : Frame
-  behind_tilde : Frame
-  -- behind a (now), inside its braces, and behind a `~` there
-  behind_now : Frame
-  in_changes : List (Parts × Bool) → Frame
-  behind_clear : Frame
-  -- inside a body: the earlier branches, the statements of this one, and the keywords that wait for a statement
-  in_body : Owner → List Stmts → List Stmt → List Wrapper → Frame
-
-abbrev pub Stack : Type 0
-Stack = List Frame
+use Rattle.dg_reader.specs.Grammar.{now_word, if_word, then_word, elseif_word, else_word, endif_word, or_word, exhaust_word, stoppable_word, select_word, end_word, Keyword, bare, collect_word, accumulate_word, into_word, keyword_of, is_declaration}
+use Rattle.dg_open.specs.Shapes.{Sign, plain_rule, negated, access_rule, Shape}
+use Rattle.dg_open.specs.inside.Standing.{Asking, for_one, for_all, for_none, Owner, of_item, of_group, of_not_group, of_closure, of_condition, of_then, of_else, of_select, of_collect, of_accumulate, Wrapper, exhausting, stopping, Frame, start, start_of, whole_topic, in_head, in_nested, in_query, in_change, in_list, in_tail, in_list_end, behind_star, behind_tilde, behind_now, in_changes, behind_clear, in_body, Stack, body_of, finished}
 
 -- The query of these parts.
 abbrev pub asked : Asking → Parts → Stmt
@@ -71,10 +21,6 @@ wrap stopping s = stoppable s
 abbrev pub wrapped : List Wrapper → Stmt → Stmt
 wrapped [] s = s
 wrapped (w ∷ ws) s = wrap w (wrapped ws s)
-
--- The body of these branches and a last one.
-abbrev pub body_of : List Stmts → List Stmt → Body
-body_of bs ss = branches_of (bs ++ stmts_of ss ∷ [])
 
 -- A body that begins.
 abbrev pub new_body : Owner → Frame
@@ -371,18 +317,6 @@ step tilde st = put_tilde st
 abbrev pub run : List Tok → Stack → Option Stack
 run [] st = Some st
 run (t ∷ ts) st = option_and_then (run ts) (step t st)
-
--- The item that this construct is, where it is one.
-abbrev pub finished_frame : Frame → Option Shape
-finished_frame (whole_topic n) = Some (topic_line n)
-finished_frame (in_body (of_item sign ps) bs ss []) = Some (clause sign ps (body_of bs ss))
-finished_frame f = None
-
--- The item that ends here, where one does.
-abbrev pub finished : Stack → Option Shape
-finished [] = None
-finished (f ∷ []) = finished_frame f
-finished (f ∷ g ∷ below) = None
 
 -- How a whole list of tokens ends: as an item, before one, or at a token that can't stand there.
 pub data Outcome : Type 0 where

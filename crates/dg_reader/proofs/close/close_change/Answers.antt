@@ -1,6 +1,7 @@
 use Rattle.std.proofs.Common.{Option, subst}
-use Rattle.dg_reader.specs.inside.Machine.{Stack}
-use Rattle.dg_reader.specs.inside.Frames.{stack_view, Moves}
+use Rattle.dg_open.specs.inside.Standing.{Stack}
+use Rattle.dg_open.specs.inside.Views.{stack_view}
+use Rattle.dg_reader.specs.inside.Frames.{Moves}
 use Rattle.dg_reader.proofs.Closed.{changes}
 use Rattle.dg_reader.proofs.close.close_change.Goals as goal
 

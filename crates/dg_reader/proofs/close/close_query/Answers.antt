@@ -1,6 +1,8 @@
 use Rattle.std.proofs.Common.{Option, subst, ◌∙◌, ap}
-use Rattle.dg_reader.specs.inside.Machine.{Stack, asked}
-use Rattle.dg_reader.specs.inside.Frames.{stack_view, asking_view, Moves}
+use Rattle.dg_open.specs.inside.Standing.{Stack}
+use Rattle.dg_reader.specs.inside.Machine.{asked}
+use Rattle.dg_open.specs.inside.Views.{stack_view, asking_view}
+use Rattle.dg_reader.specs.inside.Frames.{Moves}
 use Rattle.dg_reader.proofs.Closed.{asks}
 use Rattle.dg_reader.proofs.close.close_query.Goals as goal
 

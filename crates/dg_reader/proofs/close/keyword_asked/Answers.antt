@@ -1,5 +1,5 @@
 use Rattle.std.proofs.Common.{◌≡◌}
-use Rattle.dg_reader.specs.declared.frames.Asking.TheVariants.{ForOne}
+use Rattle.dg_open.specs.declared.frames.Asking.TheVariants.{ForOne}
 use Rattle.dg_reader.proofs.close.keyword_asked.Goals as goal
 
 pub returns-in-ForOne : goal.returns-in-ForOne

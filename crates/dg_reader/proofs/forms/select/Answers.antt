@@ -4,7 +4,7 @@ use Rattle.dg_base.specs.TreeView.{stmt_view, part_step, stmt_step, value_step, 
 use Rattle.dg_base.specs.declared.tree.Stmt.{fold-roll-Stmt}
 use Rattle.dg_base.specs.declared.tree.Stmt.TheVariants.{rolls-Select}
 use Rattle.dg_base.specs.declared.tree.Part.TheOpen.{Stmt-F}
-use Rattle.dg_reader.proofs.Views.{each_branch}
+use Rattle.dg_open.proofs.Branches.{each_branch}
 use Rattle.dg_reader.proofs.forms.select.Goals as goal
 
 pub returns : goal.returns

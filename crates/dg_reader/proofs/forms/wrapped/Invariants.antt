@@ -1,7 +1,7 @@
 use Rattle.std.proofs.Common.{◌≡◌, map, length}
 use Rattle.dg_base.specs.TreeView.{stmt_view}
 use Rattle.dg_reader.specs.inside.Machine as machine
-use Rattle.dg_reader.specs.inside.Frames.{wrapper_view}
+use Rattle.dg_open.specs.inside.Views.{wrapper_view}
 use Rattle.dg_reader.proofs.forms.wrapped.Given as goal
 
 abbrev pub invariant-loop-wrapper : goal.invariant-loop-wrapper

@@ -1,6 +1,6 @@
 use Rattle.std.proofs.Common.{Vec, Global}
-use Rattle.dg_reader.specs.declared.frames.Frame.{Frame}
-use Rattle.dg_reader.specs.declared.item.Shape.{Shape}
+use Rattle.dg_open.specs.declared.frames.Frame.{Frame}
+use Rattle.dg_open.specs.declared.shapes.Shape.{Shape}
 use Rattle.dg_reader.proofs.Stops.{stops_at, unexpected_map}
 use Rattle.dg_reader.proofs.item.find.Goals as goal
 

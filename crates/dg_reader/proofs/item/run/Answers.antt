@@ -1,7 +1,7 @@
 use Rattle.std.proofs.Common.{Result, Vec, Global, subst, sym, ◌∙◌}
-use Rattle.dg_reader.specs.declared.frames.Frame.{Frame}
+use Rattle.dg_open.specs.declared.frames.Frame.{Frame}
 use Rattle.dg_reader.specs.declared.item.ShapeFault.{ShapeFault}
-use Rattle.dg_reader.specs.inside.Frames.{stack_view}
+use Rattle.dg_open.specs.inside.Views.{stack_view}
 use Rattle.dg_reader.specs.inside.Items.{OnUnexpected, StopsAt}
 use Rattle.dg_reader.proofs.Laws.{run_more}
 use Rattle.dg_reader.proofs.item.run.Goals as goal

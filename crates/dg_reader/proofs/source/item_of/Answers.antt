@@ -3,7 +3,7 @@ use Rattle.dg_base.specs.TreeView.{item_view}
 use Rattle.dg_base.specs.declared.refusal.ReadFault.{ReadFault}
 use Rattle.dg_lex.specs.Tokens.{seen}
 use Rattle.dg_base.specs.Faults.{IsFault}
-use Rattle.dg_reader.specs.inside.Items.{shape_view}
+use Rattle.dg_open.specs.inside.Views.{shape_view}
 use Rattle.dg_reader.specs.Read as spec
 use Rattle.dg_reader.proofs.FaultLemmas.{fault_map, ok_map, err_map}
 use Rattle.dg_reader.proofs.ItemLemmas.{whole_item, faulty_item, open_item, stopped_item, indented_item}

@@ -1,32 +1,5 @@
 // What stands open while an item is read, the innermost last.
-ghost use Rattle.std.specs.Prelude.{◌≡◌};
-ghost use Rattle.dg_reader.specs.declared.frames.Stop.TheVariants.{OutOfMemory};
-
 use dg_base::{Arm, Body, Head, Items, Name, NowChange, Part, Stmt, Value};
-use std::alloc::{AllocError, AllocFailed};
-
-/// Why an item isn't read on.
-#[derive(Clone, Copy)]
-pub enum Stop {
-    Unexpected,
-    OutOfMemory,
-}
-
-impl From<AllocError> for Stop {
-    ghost from_gives = { λ _ e. e ≡ OutOfMemory };
-
-    fn from(_: AllocError) -> Self {
-        Stop::OutOfMemory
-    }
-}
-
-impl<T: Drop> From<AllocFailed<T>> for Stop {
-    ghost from_gives = { λ _ e. e ≡ OutOfMemory };
-
-    fn from(_: AllocFailed<T>) -> Self {
-        Stop::OutOfMemory
-    }
-}
 
 /// What the sign before a head makes of its item.
 #[derive(Clone, Copy, PartialEq, Eq)]

@@ -2,8 +2,8 @@ use Rattle.std.proofs.Common.{◌∙◌, ap, Bool}
 use Rattle.dg_base.specs.Tree as tree
 use Rattle.dg_base.specs.TreeView.{part_step, stmt_step, value_step, arm_step, body_step, head_step, change_step}
 use Rattle.dg_base.specs.declared.tree.Body.{fold-roll-Body}
-use Rattle.dg_reader.proofs.Views.{each_branch}
-use Rattle.dg_reader.proofs.forms.branches.Goals as goal
+use Rattle.dg_open.proofs.Branches.{each_branch}
+use Rattle.dg_open.proofs.bodies.branches.Goals as goal
 
 pub returns : goal.returns
 returns c =
