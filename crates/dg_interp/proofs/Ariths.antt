@@ -1,5 +1,5 @@
 -- What a calculation comes to.
-use Rattle.std.proofs.Common.{◌≡◌, ℕ, ◌+◌, List, [], ◌∷◌, Option, refl, sym, ap, ◌∙◌, subst, arith}
+use Rattle.std.proofs.Common.{◌≡◌, ℕ, ◌+◌, List, [], ◌∷◌, Option, sym, ap, ◌∙◌, subst}
 use Rattle.std.specs.declared.vec.Vec.{Vec}
 use Rattle.std.specs.declared.alloc.Global.{Global}
 use Rattle.dg_base.specs.declared.program.ArithOp.{ArithOp}
@@ -18,7 +18,7 @@ use Rattle.dg_unify.specs.Store.{Store, Saved, Kept, told}
 use Rattle.dg_unify.specs.declared.bindings.Ref.{Ref}
 use Rattle.dg_unify.specs.declared.list.ListBindings.{ListBindings}
 use Rattle.dg_interp.specs.declared.engine.Engine.{Engine}
-use Rattle.dg_interp.specs.declared.frames.Env.{Env}
+use Rattle.dg_choices.specs.declared.frames.Env.{Env}
 use Rattle.dg_terms.specs.Terms.{ThreeMade}
 use Rattle.dg_interp.specs.inside.Frames.{stretch, values_in}
 use Rattle.dg_interp.specs.inside.Engine.{store_in, KeepsPlaces, steps_of, IsReady, TakesAt, Leads}

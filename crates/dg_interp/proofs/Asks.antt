@@ -27,11 +27,11 @@ use Rattle.dg_unify.specs.Listed.{fields_of}
 use Rattle.dg_unify.specs.declared.bindings.Full.{Full}
 use Rattle.dg_unify.specs.declared.bindings.Mark.{Mark as Place}
 use Rattle.dg_unify.specs.declared.list.ListBindings.{ListBindings}
-use Rattle.dg_interp.specs.declared.frames.Query.{Query}
-use Rattle.dg_interp.specs.declared.frames.Env.{Env}
-use Rattle.dg_interp.specs.declared.frames.Frame.{Frame}
-use Rattle.dg_interp.specs.declared.frames.Choice.{Choice}
-use Rattle.dg_interp.specs.declared.frames.Left.TheVariants.{Rules}
+use Rattle.dg_choices.specs.declared.frames.Query.{Query}
+use Rattle.dg_choices.specs.declared.frames.Env.{Env}
+use Rattle.dg_choices.specs.declared.frames.Frame.{Frame}
+use Rattle.dg_choices.specs.declared.frames.Choice.{Choice}
+use Rattle.dg_choices.specs.declared.frames.Left.TheVariants.{Rules}
 use Rattle.dg_interp.specs.declared.engine.Engine.{Engine}
 use Rattle.dg_interp.specs.inside.Rules.{ArgsWritten}
 use Rattle.dg_terms.specs.Terms.{Overflows, Written}

@@ -18,12 +18,12 @@ use Rattle.dg_unify.specs.declared.bindings.Full.{Full}
 use Rattle.dg_unify.specs.declared.bindings.Full.TheVariants as full
 use Rattle.dg_unify.specs.declared.bindings.Mark.{Mark as Place}
 use Rattle.dg_unify.specs.declared.list.ListBindings.{ListBindings}
-use Rattle.dg_interp.specs.declared.frames.Env.{Env}
-use Rattle.dg_interp.specs.declared.frames.Frame.{Frame}
-use Rattle.dg_interp.specs.declared.frames.Choice.{Choice}
-use Rattle.dg_interp.specs.declared.frames.Mark.TheVariants.{Nothing}
-use Rattle.dg_interp.specs.declared.frames.Left.{Left}
-use Rattle.dg_interp.specs.declared.frames.Left.TheVariants.{Lists, Ways, Way as OneWay}
+use Rattle.dg_choices.specs.declared.frames.Env.{Env}
+use Rattle.dg_choices.specs.declared.frames.Frame.{Frame}
+use Rattle.dg_choices.specs.declared.frames.Choice.{Choice}
+use Rattle.dg_choices.specs.declared.frames.Mark.TheVariants.{Nothing}
+use Rattle.dg_choices.specs.declared.frames.Left.{Left}
+use Rattle.dg_choices.specs.declared.frames.Left.TheVariants.{Lists, Ways, Way as OneWay}
 use Rattle.dg_interp.specs.declared.engine.Engine.{Engine}
 use Rattle.dg_terms.specs.Terms.{Overflows}
 use Rattle.dg_interp.specs.inside.Frames.{values_in, steps_behind, steps_at, kind_of, branches_of, IsFrame, IsLeft, IsOrdinary, BeginsWith, has_some, stays_with, cells_if}

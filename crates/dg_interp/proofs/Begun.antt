@@ -16,9 +16,9 @@ use Rattle.dg_unify.specs.declared.bindings.Ref.{Ref}
 use Rattle.dg_unify.specs.declared.bindings.Mark.{Mark as Place}
 use Rattle.dg_unify.specs.declared.list.ListBindings.{ListBindings}
 use Rattle.dg_unify.specs.inside.Engines.{Agrees}
-use Rattle.dg_interp.specs.declared.frames.Frame.{Frame}
-use Rattle.dg_interp.specs.declared.frames.Left.{Left}
-use Rattle.dg_interp.specs.declared.frames.Choice.{Choice}
+use Rattle.dg_choices.specs.declared.frames.Frame.{Frame}
+use Rattle.dg_choices.specs.declared.frames.Left.{Left}
+use Rattle.dg_choices.specs.declared.frames.Choice.{Choice}
 use Rattle.dg_interp.specs.declared.engine.Engine.{Engine}
 use Rattle.dg_interp.specs.inside.Frames.{values_in, kind_of, branches_of, lives_of, ways_of, AreChoices, IsLeft, IsOrdinary, StandOn, GoBackTo, stays_with}
 use Rattle.dg_interp.specs.inside.Engine.{store_in, KeepsPlaces, HasPlace, Within, There, IsSound, StandsAt, FailsAt, BeginsAt, SameLimits, steps_of, kept_if, open_in}

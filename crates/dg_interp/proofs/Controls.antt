@@ -6,8 +6,8 @@ use Rattle.dg_base.specs.declared.program.Goal.{Goal, out-Goal}
 use Rattle.dg_base.specs.declared.program.Goal.TheVariants.{Either, Once, Not, If, Forever, Exhaust, Stoppable, Collect, Accumulate, outs-Either, outs-Once, outs-Not, outs-If, outs-Forever, outs-Exhaust, outs-Stoppable, outs-Collect, outs-Accumulate}
 use Rattle.dg_base.specs.declared.program.Goal.TheOpen as part
 use Rattle.dg_base.specs.declared.program.Term.{Term}
-use Rattle.dg_interp.specs.declared.frames.Whole.{Whole}
-use Rattle.dg_interp.specs.declared.frames.Whole.TheVariants.{List as InList, Sum as InSum}
+use Rattle.dg_choices.specs.declared.frames.Whole.{Whole}
+use Rattle.dg_choices.specs.declared.frames.Whole.TheVariants.{List as InList, Sum as InSum}
 use Rattle.dg_interp.specs.inside.Gathering.{gathering_goal}
 use Rattle.dg_base.specs.Goals.{terms_held}
 use Rattle.dg_meaning.specs.Values.{Value}
@@ -24,10 +24,10 @@ use Rattle.dg_unify.specs.Store.{Store, State, Saved, Kept, Charged, HeapFull}
 use Rattle.dg_unify.specs.declared.bindings.Full.{Full}
 use Rattle.dg_unify.specs.declared.bindings.Full.TheVariants as full
 use Rattle.dg_unify.specs.declared.list.ListBindings.{ListBindings}
-use Rattle.dg_interp.specs.declared.frames.Env.{Env}
-use Rattle.dg_interp.specs.declared.frames.Frame.{Frame}
-use Rattle.dg_interp.specs.declared.frames.Left.TheVariants.{Lists, Ways}
-use Rattle.dg_interp.specs.declared.frames.Mark.TheVariants.{Nothing, CutTo, RefuseTo, Exhausted}
+use Rattle.dg_choices.specs.declared.frames.Env.{Env}
+use Rattle.dg_choices.specs.declared.frames.Frame.{Frame}
+use Rattle.dg_choices.specs.declared.frames.Left.TheVariants.{Lists, Ways}
+use Rattle.dg_choices.specs.declared.frames.Mark.TheVariants.{Nothing, CutTo, RefuseTo, Exhausted}
 use Rattle.dg_interp.specs.declared.engine.Engine.{Engine}
 use Rattle.dg_interp.specs.inside.Frames.{values_in, mark_steps, steps_behind, steps_at, IsFrame, IsLeft}
 use Rattle.dg_unify.specs.inside.Engines.{Agrees}

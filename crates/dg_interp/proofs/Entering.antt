@@ -13,7 +13,7 @@ use Rattle.dg_unify.specs.Store.{State, Store, told, Holds, Kept, Charged, Does,
 use Rattle.dg_unify.specs.declared.bindings.Ref.{Ref}
 use Rattle.dg_unify.specs.declared.bindings.Full.{Full}
 use Rattle.dg_unify.specs.declared.bindings.Full.TheVariants as full
-use Rattle.dg_interp.specs.declared.frames.Env.{Env}
+use Rattle.dg_choices.specs.declared.frames.Env.{Env}
 use Rattle.dg_interp.specs.inside.Frames.{stretch, values_in, EndsBy}
 use Rattle.dg_interp.specs.inside.Rules.{matched_in, EntersRule, RuleFull}
 use Rattle.dg_terms.specs.Terms.{Overflows, Written, MadeVars}

@@ -31,13 +31,13 @@ use Rattle.dg_unify.specs.declared.bindings.Full.TheVariants as full
 use Rattle.dg_unify.specs.declared.bindings.Mark.{Mark as Place}
 use Rattle.dg_unify.specs.declared.list.ListBindings.{ListBindings}
 use Rattle.dg_interp.specs.Runnable.{AreRunnable}
-use Rattle.dg_interp.specs.declared.frames.Env.{Env}
-use Rattle.dg_interp.specs.declared.frames.Frame.{Frame}
-use Rattle.dg_interp.specs.declared.frames.Mark.TheVariants.{Nothing, Keep as KeepIn}
-use Rattle.dg_interp.specs.declared.frames.Left.TheVariants.{TakeOut}
-use Rattle.dg_interp.specs.declared.frames.Whole.{Whole}
-use Rattle.dg_interp.specs.declared.frames.Whole.TheVariants.{List as InList, Sum as InSum}
-use Rattle.dg_interp.specs.declared.frames.Choice.{Choice}
+use Rattle.dg_choices.specs.declared.frames.Env.{Env}
+use Rattle.dg_choices.specs.declared.frames.Frame.{Frame}
+use Rattle.dg_choices.specs.declared.frames.Mark.TheVariants.{Nothing, Keep as KeepIn}
+use Rattle.dg_choices.specs.declared.frames.Left.TheVariants.{TakeOut}
+use Rattle.dg_choices.specs.declared.frames.Whole.{Whole}
+use Rattle.dg_choices.specs.declared.frames.Whole.TheVariants.{List as InList, Sum as InSum}
+use Rattle.dg_choices.specs.declared.frames.Choice.{Choice}
 use Rattle.dg_interp.specs.declared.engine.Engine.{Engine}
 use Rattle.dg_lasting.specs.declared.lasting.Lasting.{Lasting}
 use Rattle.dg_lasting.specs.Lasting.{picks_in, InWorld, MayPick, OpensOne, OpensTooMuch}

@@ -23,7 +23,7 @@ use Rattle.dg_interp.specs.declared.engine.Engine.{Engine}
 use Rattle.dg_terms.specs.Terms.{Overflows}
 use Rattle.dg_lasting.specs.Lacks.{area_of}
 use Rattle.dg_lasting.specs.declared.lack.Lack.{Lack}
-use Rattle.dg_interp.specs.declared.frames.Env.{Env}
+use Rattle.dg_choices.specs.declared.frames.Env.{Env}
 use Rattle.dg_lasting.specs.declared.lasting.Lasting.{Lasting}
 use Rattle.dg_lasting.specs.Lasting.{picks_in, InWorld, MayPick, Gathers, GathersTooMuch}
 use Rattle.dg_interp.specs.inside.Frames.{stretch, values_in}

@@ -17,10 +17,11 @@ use Rattle.dg_meaning.proofs.Dropping.{prints_append}
 use Rattle.dg_meaning.proofs.Keeps.{passes_cut}
 use Rattle.dg_meaning.specs.Cells.{cells}
 use Rattle.dg_base.specs.Goals.{terms_held}
-use Rattle.dg_interp.specs.declared.frames.Choice.{Choice}
+use Rattle.dg_choices.specs.declared.frames.Choice.{Choice}
 use Rattle.dg_interp.specs.declared.engine.Engine.{Engine}
 use Rattle.dg_interp.specs.inside.Frames.{values_in}
-use Rattle.dg_interp.specs.inside.Engine.{store_in, steps_of, IsReady, TakesAt, StandsAt, FailsAt, Then, Leads, Ends, Cuts, WentOn}
+use Rattle.dg_interp.specs.inside.Engine.{store_in, steps_of, IsReady, TakesAt, StandsAt, FailsAt, Then, Leads, Ends, WentOn}
+use Rattle.dg_choices.specs.inside.Cutting.{Cuts}
 use Rattle.dg_interp.proofs.Places.{inside_in, cut_base, cut_inside, ways_left}
 use Rattle.dg_interp.proofs.Takes.{behind, taken_in, comes_of, adds_taken}
 

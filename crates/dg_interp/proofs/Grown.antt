@@ -10,8 +10,8 @@ use Rattle.dg_meaning.specs.inside.Context.{Live}
 use Rattle.dg_unify.specs.Store.{Store, Saved, Kept, Holds}
 use Rattle.dg_unify.specs.declared.bindings.Ref.{Ref}
 use Rattle.dg_unify.specs.declared.list.ListBindings.{ListBindings}
-use Rattle.dg_interp.specs.declared.frames.Frame.{Frame}
-use Rattle.dg_interp.specs.declared.frames.Choice.{Choice}
+use Rattle.dg_choices.specs.declared.frames.Frame.{Frame}
+use Rattle.dg_choices.specs.declared.frames.Choice.{Choice}
 use Rattle.dg_interp.specs.declared.engine.Engine.{Engine}
 use Rattle.dg_interp.specs.inside.Frames.{values_in, AreChoices, GoBackTo}
 use Rattle.dg_interp.specs.inside.Engine.{store_in, KeepsPlaces, Sound, IsReady}

@@ -11,13 +11,13 @@ use Rattle.dg_meaning.specs.Moves.{path_of, inside, enter, list_branches, rule_b
 use Rattle.dg_meaning.specs.inside.Context.{Live, Way as WayOn, cut_to}
 use Rattle.dg_unify.specs.Store.{Store, Saved, Holds, told}
 use Rattle.dg_unify.specs.declared.bindings.Ref.{Ref}
-use Rattle.dg_interp.specs.declared.frames.Env.{Env}
-use Rattle.dg_interp.specs.declared.frames.Frame.{Frame}
-use Rattle.dg_interp.specs.declared.frames.Left.{Left}
-use Rattle.dg_interp.specs.declared.frames.Left.TheVariants.{Rules, Lists, Ways, Way, Behind, TakeOut, Things}
-use Rattle.dg_interp.specs.declared.frames.Choice.{Choice}
-use Rattle.dg_interp.specs.inside.Frames.{stretch, values_in, frame_steps, found_steps, steps_below, steps_behind, steps_at, kind_of, whole_of, branches_of, cut_of, cut_if, lives_of, with_way, ways_of, IsNoPart, IsOrdinary, IsChoice, AreChoices, EndsBy, IsFrame, AreFrames, IsLeft, IsNoted, noting, StandOn, GoBackTo, floor_of, left_in, all_left}
-use Rattle.dg_interp.specs.inside.Engine.{waits_in, left_by, with_older, older_than}
+use Rattle.dg_choices.specs.declared.frames.Env.{Env}
+use Rattle.dg_choices.specs.declared.frames.Frame.{Frame}
+use Rattle.dg_choices.specs.declared.frames.Left.{Left}
+use Rattle.dg_choices.specs.declared.frames.Left.TheVariants.{Rules, Lists, Ways, Way, Behind, TakeOut, Things}
+use Rattle.dg_choices.specs.declared.frames.Choice.{Choice}
+use Rattle.dg_interp.specs.inside.Frames.{stretch, values_in, frame_steps, found_steps, steps_below, steps_behind, steps_at, kind_of, whole_of, branches_of, cut_if, lives_of, with_way, ways_of, IsNoPart, IsOrdinary, IsChoice, AreChoices, EndsBy, IsFrame, AreFrames, IsLeft, IsNoted, StandOn, GoBackTo, floor_of, left_in, all_left}
+use Rattle.dg_choices.specs.inside.Cutting.{cut_of, noting, waits_in, left_by, with_older, older_than}
 use Rattle.dg_meaning.specs.Facts.{kinds_of}
 use Rattle.dg_lasting.specs.Finding.{counted}
 use Rattle.dg_meaning.specs.inside.Finding.{may_find}

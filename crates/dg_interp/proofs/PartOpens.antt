@@ -23,10 +23,10 @@ use Rattle.dg_unify.specs.declared.bindings.Full.{Full}
 use Rattle.dg_unify.specs.declared.bindings.Full.TheVariants as full
 use Rattle.dg_unify.specs.declared.bindings.Mark.{Mark as Place}
 use Rattle.dg_unify.specs.declared.list.ListBindings.{ListBindings}
-use Rattle.dg_interp.specs.declared.frames.Frame.{Frame}
-use Rattle.dg_interp.specs.declared.frames.Mark.TheVariants.{LeavePart}
-use Rattle.dg_interp.specs.declared.frames.Left.TheVariants.{Behind}
-use Rattle.dg_interp.specs.declared.frames.Choice.{Choice}
+use Rattle.dg_choices.specs.declared.frames.Frame.{Frame}
+use Rattle.dg_choices.specs.declared.frames.Mark.TheVariants.{LeavePart}
+use Rattle.dg_choices.specs.declared.frames.Left.TheVariants.{Behind}
+use Rattle.dg_choices.specs.declared.frames.Choice.{Choice}
 use Rattle.dg_interp.specs.declared.engine.Engine.{Engine}
 use Rattle.dg_interp.specs.inside.Frames.{values_in, steps_at, lives_of, ways_of, IsChoice, AreChoices, IsFrame, StandOn, GoBackTo}
 use Rattle.dg_interp.specs.inside.Engine.{store_in, KeepsPlaces, IsReady, TakesAt, WentOn, FullAt, steps_of, open_in}

@@ -19,9 +19,9 @@ use Rattle.dg_unify.specs.Laws.{saves_drops}
 use Rattle.dg_unify.specs.Listed.{fields_of}
 use Rattle.dg_unify.specs.declared.bindings.Mark.{Mark as Place}
 use Rattle.dg_unify.specs.declared.bindings.View.{View}
-use Rattle.dg_interp.specs.declared.frames.Query.{Query}
-use Rattle.dg_interp.specs.declared.frames.Env.{Env}
-use Rattle.dg_interp.specs.declared.frames.Left.TheVariants.{Rules}
+use Rattle.dg_choices.specs.declared.frames.Query.{Query}
+use Rattle.dg_choices.specs.declared.frames.Env.{Env}
+use Rattle.dg_choices.specs.declared.frames.Left.TheVariants.{Rules}
 use Rattle.dg_interp.specs.declared.engine.Engine.{Engine}
 use Rattle.dg_interp.specs.inside.Frames.{values_in, steps_behind, IsLeft}
 use Rattle.dg_lasting.specs.Lasting.{InWorld}

@@ -1,6 +1,6 @@
 -- Where an engine stands, and how it goes on from there.
-use Rattle.std.proofs.Common.{◌≡◌, ◌≢◌, ℕ, zero, suc, ◌+◌, ◌-◌, ◌≤◌, List, [], ◌∷◌, ◌++◌, Option, Some, Bool, true, false, refl, sym, ap, ◌∙◌, subst, arith, length, take, drop, get_or, length-take, append_assoc}
-use Rattle.std.specs.Prelude.{not, max, slice_get, reverse}
+use Rattle.std.proofs.Common.{◌≡◌, ◌≢◌, ℕ, zero, suc, ◌+◌, ◌-◌, ◌≤◌, List, [], ◌∷◌, ◌++◌, Option, Some, true, false, refl, sym, ap, ◌∙◌, subst, arith, length, take, drop, get_or, length-take, append_assoc}
+use Rattle.std.specs.Prelude.{max, slice_get, reverse}
 use Rattle.std.proofs.lemmas.Option.{slice_get-get_or}
 use Rattle.std.proofs.lemmas.List.{append-nil, length-map, length-drop, drop_all}
 use Rattle.std.specs.declared.vec.Vec.{Vec}
@@ -19,18 +19,19 @@ use Rattle.dg_meaning.proofs.Keeps.{passes_answer, passes_cut, passes_leave, pas
 use Rattle.dg_meaning.specs.Values.{Value}
 use Rattle.dg_unify.specs.Store.{Saved}
 use Rattle.dg_unify.specs.declared.bindings.Ref.{Ref}
-use Rattle.dg_interp.specs.declared.frames.Env.{Env}
+use Rattle.dg_choices.specs.declared.frames.Env.{Env}
 use Rattle.dg_unify.specs.Laws.{saves_drops}
 use Rattle.dg_unify.specs.Listed.{fields_of}
 use Rattle.dg_unify.specs.declared.list.ListBindings.{ListBindings}
-use Rattle.dg_interp.specs.declared.frames.Query.{Query}
-use Rattle.dg_interp.specs.declared.frames.Mark.{Mark}
-use Rattle.dg_interp.specs.declared.frames.Mark.TheVariants.{Nothing, AnswerOf, CutTo, RefuseTo, Exhausted, LeavePart, Keep as KeepIn}
-use Rattle.dg_interp.specs.declared.frames.Frame.{Frame}
-use Rattle.dg_interp.specs.declared.frames.Choice.{Choice}
+use Rattle.dg_choices.specs.declared.frames.Query.{Query}
+use Rattle.dg_choices.specs.declared.frames.Mark.{Mark}
+use Rattle.dg_choices.specs.declared.frames.Mark.TheVariants.{Nothing, AnswerOf, CutTo, RefuseTo, Exhausted, LeavePart, Keep as KeepIn}
+use Rattle.dg_choices.specs.declared.frames.Frame.{Frame}
+use Rattle.dg_choices.specs.declared.frames.Choice.{Choice}
 use Rattle.dg_interp.specs.declared.engine.Engine.{Engine}
 use Rattle.dg_interp.specs.inside.Frames.{values_in, mark_steps, frame_steps, steps_behind, steps_at, lives_of, ways_of, AreChoices, IsFrame, AreFrames, StandOn, GoBackTo, floor_of, all_left}
-use Rattle.dg_interp.specs.inside.Engine.{store_in, limit_in, KeepsPlaces, Within, On, There, Sound, IsReady, Point, StandsAt, FailsAt, Adds, Then, Leads, older_than, Cuts, branches_left, SameLimits, WentOn, WentWrong, HasEndedSo, MarkPassed, Refused, FrameLeft, steps_of}
+use Rattle.dg_interp.specs.inside.Engine.{store_in, limit_in, KeepsPlaces, Within, On, There, Sound, IsReady, Point, StandsAt, FailsAt, Adds, Then, Leads, branches_left, SameLimits, WentOn, WentWrong, HasEndedSo, MarkPassed, Refused, FrameLeft, steps_of}
+use Rattle.dg_choices.specs.inside.Cutting.{older_than, Cuts}
 use Rattle.dg_lasting.specs.declared.lasting.Lasting.{Lasting}
 use Rattle.dg_lasting.specs.Lasting.{row_of, InWorld}
 use Rattle.dg_interp.specs.inside.Gathering.{KeepsAt}
@@ -189,14 +190,6 @@ module _ (old new : Engine) (program : new.program.now ≡ old.program.now) (las
   }
 
 -- ## Marks
-
-pub not_true : (b : Bool) → not b ≡ true → b ≡ false
-not_true true h = cc
-not_true false h = refl
-
-pub not_false : (b : Bool) → not b ≡ false → b ≡ true
-not_false true h = refl
-not_false false h = cc
 
 -- the steps of a frame whose goals are done
 steps_done : (values : Env → List Value) (fs : List Frame) (f : Frame) (mark : Mark) → f.goals.now ≡ [] → f.mark ≡ mark → steps_at values fs f ≡ mark_steps (values f.env) mark f.tag (steps_behind values fs f.behind)

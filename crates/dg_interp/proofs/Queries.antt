@@ -32,8 +32,8 @@ use Rattle.dg_unify.specs.declared.bindings.Ref.{Ref}
 use Rattle.dg_unify.specs.declared.bindings.Full.{Full}
 use Rattle.dg_unify.specs.declared.bindings.Full.TheVariants as full
 use Rattle.dg_unify.specs.declared.list.ListBindings.{ListBindings}
-use Rattle.dg_interp.specs.declared.frames.Frame.{Frame}
-use Rattle.dg_interp.specs.declared.frames.Choice.{Choice}
+use Rattle.dg_choices.specs.declared.frames.Frame.{Frame}
+use Rattle.dg_choices.specs.declared.frames.Choice.{Choice}
 use Rattle.dg_interp.specs.declared.engine.Engine.{Engine}
 use Rattle.dg_interp.specs.inside.Bodies.{IsBody, HasNoBody, parameters, matched_body, EntersBody, BodyFull}
 use Rattle.dg_interp.specs.inside.Frames.{stretch, values_in, frame_steps, mark_steps, steps_behind, AreChoices, AreFrames, StandOn, GoBackTo}
@@ -42,12 +42,11 @@ use Rattle.dg_interp.specs.inside.Engine.{store_in, KeepsPlaces, Point, IsSound,
 use Rattle.dg_interp.specs.inside.Querying.{QueriesAt, mark_of}
 use Rattle.dg_interp.proofs.Begins.{began_peaks}
 use Rattle.dg_interp.proofs.Links.{SameBy, same_here, same_append, behind_new, at_same, frame_raise, frames_append, choices_same, stand_raise, stand_same}
-use Rattle.dg_interp.proofs.Stores.{values_kept, hold_front, appended_stretch, trail_append, trail_older, made_is}
+use Rattle.dg_interp.proofs.Stores.{values_kept, hold_front, appended_stretch, trail_append, trail_older, made_is, both_among}
 use Rattle.dg_interp.proofs.Grown.{grown_front, grown_longer, grown_values, grown_hold, grown_back, grown_base, grown_choices}
 use Rattle.dg_interp.proofs.Places.{inside_kept, adds_nothing}
 use Rattle.dg_interp.proofs.Takes.{behind as after_terms, taken_in, comes_of, adds_taken, terms_full}
 use Rattle.dg_interp.proofs.Values.{made_among, term_full, agrees_behind}
-use Rattle.dg_interp.proofs.Stores.{both_among}
 use Rattle.dg_interp.proofs.Turns.{all_first, all_rest}
 
 -- ## The parameter

@@ -12,7 +12,7 @@ use Rattle.dg_base.specs.declared.program.Term.{Term}
 use Rattle.dg_base.specs.declared.program.CoreProgram.{CoreProgram}
 use Rattle.dg_unify.specs.Store.{Store, told, Holds, Kept, trail_for, trail_of}
 use Rattle.dg_unify.specs.declared.bindings.Ref.{Ref}
-use Rattle.dg_interp.specs.declared.frames.Env.{Env}
+use Rattle.dg_choices.specs.declared.frames.Env.{Env}
 use Rattle.dg_interp.specs.inside.Frames.{stretch, values_in, EndsBy}
 use Rattle.dg_interp.proofs.Links.{SameBy, stretch_same}
 use Rattle.dg_terms.specs.Terms.{BothMade}

@@ -1,15 +1,14 @@
 -- A gathering is taken out.
-use Rattle.std.proofs.Common.{◌≡◌, ℕ, suc, ◌+◌, ◌-◌, ◌*◌, ◌<◌, ◌≤◌, List, [], ◌∷◌, ◌++◌, Option, Some, Bool, true, false, refl, sym, ap, ◌∙◌, subst, arith, length, map, drop}
-use Rattle.std.specs.Prelude.{eqb, slice_get, IfOk, IfErr, OnOk, Ok, Err}
-use Rattle.std.specs.Prelude.{Result as Answer}
+use Rattle.std.proofs.Common.{◌≡◌, ℕ, suc, ◌+◌, ◌-◌, ◌*◌, ◌<◌, ◌≤◌, List, [], ◌∷◌, Option, Some, Bool, true, false, refl, sym, ap, ◌∙◌, subst, arith, length, map, drop}
+use Rattle.std.specs.Prelude.{eqb, slice_get, IfOk, IfErr, OnOk, Ok, Err, Result as Answer}
 use Rattle.std.specs.List.{All, flat_map, sum_by}
 use Rattle.std.specs.declared.vec.Vec.{Vec}
 use Rattle.std.specs.declared.alloc.Global.{Global}
 use Rattle.std.proofs.lemmas.Bool.{cond-true, eq-eqb}
 use Rattle.dg_base.specs.declared.cells.Cell.{Cell}
-use Rattle.dg_meaning.specs.Values.{Value, Values, node_parts, pair, value_of_var}
+use Rattle.dg_meaning.specs.Values.{Value, Values, node_parts, value_of_var}
 use Rattle.dg_meaning.specs.ValueCells.{cells_of, cells_of_all}
-use Rattle.dg_meaning.specs.Copies.{list_of, values_of, vars_in, vars_in_all, copy_from, copies_from, copy_cells, all_copy_cells}
+use Rattle.dg_meaning.specs.Copies.{list_of, values_of, copies_from, all_copy_cells}
 use Rattle.dg_meaning.specs.Numbers.{total}
 use Rattle.dg_meaning.specs.Letters.{copied}
 use Rattle.dg_meaning.specs.Unify.{Unified, Equations, size, solve}
@@ -32,11 +31,11 @@ use Rattle.dg_unify.specs.declared.list.ListBindings.{ListBindings}
 use Rattle.dg_lists.specs.Formed.{IsFormed, AreFormed}
 use Rattle.dg_lists.specs.Reading.{Stopped, ListCopied}
 use Rattle.dg_lists.proofs.ListCopies.{row_parts, parts_formed, list_vars, list_copy, list_weight}
-use Rattle.dg_interp.specs.declared.frames.Env.{Env}
-use Rattle.dg_interp.specs.declared.frames.Frame.{Frame}
-use Rattle.dg_interp.specs.declared.frames.Whole.{Whole}
-use Rattle.dg_interp.specs.declared.frames.Whole.TheVariants.{List as InList, Sum as InSum}
-use Rattle.dg_interp.specs.declared.frames.Left.TheVariants.{TakeOut}
+use Rattle.dg_choices.specs.declared.frames.Env.{Env}
+use Rattle.dg_choices.specs.declared.frames.Frame.{Frame}
+use Rattle.dg_choices.specs.declared.frames.Whole.{Whole}
+use Rattle.dg_choices.specs.declared.frames.Whole.TheVariants.{List as InList, Sum as InSum}
+use Rattle.dg_choices.specs.declared.frames.Left.TheVariants.{TakeOut}
 use Rattle.dg_lasting.specs.declared.lasting.Lasting.{Lasting}
 use Rattle.dg_interp.specs.declared.engine.Engine.{Engine}
 use Rattle.dg_lasting.specs.Lasting.{row_of, InWorld, MayPick, Closes, picks_in}

@@ -25,16 +25,15 @@ use Rattle.dg_unify.specs.Slots.{store_of}
 use Rattle.dg_unify.specs.Store.{Store, Holds}
 use Rattle.dg_unify.specs.declared.bindings.Ref.{Ref}
 use Rattle.dg_unify.specs.declared.list.ListBindings.{ListBindings}
-use Rattle.dg_interp.specs.declared.frames.Env.{Env}
-use Rattle.dg_interp.specs.declared.frames.Mark.TheVariants.{Nothing}
-use Rattle.dg_interp.specs.declared.frames.Frame.{Frame}
-use Rattle.dg_interp.specs.declared.frames.Choice.{Choice}
+use Rattle.dg_choices.specs.declared.frames.Env.{Env}
+use Rattle.dg_choices.specs.declared.frames.Mark.TheVariants.{Nothing}
+use Rattle.dg_choices.specs.declared.frames.Frame.{Frame}
+use Rattle.dg_choices.specs.declared.frames.Choice.{Choice}
 use Rattle.dg_interp.specs.declared.engine.Engine.{Engine}
 use Rattle.dg_interp.specs.inside.Frames.{values_in, frame_steps, steps_behind, steps_at, AreChoices, lives_of, ways_of, StandOn, GoBackTo}
 use Rattle.dg_unify.specs.inside.Engines.{Agrees}
 use Rattle.dg_lasting.specs.declared.lasting.Lasting.{Lasting}
-use Rattle.dg_meaning.specs.Choosing.{Picks}
-use Rattle.dg_lasting.specs.Lasting.{picks_in, MayPick, StartsLasting}
+use Rattle.dg_lasting.specs.Lasting.{picks_in, StartsLasting}
 use Rattle.dg_lasting.proofs.Picks.{may_fewer}
 use Rattle.dg_interp.specs.inside.Engine.{store_in, limit_in, IsReady, StandsAt, Starts, Taken}
 use Rattle.dg_interp.proofs.Links.{behind_end}

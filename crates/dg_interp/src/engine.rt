@@ -4,12 +4,12 @@ ghost use Rattle.dg_base.specs.declared.program.Goal.TheVariants.{Ask, Print as 
 ghost use Rattle.dg_meaning.specs.Moves.{rules_of as the_rules};
 ghost use Rattle.dg_base.specs.Sound.{IsSound as IsSoundProgram};
 ghost use Rattle.dg_interp.specs.Runnable.{IsRunnable};
-ghost use Rattle.dg_interp.specs.declared.frames.Mark.TheVariants.{Nothing as NoMark};
-ghost use Rattle.dg_interp.specs.declared.frames.Left.TheVariants.{Rules, Lists, Ways, Way};
+ghost use Rattle.dg_choices.specs.declared.frames.Mark.TheVariants.{Nothing as NoMark};
+ghost use Rattle.dg_choices.specs.declared.frames.Left.TheVariants.{Rules, Lists, Ways, Way};
 ghost use Rattle.dg_unify.specs.declared.bindings.Full.TheVariants.{OutOfMemory as WantOfMemory};
-ghost use Rattle.dg_interp.specs.declared.frames.Left.{Left as TheLeft};
-ghost use Rattle.dg_interp.specs.inside.Frames.{IsFrame, BeginsWith, IsOrdinary, cut_of, noting, IsLeft, stays_with, left_in, floor_of, stretch as the_stretch, values_in, EndsBy, cells_if};
-ghost use Rattle.dg_interp.specs.inside.Engine.{Starts, left_by, IsSound, IsReady, StandsAt, FailsAt, TakesAt, BeginsAt, OpensAt, IsPushed, HasPlace, Cuts, Passes, Settles, FrameLeft, GoesToGoal, GoesBack, Retries, Taken, Branches, WentOn, Tries, FullAt, LackAt, store_in, open_in, pieces_at, WrotePrinted, StaysBut, branches_left, KeepsPlaces, kept_if};
+ghost use Rattle.dg_choices.specs.declared.frames.Left.{Left as TheLeft};
+ghost use Rattle.dg_interp.specs.inside.Frames.{IsFrame, BeginsWith, IsOrdinary, IsLeft, stays_with, left_in, floor_of, stretch as the_stretch, values_in, EndsBy, cells_if};
+ghost use Rattle.dg_interp.specs.inside.Engine.{Starts, IsSound, IsReady, StandsAt, FailsAt, TakesAt, BeginsAt, OpensAt, IsPushed, HasPlace, Passes, Settles, FrameLeft, GoesToGoal, GoesBack, Retries, Taken, Branches, WentOn, Tries, FullAt, LackAt, store_in, open_in, pieces_at, WrotePrinted, StaysBut, branches_left, KeepsPlaces, kept_if};
 ghost use Rattle.dg_base.specs.declared.program.CoreProgram.{CoreProgram as Program};
 ghost use Rattle.dg_base.specs.declared.run.Limits.{Limits as TheLimits};
 ghost use Rattle.dg_meaning.specs.Cells.{cells};
@@ -35,8 +35,8 @@ mod throwing;
 mod trying;
 mod wording;
 
-use crate::frames::{Choice, Env, Frame, Left, Mark, Query};
 use dg_base::{CoreProgram, Ending, Goal, Items, Rule, Sink, Term, WriteFault};
+use dg_choices::{Choice, Env, Frame, Left, Mark, Query, answered, cut, take, waiting};
 use dg_lasting::{Lack, Lasting, lacking};
 use dg_spacing::Spacer;
 use dg_terms::{choice_cells, new_variables, pass, unify_all, write_term, write_terms};
@@ -66,54 +66,6 @@ pub enum Settled {
     Goal,
     Done,
     Refused,
-}
-
-/// The older of two cuts, of which one may wait already.
-fn noted(cut: Option<u64>, tag: u64) -> Option<u64>
-    ensures { result ≡ noting tag cut }
-{
-    match cut {
-        None => Some(tag),
-        Some(older) => Some(older.min(tag)),
-    }
-}
-
-/// The cut that waits in an open stoppable part.
-fn waiting(left: Left<'_>) -> Option<u64>
-    ensures { result ≡ cut_of left.entry }
-{
-    match left {
-        Left::Behind(_, cut) => cut,
-        _ => None,
-    }
-}
-
-/// What a cut to a tag leaves of a choice.
-fn left_of(choice: Choice<'_>, tag: u64) -> Option<Choice<'_>>
-    ensures { result ≡ left_by tag choice.entry }
-{
-    if choice.tag < tag {
-        return Some(choice);
-    }
-    match choice.left {
-        Left::Behind(frame, cut) => Some(Choice {
-            left: Left::Behind(frame, noted(cut, tag)),
-            ..choice
-        }),
-        _ => None,
-    }
-}
-
-/// Drops the choices that aren't older than the tag, down to an open stoppable part, in which the cut waits.
-fn cut(choices: &mut Vec<Choice<'_>>, tag: u64)
-    ensures { Cuts tag choices.old.items choices.new.items }
-{
-    'newest: while let Some(choice) = choices.pop() {
-        if let Some(left) = left_of(choice, tag) {
-            choices.push_reserved(left);
-            return;
-        }
-    }
 }
 
 /// How many frames the choices stand on.
@@ -319,9 +271,7 @@ impl<'p> Engine<'p> {
         match mark {
             Mark::Nothing => Ok(true),
             Mark::AnswerOf(query) => {
-                if !query.many {
-                    cut(&mut self.choices, self.here.tag);
-                }
+                answered(&mut self.choices, query, self.here.tag);
                 Ok(true)
             }
             Mark::CutTo(tag) => {
@@ -393,10 +343,7 @@ impl<'p> Engine<'p> {
         requires left { 0 < self.old.left }
         ensures taken { Taken result.now self.old self.new }
     {
-        let goals = self.here.goals;
-        self.here.goals = &goals[1..];
-        self.left -= 1;
-        &goals[0]
+        take(&mut self.here, &mut self.left)
     }
 
     /// Enters the first of some rules of a query, which its first argument doesn't exclude, with all frames behind it; false

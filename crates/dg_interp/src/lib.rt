@@ -4,7 +4,6 @@
 mod bodies;
 mod engine;
 mod finding;
-mod frames;
 mod interpreter;
 mod laws;
 mod run;

@@ -1,5 +1,5 @@
 -- What an engine stands for, and what its parts do to that. Hold it against the Dialog manual, chapter "Choice points".
-use Rattle.std.specs.Prelude.{ℕ, suc, ◌+◌, ◌^◌, ◌≡◌, ◌<◌, ◌≤◌, ◌++◌, nat_lt, List, [], ◌∷◌, Bool, true, false, length, map, reverse, Option, Some, None, if◌then◌else◌}
+use Rattle.std.specs.Prelude.{ℕ, suc, ◌+◌, ◌^◌, ◌≡◌, ◌<◌, ◌≤◌, ◌++◌, List, [], ◌∷◌, Bool, true, false, length, map, reverse, Option, Some, None, if◌then◌else◌}
 use Rattle.std.specs.List.{All}
 use Rattle.dg_base.specs.declared.program.Goal.{Goal, Goal-F}
 use Rattle.dg_base.specs.declared.program.Goal.TheVariants.{Print as PrintGoal, Stop as StopGoal}
@@ -30,11 +30,11 @@ use Rattle.dg_unify.specs.declared.bindings.Full.{Full}
 use Rattle.dg_unify.specs.declared.bindings.Full.TheVariants as full
 use Rattle.dg_unify.specs.declared.bindings.Mark.{Mark as Place}
 use Rattle.dg_unify.specs.declared.list.ListBindings.{ListBindings}
-use Rattle.dg_interp.specs.declared.frames.Mark.TheVariants.{Nothing}
-use Rattle.dg_interp.specs.declared.frames.Left.{Left}
-use Rattle.dg_interp.specs.declared.frames.Left.TheVariants.{Behind}
-use Rattle.dg_interp.specs.declared.frames.Frame.{Frame}
-use Rattle.dg_interp.specs.declared.frames.Choice.{Choice}
+use Rattle.dg_choices.specs.declared.frames.Mark.TheVariants.{Nothing}
+use Rattle.dg_choices.specs.declared.frames.Left.{Left}
+use Rattle.dg_choices.specs.declared.frames.Left.TheVariants.{Behind}
+use Rattle.dg_choices.specs.declared.frames.Frame.{Frame}
+use Rattle.dg_choices.specs.declared.frames.Choice.{Choice}
 use Rattle.dg_interp.specs.declared.engine.Engine.{Engine}
 use Rattle.dg_lasting.specs.declared.lack.Lack.{Lack}
 use Rattle.dg_lasting.specs.declared.lasting.Lasting.{Lasting}
@@ -42,7 +42,7 @@ use Rattle.dg_lasting.specs.Lacks.{area_of}
 use Rattle.dg_lasting.specs.Lasting.{picks_in, InWorld, MayPick}
 use Rattle.dg_interp.specs.declared.engine.Settled.{Settled}
 use Rattle.dg_interp.specs.declared.engine.Settled.TheVariants as settled
-use Rattle.dg_interp.specs.inside.Frames.{values_in, steps_at, kind_of, branches_of, AreChoices, IsFrame, AreFrames, StandOn, GoBackTo, lives_of, ways_of, noting, TakesNewest, all_left}
+use Rattle.dg_interp.specs.inside.Frames.{values_in, steps_at, kind_of, branches_of, AreChoices, IsFrame, AreFrames, StandOn, GoBackTo, lives_of, ways_of, TakesNewest, all_left}
 
 -- ## What holds of an engine
 
@@ -197,29 +197,6 @@ pub record SameLimits (old new : Engine) : Type 0 where
   pub trail : (store_in new.store).trail_limit ≡ (store_in old.store).trail_limit
   pub aux : new.lasting.gathered.aux ≡ old.lasting.gathered.aux
   pub keep : new.lasting.world.area.keep ≡ old.lasting.world.area.keep
-
--- An open stoppable part stays where a cut is made that isn't younger, and the cut waits in it; no other choice does.
-abbrev pub waits_in : ℕ → Choice → Left → Option Choice
-waits_in t o (Behind frame cut) = Some (record o { left = Behind frame (noting t cut) })
-waits_in t o other = None
-
--- What a cut to a tag leaves of a choice.
-abbrev pub left_by : ℕ → Choice → Option Choice
-left_by t o = if nat_lt o.tag t then Some o else waits_in t o o.left
-
--- A choice that was left, with those behind it, or else what was left of these.
-abbrev pub with_older : Option Choice → List Choice → List Choice → List Choice
-with_older None os older = older
-with_older (Some o) os older = o ∷ os
-
--- The choices that a cut to a tag leaves, the newest first.
-abbrev pub older_than : ℕ → List Choice → List Choice
-older_than t [] = []
-older_than t (o ∷ os) = with_older (left_by t o) os (older_than t os)
-
--- A cut to a tag was made.
-abbrev pub Cuts : ℕ → List Choice → List Choice → Type 0
-Cuts t old new = reverse new ≡ older_than t (reverse old)
 
 -- How many choices it has, and branches that they have left.
 abbrev pub branches_left : Engine → ℕ

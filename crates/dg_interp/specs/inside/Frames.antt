@@ -1,5 +1,5 @@
 -- What the frames and choices of an engine are in the meaning. Hold it against the Dialog manual, chapter "Choice points".
-use Rattle.std.specs.Prelude.{ℕ, zero, suc, ◌+◌, ◌-◌, ◌≡◌, ◌<◌, ◌≤◌, ◌++◌, min, eqb, nat_lt, List, [], ◌∷◌, Option, Some, None, Bool, true, false, length, map, take, drop, slice_get, if◌then◌else◌}
+use Rattle.std.specs.Prelude.{ℕ, zero, suc, ◌+◌, ◌-◌, ◌≡◌, ◌<◌, ◌≤◌, ◌++◌, eqb, nat_lt, List, [], ◌∷◌, Option, Some, None, Bool, true, false, length, map, take, drop, slice_get, if◌then◌else◌}
 use Rattle.std.specs.List.{All}
 use Rattle.dg_base.specs.declared.program.Goal.{Goal}
 use Rattle.dg_base.specs.declared.program.Term.TheVariants.{Var as Var-Term}
@@ -11,18 +11,19 @@ use Rattle.dg_meaning.specs.Moves.{path_of, goals_at, first_alone, inside, enter
 use Rattle.dg_meaning.specs.inside.Context.{Live, Way as WayOn, tags_of, cut_to, IsNewest}
 use Rattle.dg_meaning.specs.inside.Keeps.{open_at}
 use Rattle.dg_interp.specs.Runnable.{AreRunnable, IsRunnableRule}
+use Rattle.dg_choices.specs.inside.Cutting.{cut_of}
 use Rattle.dg_unify.specs.Store.{Store, Saved, told, Holds}
 use Rattle.dg_unify.specs.inside.Engines.{Agrees, GoBackTo as GoBack}
 use Rattle.dg_unify.specs.declared.bindings.Ref.{Ref}
-use Rattle.dg_interp.specs.declared.frames.Env.{Env}
-use Rattle.dg_interp.specs.declared.frames.Mark.{Mark}
-use Rattle.dg_interp.specs.declared.frames.Mark.TheVariants.{Nothing, AnswerOf, CutTo, RefuseTo, Exhausted, LeavePart, Keep as KeepIn}
-use Rattle.dg_interp.specs.declared.frames.Whole.{Whole as TheWhole}
-use Rattle.dg_interp.specs.declared.frames.Whole.TheVariants.{List as InList, Sum}
-use Rattle.dg_interp.specs.declared.frames.Frame.{Frame}
-use Rattle.dg_interp.specs.declared.frames.Left.{Left}
-use Rattle.dg_interp.specs.declared.frames.Left.TheVariants.{Rules, Lists, Ways, Way, Behind, TakeOut, Things}
-use Rattle.dg_interp.specs.declared.frames.Choice.{Choice}
+use Rattle.dg_choices.specs.declared.frames.Env.{Env}
+use Rattle.dg_choices.specs.declared.frames.Mark.{Mark}
+use Rattle.dg_choices.specs.declared.frames.Mark.TheVariants.{Nothing, AnswerOf, CutTo, RefuseTo, Exhausted, LeavePart, Keep as KeepIn}
+use Rattle.dg_choices.specs.declared.frames.Whole.{Whole as TheWhole}
+use Rattle.dg_choices.specs.declared.frames.Whole.TheVariants.{List as InList, Sum}
+use Rattle.dg_choices.specs.declared.frames.Frame.{Frame}
+use Rattle.dg_choices.specs.declared.frames.Left.{Left}
+use Rattle.dg_choices.specs.declared.frames.Left.TheVariants.{Rules, Lists, Ways, Way, Behind, TakeOut, Things}
+use Rattle.dg_choices.specs.declared.frames.Choice.{Choice}
 use Rattle.dg_lasting.specs.Finding.{counted}
 use Rattle.dg_meaning.specs.inside.Finding.{may_find}
 use Rattle.dg_interp.specs.inside.Trying.{trial_branches}
@@ -147,11 +148,6 @@ abbrev pub TakesNewest : Left → ℕ → World → Type 0
 TakesNewest (TakeOut whole into frame) t w = IsNewest t (tags_of w.gathered)
 TakesNewest other t w = Unit {0}
 
--- The oldest tag that was cut inside an open stoppable part; the cut waits until the part is left.
-abbrev pub cut_of : Left → Option ℕ
-cut_of (Behind frame cut) = cut
-cut_of other = None
-
 -- Choices without those that a cut drops.
 abbrev pub cut_if : Option ℕ → List Live → List Live
 cut_if None cs = cs
@@ -238,11 +234,6 @@ GoBackTo refs heap trail os ms = GoBack (λ o. o.place) (λ o. take o.refs refs)
 abbrev pub floor_of : List Choice → ℕ
 floor_of [] = 0
 floor_of (o ∷ os) = o.height
-
--- A cut is noted, with one that waits already: the older one counts.
-abbrev pub noting : ℕ → Option ℕ → Option ℕ
-noting t None = Some t
-noting t (Some u) = Some (min u t)
 
 -- How many choices there are, and branches that they have left.
 abbrev pub all_left : List Choice → ℕ

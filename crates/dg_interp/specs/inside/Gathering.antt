@@ -13,8 +13,8 @@ use Rattle.dg_meaning.specs.Moves.{path_of, begun, goals_at, inside, move_of, ta
 use Rattle.dg_meaning.specs.Transcript.{Run}
 use Rattle.dg_unify.specs.Store.{told}
 use Rattle.dg_unify.specs.declared.bindings.Ref.{Ref}
-use Rattle.dg_interp.specs.declared.frames.Whole.{Whole}
-use Rattle.dg_interp.specs.declared.frames.Whole.TheVariants.{List as InList, Sum}
+use Rattle.dg_choices.specs.declared.frames.Whole.{Whole}
+use Rattle.dg_choices.specs.declared.frames.Whole.TheVariants.{List as InList, Sum}
 use Rattle.dg_interp.specs.declared.engine.Engine.{Engine}
 use Rattle.dg_interp.specs.inside.Frames.{values_in, whole_of}
 use Rattle.dg_interp.specs.inside.Engine.{There, store_in, open_in, steps_of}

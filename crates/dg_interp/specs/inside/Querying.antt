@@ -7,8 +7,8 @@ use Rattle.dg_meaning.specs.Transcript.{Run}
 use Rattle.dg_meaning.specs.World.{Game, World}
 use Rattle.dg_unify.specs.Store.{told}
 use Rattle.dg_unify.specs.declared.bindings.Ref.{Ref}
-use Rattle.dg_interp.specs.declared.frames.Mark.{Mark}
-use Rattle.dg_interp.specs.declared.frames.Mark.TheVariants.{Nothing, CutTo}
+use Rattle.dg_choices.specs.declared.frames.Mark.{Mark}
+use Rattle.dg_choices.specs.declared.frames.Mark.TheVariants.{Nothing, CutTo}
 use Rattle.dg_interp.specs.declared.engine.Engine.{Engine}
 use Rattle.dg_interp.specs.inside.Engine.{There, store_in, steps_of}
 

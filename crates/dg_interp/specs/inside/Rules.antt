@@ -12,7 +12,7 @@ use Rattle.dg_unify.specs.Store.{Store, trail_of}
 use Rattle.dg_unify.specs.declared.bindings.Ref.{Ref}
 use Rattle.dg_unify.specs.declared.bindings.Full.{Full}
 use Rattle.dg_unify.specs.declared.bindings.Full.TheVariants as full
-use Rattle.dg_interp.specs.declared.frames.Env.{Env}
+use Rattle.dg_choices.specs.declared.frames.Env.{Env}
 use Rattle.dg_terms.specs.Terms.{Appended, Written}
 
 -- What a rule takes of the heap: 6 cells, its variables and its head.

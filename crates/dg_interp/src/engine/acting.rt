@@ -6,8 +6,8 @@ ghost use Rattle.dg_interp.specs.inside.Engine.{IsReady, TakesAt, Branches, Full
 ghost use Rattle.dg_lasting.specs.Lasting.{picks_in, MayPick};
 
 use super::Engine;
-use crate::frames::{Frame, Query, Whole};
 use dg_base::Goal;
+use dg_choices::{Frame, Query, Whole};
 use dg_lasting::{Lack, stored};
 use dg_unify::Full;
 

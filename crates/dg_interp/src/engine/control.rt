@@ -5,8 +5,8 @@ ghost use Rattle.dg_interp.specs.Runnable.{AreRunnable};
 ghost use Rattle.dg_interp.specs.inside.Engine.{IsReady, TakesAt, Branches, FullAt, IsAgain, store_in};
 
 use super::Engine;
-use crate::frames::{Frame, Left, Mark};
 use dg_base::{Goal, Items};
+use dg_choices::{Frame, Left, Mark, tested};
 use dg_unify::{Bindings, Full};
 
 impl<'p> Engine<'p> {
@@ -109,12 +109,7 @@ impl<'p> Engine<'p> {
             ..self.here
         };
         self.push(first)?;
-        let test = Frame {
-            goals: test,
-            mark: Mark::CutTo(self.newest + 1),
-            behind: self.frames.len(),
-            ..self.here
-        };
+        let test = tested(self.here, test, self.newest + 1, self.frames.len());
         let other = Frame {
             goals: other,
             mark: Mark::Nothing,

@@ -5,7 +5,7 @@ ghost use Rattle.dg_terms.specs.Passing.{IsFirst};
 ghost use Rattle.std.specs.Prelude.{length};
 
 use super::{Engine, stretch};
-use crate::frames::Env;
+use dg_choices::Env;
 use dg_unify::{Bindings, View};
 
 impl<'p> Engine<'p> {

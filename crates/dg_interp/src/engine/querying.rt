@@ -7,8 +7,8 @@ ghost use Rattle.dg_unify.specs.Store.{Holds};
 
 use super::{Engine, stretch};
 use crate::bodies::{body_at, enter_body};
-use crate::frames::{Env, Frame, Mark};
 use dg_base::Term;
+use dg_choices::{Env, Frame, Mark};
 use dg_terms::{write_both, write_term};
 use dg_unify::{Full, Ref};
 

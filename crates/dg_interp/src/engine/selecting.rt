@@ -6,8 +6,8 @@ ghost use Rattle.dg_interp.specs.inside.Engine.{IsReady, TakesAt, Branches, Full
 ghost use Rattle.dg_lasting.specs.Lasting.{picks_in, MayPick};
 
 use super::Engine;
-use crate::frames::{Frame, Mark};
 use dg_base::{Goal, Items, Mode};
+use dg_choices::{Frame, Mark};
 use dg_unify::Full;
 
 /// The list of goals at a place, or none.

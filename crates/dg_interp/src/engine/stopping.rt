@@ -2,11 +2,11 @@
 ghost use Rattle.std.specs.Prelude.{◌≡◌, ◌+◌, ◌<◌, ◌^◌, eqb, IfOk, IfErr};
 ghost use Rattle.dg_base.specs.declared.program.Goal.TheVariants.{Stoppable as StoppableGoal};
 ghost use Rattle.dg_interp.specs.Runnable.{AreRunnable};
-ghost use Rattle.dg_interp.specs.inside.Engine.{IsReady, IsSound, TakesAt, StopsAt, Branches, Stops, StopsOn, StopsTo, part_at, FullAt, store_in};
+ghost use Rattle.dg_interp.specs.inside.Engine.{IsReady, IsSound, TakesAt, Branches, Stops, StopsOn, StopsTo, part_at, FullAt, store_in};
 
 use super::{Engine, cut, waiting};
-use crate::frames::{Choice, Frame, Left, Mark};
 use dg_base::Goal;
+use dg_choices::{Choice, Frame, Left, Mark};
 use dg_unify::{Bindings, Full};
 
 /// What goes on behind a stoppable part of this tag, and what its leaving cuts to.

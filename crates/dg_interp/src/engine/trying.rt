@@ -2,7 +2,7 @@
 ghost use Rattle.std.specs.Prelude.{◌≡◌, ◌+◌, ◌-◌, ◌<◌, ◌≤◌, ◌^◌, true, All, IfOk, IfErr, OnOk, length, if◌then◌else◌};
 ghost use Rattle.dg_meaning.specs.Facts.{kinds_of};
 ghost use Rattle.dg_unify.specs.Store.{Holds};
-ghost use Rattle.dg_interp.specs.declared.frames.Left.TheVariants.{Things};
+ghost use Rattle.dg_choices.specs.declared.frames.Left.TheVariants.{Things};
 ghost use Rattle.dg_interp.specs.inside.Frames.{IsLeft, EndsBy, stays_with};
 ghost use Rattle.dg_interp.specs.inside.Engine.{IsReady, IsSound, BeginsAt, HasPlace, Branches, Tries, FullAt, branches_left, store_in};
 ghost use Rattle.dg_meaning.specs.inside.Finding.{may_find as the_may_find};
@@ -11,8 +11,8 @@ ghost use Rattle.dg_interp.specs.inside.Finding.{FindsAt, TriesObjectsAt};
 use super::querying::body_mark;
 use super::{Engine, keep, stretch};
 use crate::finding::simple;
-use crate::frames::{Env, Frame, Left, Trial};
 use dg_base::Simple;
+use dg_choices::{Env, Frame, Left, Trial};
 use dg_lasting::{found, may_find, objects_of};
 use dg_terms::unify_all;
 use dg_unify::{Bindings, Full, Mark as Place};

@@ -1,4 +1,4 @@
-use Rattle.dg_interp.specs.declared.frames.Whole.TheVariants.{List as InList, Sum as InSum}
+use Rattle.dg_choices.specs.declared.frames.Whole.TheVariants.{List as InList, Sum as InSum}
 use Rattle.dg_interp.proofs.Controls.{gathering_runnable}
 use Rattle.dg_interp.proofs.engine.Engine.act.Goals as goal
 

@@ -1,6 +1,6 @@
 use Rattle.std.proofs.Common.{◌≤◌, ◌+◌, refl, length, rules}
 use Rattle.dg_base.specs.declared.program.Goal.TheVariants.{Ask}
-use Rattle.dg_interp.specs.declared.frames.Left.TheVariants.{Rules}
+use Rattle.dg_choices.specs.declared.frames.Left.TheVariants.{Rules}
 use Rattle.dg_interp.specs.inside.Engine.{store_in, FailsAt, TakesAt, BeginsAt}
 use Rattle.dg_interp.proofs.Branches.{went_on_from, went_wrong_from, full_from, full_made, back_made}
 use Rattle.dg_interp.proofs.Asks.{args_full, nothing_in, failing_sound, ask_limits, asks_none, asking_sound, asking_left, asking_place, asking_limits, asks_some}

@@ -1,5 +1,5 @@
 use Rattle.std.proofs.Common.{length}
-use Rattle.dg_interp.specs.declared.frames.Left.TheVariants.{Ways}
+use Rattle.dg_choices.specs.declared.frames.Left.TheVariants.{Ways}
 use Rattle.dg_interp.proofs.Begins.{one_way_begun, part_begun}
 use Rattle.dg_interp.proofs.BeginFrames.{ways_begin}
 use Rattle.dg_interp.proofs.engine.Engine.begin.Goals as goal

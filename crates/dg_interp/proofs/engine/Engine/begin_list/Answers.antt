@@ -1,7 +1,7 @@
 use Rattle.std.proofs.Common.{arith, length, take, drop, ◌-◌, ◌≡◌, ◌≤◌, rules, sym, subst}
 use Rattle.std.specs.List.{All}
 use Rattle.dg_interp.specs.Runnable.{AreRunnable}
-use Rattle.dg_interp.specs.declared.frames.Left.TheVariants.{Lists}
+use Rattle.dg_choices.specs.declared.frames.Left.TheVariants.{Lists}
 use Rattle.dg_interp.proofs.Turns.{all_first, all_rest, first_and_rest}
 use Rattle.dg_interp.proofs.Branches.{on_ok, on_err}
 use Rattle.dg_interp.proofs.BeginFrames.{list_begins_at}

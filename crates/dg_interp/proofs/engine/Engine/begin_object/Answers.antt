@@ -1,7 +1,7 @@
 use Rattle.std.proofs.Common.{◌≡◌, ◌+◌, true, refl, length, rules}
 use Rattle.std.specs.Prelude.{nat_lt}
 use Rattle.dg_meaning.specs.Facts.{kinds_of}
-use Rattle.dg_interp.specs.declared.frames.Left.TheVariants.{Things}
+use Rattle.dg_choices.specs.declared.frames.Left.TheVariants.{Things}
 use Rattle.dg_meaning.specs.inside.Finding.{may_find}
 use Rattle.dg_interp.specs.inside.Engine.{store_in, BeginsAt}
 use Rattle.dg_interp.proofs.Branches.{tries_made, full_made}

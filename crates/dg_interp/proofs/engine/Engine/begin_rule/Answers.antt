@@ -1,5 +1,5 @@
 use Rattle.std.proofs.Common.{◌≤◌, refl, length, rules}
-use Rattle.dg_interp.specs.declared.frames.Left.TheVariants.{Rules}
+use Rattle.dg_choices.specs.declared.frames.Left.TheVariants.{Rules}
 use Rattle.dg_interp.specs.inside.Engine.{store_in, BeginsAt}
 use Rattle.dg_interp.proofs.Asks.{nothing_in}
 use Rattle.dg_interp.proofs.Branches.{full_made, tries_made, fewer_made}

@@ -1,6 +1,6 @@
 use Rattle.std.proofs.Common.{refl, rules}
 use Rattle.dg_base.specs.declared.program.Goal.TheVariants.{Either}
-use Rattle.dg_interp.specs.declared.frames.Left.TheVariants.{Lists}
+use Rattle.dg_choices.specs.declared.frames.Left.TheVariants.{Lists}
 use Rattle.dg_interp.specs.inside.Engine.{store_in, TakesAt, OpensAt, FailsAt}
 use Rattle.dg_interp.proofs.Branches.{full_made, back_made}
 use Rattle.dg_interp.proofs.Controls.{branches_made, pushed_means, pushed_here, pushed_leads, pushed_room, either_opens, either_fails, no_lists}

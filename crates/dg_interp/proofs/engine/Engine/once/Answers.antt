@@ -1,6 +1,6 @@
 use Rattle.std.proofs.Common.{rules, ◌≡◌, length, arith, ◌+◌}
 use Rattle.dg_base.specs.declared.program.Goal.TheVariants.{Once}
-use Rattle.dg_interp.specs.declared.frames.Mark.TheVariants.{CutTo}
+use Rattle.dg_choices.specs.declared.frames.Mark.TheVariants.{CutTo}
 use Rattle.dg_interp.specs.inside.Frames.{IsFrame}
 use Rattle.dg_interp.specs.inside.Engine.{store_in, TakesAt}
 use Rattle.dg_interp.proofs.Branches.{full_from, went_on_from}

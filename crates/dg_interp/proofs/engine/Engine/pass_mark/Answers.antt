@@ -1,21 +1,25 @@
-use Rattle.std.proofs.Common.{refl}
-use Rattle.dg_interp.specs.inside.Engine.{StandsAt}
+use Rattle.std.proofs.Common.{◌≡◌, Bool, true, false, Vec, Global, refl, sym, subst}
+use Rattle.dg_choices.specs.declared.frames.Choice.{Choice}
+use Rattle.dg_interp.specs.inside.Engine.{StandsAt, MarkPassed}
 use Rattle.dg_interp.specs.inside.Gathering.{KeepsAt}
-use Rattle.dg_interp.proofs.Places.{not_true, not_false, nothing_passed, answer_passed, cut_passed, tag_passed, refused, back_passed, part_left, marked_off, keep_ready, keep_leads, value_passed}
+use Rattle.dg_interp.proofs.Places.{nothing_passed, answer_passed, cut_passed, tag_passed, refused, back_passed, part_left, marked_off, keep_ready, keep_leads, value_passed}
 use Rattle.dg_interp.proofs.Gathered.{lacks_from}
 use Rattle.dg_interp.proofs.engine.Engine.pass_mark.Goals as goal
 
 pub returns-in-Nothing-clause-passed : goal.returns-in-Nothing-clause-passed
 returns-in-Nothing-clause-passed c = nothing_passed c.args.self.now c.requires.ready c.requires.done c.in-Nothing.is
 
-pub returns-then-not-query-clause-passed : goal.returns-then-not-query-clause-passed
-returns-then-not-query-clause-passed c = cut_passed c.args.self.now c.requires.ready c.requires.done c.in-AnswerOf.query c.cut.new.choices c.in-AnswerOf.is (not_true _ c.if-not-query.true) c.cut.ensures
-
-pub returns-else-not-query-clause-passed : goal.returns-else-not-query-clause-passed
-returns-else-not-query-clause-passed c = answer_passed c.args.self.now c.requires.ready c.requires.done c.in-AnswerOf.query c.in-AnswerOf.is (not_false _ c.if-not-query.false)
+pub returns-in-AnswerOf-clause-passed : goal.returns-in-AnswerOf-clause-passed
+returns-in-AnswerOf-clause-passed c = by c.in-AnswerOf.query.many refl
+  where
+    by : (b : Bool) → c.in-AnswerOf.query.many ≡ b → MarkPassed c.args.self.now (record (marked_off c.args.self.now) { choices = c.answered.new.choices })
+    by true e =
+        subst (λ (cs : Vec Choice Global). MarkPassed c.args.self.now (record (marked_off c.args.self.now) { choices = cs })) (sym (c.answered.ensures.many e))
+        (answer_passed c.args.self.now c.requires.ready c.requires.done c.in-AnswerOf.query c.in-AnswerOf.is e)
+    by false e = cut_passed c.args.self.now c.requires.ready c.requires.done c.in-AnswerOf.query c.answered.new.choices c.in-AnswerOf.is e (c.answered.ensures.one e)
 
 pub returns-in-CutTo-clause-passed : goal.returns-in-CutTo-clause-passed
-returns-in-CutTo-clause-passed c = tag_passed c.args.self.now c.requires.ready c.requires.done c.in-CutTo.tag c.cut-in-CutTo.new.choices c.cut-in-CutTo.ensures c.in-CutTo.is
+returns-in-CutTo-clause-passed c = tag_passed c.args.self.now c.requires.ready c.requires.done c.in-CutTo.tag c.cut.new.choices c.cut.ensures c.in-CutTo.is
 
 pub returns-in-RefuseTo-clause-passed : goal.returns-in-RefuseTo-clause-passed
 returns-in-RefuseTo-clause-passed c = refused c.args.self.now c.requires.ready c.requires.done c.in-RefuseTo.tag c.cut-in-RefuseTo.new.choices c.args.self.now.stoppable c.cut-in-RefuseTo.ensures c.in-RefuseTo.is

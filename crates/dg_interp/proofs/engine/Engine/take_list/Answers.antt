@@ -1,5 +1,5 @@
 use Rattle.std.proofs.Common.{◌-◌, subst, arith, refl}
-use Rattle.dg_interp.specs.declared.frames.Whole.TheVariants.{List as InList}
+use Rattle.dg_choices.specs.declared.frames.Whole.TheVariants.{List as InList}
 use Rattle.dg_lasting.specs.Lasting.{Closes}
 use Rattle.dg_interp.specs.inside.Giving.{UnifiesAt}
 use Rattle.dg_interp.specs.inside.Gathering.{TakesOutAt}

@@ -1,7 +1,7 @@
 use Rattle.std.proofs.Common.{ap, ◌∙◌, refl}
 use Rattle.dg_unify.proofs.StoreLemmas.{holds_some}
-use Rattle.dg_interp.specs.declared.frames.Left.TheVariants.{TakeOut}
-use Rattle.dg_interp.specs.declared.frames.Whole.TheVariants.{List as InList, Sum as InSum}
+use Rattle.dg_choices.specs.declared.frames.Left.TheVariants.{TakeOut}
+use Rattle.dg_choices.specs.declared.frames.Whole.TheVariants.{List as InList, Sum as InSum}
 use Rattle.dg_interp.specs.inside.Frames.{stretch}
 use Rattle.dg_interp.specs.inside.Gathering.{TakesOutAt}
 use Rattle.dg_interp.specs.inside.Engine.{store_in, BeginsAt}

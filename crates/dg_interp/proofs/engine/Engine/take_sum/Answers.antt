@@ -1,6 +1,6 @@
 use Rattle.std.proofs.Common.{◌-◌, subst, arith, refl, Some, None}
 use Rattle.dg_unify.proofs.StoreLemmas.{holds_some, kept_holds}
-use Rattle.dg_interp.specs.declared.frames.Whole.TheVariants.{Sum as InSum}
+use Rattle.dg_choices.specs.declared.frames.Whole.TheVariants.{Sum as InSum}
 use Rattle.dg_lasting.specs.Lasting.{Closes}
 use Rattle.dg_interp.specs.inside.Giving.{UnifiesAt, GivesAt}
 use Rattle.dg_interp.specs.inside.Gathering.{TakesOutAt}

@@ -1,7 +1,7 @@
 use Rattle.std.proofs.Common.{◌≡◌, vec_len}
 use Rattle.std.specs.Prelude.{reverse}
-use Rattle.dg_interp.specs.inside.Engine.{older_than}
-use Rattle.dg_interp.proofs.engine.cut.Given as goal
+use Rattle.dg_choices.specs.inside.Cutting.{older_than}
+use Rattle.dg_choices.proofs.cutting.cut.Given as goal
 
 abbrev pub invariant-newest : goal.invariant-newest
 invariant-newest l = older_than l.tag (reverse l.choices.items) ≡ older_than l.initial.tag (reverse l.initial.choices.items)
