@@ -63,3 +63,8 @@ pub mod Counting
 pub mod Encoding
 pub mod Lettering
 pub mod Spacing
+pub mod Absent
+pub mod NoNumbers
+pub mod Deciding
+pub mod TwoNumbers
+pub mod Calculating

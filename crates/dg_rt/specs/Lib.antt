@@ -16,6 +16,8 @@ pub mod Choices
 pub mod Rules
 pub mod Queries
 pub mod Operands
+pub mod Conditions
+pub mod Arithmetic
 pub mod Tables
 pub mod Gaps
 pub mod Pieces

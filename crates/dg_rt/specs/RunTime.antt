@@ -17,6 +17,8 @@ use Rattle.dg_rt.specs.declared.world.TheConstants.{VALUE_ACTS, SET_ACTS, CLEAR_
 use Rattle.dg_rt.specs.declared.gaps.TheConstants.{SEPARATE_ACTS, FIRST_ACTS, ASK_SPACES_ACTS}
 use Rattle.dg_rt.specs.declared.pieces.TheConstants.{PRINT_MARK_ACTS, PRINT_NUMBER_ACTS, LETTER_ACTS, PRINT_LETTERS_ACTS}
 use Rattle.dg_rt.specs.declared.keeping.TheConstants.{MOVE_ACTS, CELLS_ACTS}
+use Rattle.dg_rt.specs.declared.conditions.TheConstants.{IF_NUMBER_ACTS, IF_WORD_ACTS, IF_UNKNOWN_ACTS, IF_LIST_ACTS, IF_EMPTY_ACTS, IF_NON_EMPTY_ACTS, IF_BOUND_ACTS, IF_FULL_ACTS, IF_UNBOUND_ACTS, IF_LESS_ACTS}
+use Rattle.dg_rt.specs.declared.arithmetic.TheConstants.{PLUS_ACTS, MINUS_ACTS, TIMES_ACTS, DIVIDE_ACTS, MODULO_ACTS, THROW_ACTS}
 use Rattle.dg_rt.specs.Areas.{IsMapped}
 
 -- A routine of so many locals.
@@ -80,11 +82,25 @@ letter_routines = routine_of 1 LETTER_ACTS ∷ routine_of 3 PRINT_LETTERS_ACTS �
 abbrev pub space_routines : List Routine
 space_routines = routine_of 2 ASK_SPACES_ACTS ∷ []
 
+-- Those that test values.
+abbrev pub condition_routines : List Routine
+condition_routines =
+    routine_of 2 IF_NUMBER_ACTS ∷ routine_of 2 IF_WORD_ACTS ∷ routine_of 2 IF_UNKNOWN_ACTS ∷ routine_of 2 IF_LIST_ACTS ∷ routine_of 2 IF_EMPTY_ACTS
+    ∷ routine_of 2 IF_NON_EMPTY_ACTS ∷ routine_of 2 IF_BOUND_ACTS ∷ routine_of 2 IF_FULL_ACTS ∷ routine_of 2 IF_UNBOUND_ACTS
+    ∷ routine_of 3 IF_LESS_ACTS ∷ []
+
+-- Those that make numbers.
+abbrev pub arithmetic_routines : List Routine
+arithmetic_routines =
+    routine_of 3 PLUS_ACTS ∷ routine_of 3 MINUS_ACTS ∷ routine_of 3 TIMES_ACTS ∷ routine_of 3 DIVIDE_ACTS ∷ routine_of 3 MODULO_ACTS
+    ∷ routine_of 3 THROW_ACTS ∷ []
+
 -- All of them. The first has number 1, since a story begins with routine 0.
 abbrev pub runtime : List Routine
 runtime =
     value_routines ++ (closing_routines ++ (frame_routines ++ (rule_routines ++ (query_routines ++ (operand_routines
-    ++ (world_routines ++ (printing_routines ++ (keeping_routines ++ (letter_routines ++ space_routines)))))))))
+    ++ (world_routines ++ (printing_routines ++ (keeping_routines ++ (letter_routines ++ (space_routines
+    ++ (condition_routines ++ arithmetic_routines)))))))))))
 
 -- The run-time stands in a program: its areas may be written, and each routine has its number.
 pub record HasRunTime (p : Program) : Type 0 where

@@ -1,6 +1,8 @@
 // What the routines do: each function's clause is a law of one of them.
+ghost use Rattle.dg_rt.specs.Arithmetic.{ArithWorks, ThrowWorks};
 ghost use Rattle.dg_rt.specs.Charges.{ChargeWorks};
 ghost use Rattle.dg_rt.specs.Closings.{ClosingsWork};
+ghost use Rattle.dg_rt.specs.Conditions.{OrderWorks, TestsWork};
 ghost use Rattle.dg_rt.specs.Copies.{CopyWorks};
 ghost use Rattle.dg_rt.specs.CopiesIn.{CopyInWorks};
 ghost use Rattle.dg_rt.specs.Choices.{CommitWorks, CutWorks, FailWorks, OpenInnerWorks, OpenWorks, UnstopWorks};
@@ -180,6 +182,26 @@ pub fn move_works()
 /// The routine that tells how much a copy takes does so.
 pub fn cells_works()
     ensures { CellsWorks }
+{}
+
+/// The routines that test a value go on or fail by what it is.
+pub fn tests_work()
+    ensures { TestsWork }
+{}
+
+/// The routine that compares two numbers does so.
+pub fn order_works()
+    ensures { OrderWorks }
+{}
+
+/// The routines that make a number of two do so.
+pub fn arith_works()
+    ensures { ArithWorks }
+{}
+
+/// The routine that throws a number does so.
+pub fn throw_works()
+    ensures { ThrowWorks }
 {}
 
 /// The routines can be assembled.

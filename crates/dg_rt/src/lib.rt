@@ -2,8 +2,10 @@
 #![tactic(auto)]
 
 mod acts;
+pub mod arithmetic;
 mod choices;
 mod closings;
+pub mod conditions;
 mod copies;
 mod frames;
 mod gaps;
@@ -32,12 +34,12 @@ pub use gaps::{ASK_SPACES_ACTS, FIRST_ACTS, SEPARATE_ACTS};
 pub use heap::CHARGE_ACTS;
 pub use keeping::{CELLS_ACTS, MOVE_ACTS};
 pub use laws::{
-    ask_works, body_works, capture_works, cells_works, charge_works, closings_work, commit_works,
-    copy_in_works, copy_works, cut_works, enter_works, fail_works, first_works, found_works,
-    full_works, key_works, leave_works, match_works, matched_works, move_works, none_works,
-    open_inner_works, open_works, operands_work, pieces_work, runtime_fits, separate_works,
-    spaces_work, tail_call_works, undo_gives_back, undo_unwinds, unify_works, unstop_works,
-    var_works, world_works,
+    arith_works, ask_works, body_works, capture_works, cells_works, charge_works, closings_work,
+    commit_works, copy_in_works, copy_works, cut_works, enter_works, fail_works, first_works,
+    found_works, full_works, key_works, leave_works, match_works, matched_works, move_works,
+    none_works, open_inner_works, open_works, operands_work, order_works, pieces_work,
+    runtime_fits, separate_works, spaces_work, tail_call_works, tests_work, throw_works,
+    undo_gives_back, undo_unwinds, unify_works, unstop_works, var_works, world_works,
 };
 pub use operands::{FULL_ACTS, NUMBER_ACTS, OBJECT_ACTS, SIMPLE_ACTS};
 pub use pieces::{LETTER_ACTS, PRINT_LETTERS_ACTS, PRINT_MARK_ACTS, PRINT_NUMBER_ACTS};

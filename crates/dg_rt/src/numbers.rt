@@ -161,3 +161,51 @@ pub const PRINT_LETTERS: u16 = 53;
 
 /// Asks for so many spaces.
 pub const ASK_SPACES: u16 = 54;
+
+/// Goes on where a value is a number, and else fails.
+pub const IF_NUMBER: u16 = 55;
+
+/// The same of a word.
+pub const IF_WORD: u16 = 56;
+
+/// The same of a word that isn't one of the program.
+pub const IF_UNKNOWN: u16 = 57;
+
+/// The same of a list.
+pub const IF_LIST: u16 = 58;
+
+/// The same of the empty list.
+pub const IF_EMPTY: u16 = 59;
+
+/// The same of a pair.
+pub const IF_NON_EMPTY: u16 = 60;
+
+/// The same of what is no variable.
+pub const IF_BOUND: u16 = 61;
+
+/// The same of a value in which no variable stands.
+pub const IF_FULL: u16 = 62;
+
+/// The same of a variable.
+pub const IF_UNBOUND: u16 = 63;
+
+/// The same of a number and a greater one.
+pub const IF_LESS: u16 = 64;
+
+/// The sum of two numbers.
+pub const PLUS: u16 = 65;
+
+/// Their difference.
+pub const MINUS: u16 = 66;
+
+/// Their product.
+pub const TIMES: u16 = 67;
+
+/// Their quotient.
+pub const DIVIDE: u16 = 68;
+
+/// What their quotient leaves.
+pub const MODULO: u16 = 69;
+
+/// A number that is thrown, from one to another.
+pub const THROW: u16 = 70;

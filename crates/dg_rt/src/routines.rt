@@ -2,10 +2,15 @@
 ghost use Rattle.std.specs.Prelude.{◌≡◌, ◌∷◌, ◌++◌, [], IfOk, OnOk};
 ghost use Rattle.dg_rt.specs.RunTime as spec;
 
+use crate::arithmetic::{DIVIDE_ACTS, MINUS_ACTS, MODULO_ACTS, PLUS_ACTS, THROW_ACTS, TIMES_ACTS};
 use crate::choices::{COMMIT_ACTS, CUT_ACTS, FAIL_ACTS, OPEN_ACTS, OPEN_INNER_ACTS, UNSTOP_ACTS};
 use crate::closings::{
     AUX_LIMIT_ACTS, DONE_ACTS, FAILED_ACTS, HEAP_LIMIT_ACTS, KEEP_LIMIT_ACTS, NEWLINE_ACTS,
     STOPPED_ACTS, TRAIL_LIMIT_ACTS,
+};
+use crate::conditions::{
+    IF_BOUND_ACTS, IF_EMPTY_ACTS, IF_FULL_ACTS, IF_LESS_ACTS, IF_LIST_ACTS, IF_NON_EMPTY_ACTS,
+    IF_NUMBER_ACTS, IF_UNBOUND_ACTS, IF_UNKNOWN_ACTS, IF_WORD_ACTS,
 };
 use crate::copies::{COPY_IN_ACTS, COPY_OUT_ACTS};
 use crate::frames::{CAPTURE_ACTS, ENTER_ACTS, VAR_ACTS};
@@ -170,6 +175,36 @@ impl Writer {
         self.put(2, &ASK_SPACES_ACTS)?;
         Ok(())
     }
+
+    // Those that test values.
+    fn put_conditions(&mut self) -> Result<(), AllocError>
+        ensures { OnOk result (self.new.all ≡ self.old.all ++ spec.condition_routines) }
+    {
+        self.put(2, &IF_NUMBER_ACTS)?;
+        self.put(2, &IF_WORD_ACTS)?;
+        self.put(2, &IF_UNKNOWN_ACTS)?;
+        self.put(2, &IF_LIST_ACTS)?;
+        self.put(2, &IF_EMPTY_ACTS)?;
+        self.put(2, &IF_NON_EMPTY_ACTS)?;
+        self.put(2, &IF_BOUND_ACTS)?;
+        self.put(2, &IF_FULL_ACTS)?;
+        self.put(2, &IF_UNBOUND_ACTS)?;
+        self.put(3, &IF_LESS_ACTS)?;
+        Ok(())
+    }
+
+    // Those that make numbers.
+    fn put_arithmetic(&mut self) -> Result<(), AllocError>
+        ensures { OnOk result (self.new.all ≡ self.old.all ++ spec.arithmetic_routines) }
+    {
+        self.put(3, &PLUS_ACTS)?;
+        self.put(3, &MINUS_ACTS)?;
+        self.put(3, &TIMES_ACTS)?;
+        self.put(3, &DIVIDE_ACTS)?;
+        self.put(3, &MODULO_ACTS)?;
+        self.put(3, &THROW_ACTS)?;
+        Ok(())
+    }
 }
 
 /// All of them, in the order of their numbers, the first of which is 1: a story begins with routine 0.
@@ -191,5 +226,7 @@ pub fn runtime(alloc: Global) -> Result<Items<Routine>, AllocError>
     writer.put_keeping()?;
     writer.put_letters()?;
     writer.put_spaces()?;
+    writer.put_conditions()?;
+    writer.put_arithmetic()?;
     Ok(writer.all)
 }

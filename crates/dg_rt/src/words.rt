@@ -31,6 +31,9 @@ pub const LETTERS: u16 = 33_444;
 /// How many cells the heap has.
 pub const HEAP_CELLS: u16 = 10_000;
 
+/// The greatest number.
+pub const MOST: u16 = 16_383;
+
 /// The word of the program's first word, behind those of numbers.
 pub const FIRST_WORD: u16 = 16_384;
 
