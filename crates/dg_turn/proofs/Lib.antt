@@ -52,3 +52,6 @@ pub mod TextTurn
 pub mod GapTurn
 pub mod SpacesTurn
 pub mod PaidTexts
+pub mod DecidingTurn
+pub mod MakingTurn
+pub mod PaidOperating

@@ -71,12 +71,12 @@ module _ (t : Telling) (plays : Playing t) (out : Outside) (x : ℕ) (m : Mid) (
   pub moves : (y n most : ℕ) (memory' locals' : List ℕ) (cells' : ℕ → ℕ) (sh' : Shape) (trail' : List ℕ) (m' : Mid) → ActsRun t.p 3500 19000 body.body body.body (routine_entered (state r.memory [] out.typed out.drawn out.output) body.locals (0, 0, 0)) (Returns y) (state memory' locals' out.typed out.drawn out.output) n → Holds t.p.world.layout memory' cells' → y < 65536 → MidIn t out.words sh' cells' trail' m' → n + 2 ≤ most → Comes t out y m' most z
   moves y n most memory' locals' cells' sh' trail' m' runs holds small mid le = moves_to out y n most memory' locals' cells' sh' trail' m' runs holds small mid le
 
-  -- Where they end the run, it is over.
-  pub closes_within : (f w : ℕ) → f < 3600 → body.locals + w ≤ 20000 → (n most : ℕ) (ending : Ending) (memory' locals' : List ℕ) → ActsRun t.p f w body.body body.body (routine_entered (state r.memory [] out.typed out.drawn out.output) body.locals (0, 0, 0)) (Stops AtQuit) (state memory' locals' out.typed out.drawn (out.output ++ closing (r.cells 28) ending)) n → n + 1 ≤ most → Closes t out ending most z
-  closes_within f w less fits n most ending memory' locals' runs le =
+  -- Where they end the run, with so many dice words drawn, it is over.
+  pub closes_drawn : (drawn' f w : ℕ) → f < 3600 → body.locals + w ≤ 20000 → (n most : ℕ) (ending : Ending) (memory' locals' : List ℕ) → ActsRun t.p f w body.body body.body (routine_entered (state r.memory [] out.typed out.drawn out.output) body.locals (0, 0, 0)) (Stops AtQuit) (state memory' locals' out.typed drawn' (out.output ++ closing (r.cells 28) ending)) n → n + 1 ≤ most → Closes t out ending most z
+  closes_drawn drawn' f w less fits n most ending memory' locals' runs le =
       let high = plays.has.mapped.room in
       let s0 = state r.memory [] out.typed out.drawn out.output in
-      let s1 = state memory' locals' out.typed out.drawn (out.output ++ closing (r.cells 28) ending) in
+      let s1 = state memory' locals' out.typed drawn' (out.output ++ closing (r.cells 28) ending) in
       let over = stops t.p t.story plays.stands 16 plays.labels t.pc plays.placed plays.from t.context s0 s1 x 3600 20000 f w n AtQuit body r.kept (plays.room r.memory out.typed out.output out.drawn) (register t.p s0 r.cells 16 r.holds (omega arith) (omega arith) (omega arith) ∙ ap word_is r.next_is) there less fits runs in
       record {
         at_end = over.0;
@@ -85,6 +85,9 @@ module _ (t : Telling) (plays : Playing t) (out : Outside) (x : ℕ) (m : Mid) (
         few = omega arith;
         ends = subst (λ (s : ZState). Ends t.p.world (suc n) s (record { end = ends.Quit; state = over.0 })) (sym r.is) over.2;
       }
+
+  pub closes_within : (f w : ℕ) → f < 3600 → body.locals + w ≤ 20000 → (n most : ℕ) (ending : Ending) (memory' locals' : List ℕ) → ActsRun t.p f w body.body body.body (routine_entered (state r.memory [] out.typed out.drawn out.output) body.locals (0, 0, 0)) (Stops AtQuit) (state memory' locals' out.typed out.drawn (out.output ++ closing (r.cells 28) ending)) n → n + 1 ≤ most → Closes t out ending most z
+  closes_within f w less fits n most ending memory' locals' runs le = closes_drawn out.drawn f w less fits n most ending memory' locals' runs le
 
   pub closes : (n most : ℕ) (ending : Ending) (memory' locals' : List ℕ) → ActsRun t.p 3500 19000 body.body body.body (routine_entered (state r.memory [] out.typed out.drawn out.output) body.locals (0, 0, 0)) (Stops AtQuit) (state memory' locals' out.typed out.drawn (out.output ++ closing (r.cells 28) ending)) n → n + 1 ≤ most → Closes t out ending most z
   closes n most ending memory' locals' runs le = closes_within 3500 19000 (omega arith) (omega arith) n most ending memory' locals' runs le

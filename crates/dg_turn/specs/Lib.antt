@@ -12,4 +12,5 @@ pub mod LastQueries
 pub mod Stopping
 pub mod Bodies
 pub mod Texts
+pub mod Operating
 pub mod Paid

@@ -1,11 +1,16 @@
 -- What the turns cost is within what code is paid for: 800 instructions a unit, and 9,000 where rules are looked at. Hold it against
 -- dg_mid/specs/Units.antt.
 use Rattle.std.specs.Prelude.{◌≡◌, ℕ, ◌+◌, ◌*◌, ◌≤◌, List, [], ◌∷◌, length, Option, Some, Bool, All, encode_utf8_all}
+use Rattle.dg_base.specs.declared.program.ArithOp.{ArithOp}
+use Rattle.dg_base.specs.declared.program.CompareOp.{CompareOp}
 use Rattle.dg_base.specs.declared.program.GapKind.{GapKind}
 use Rattle.dg_base.specs.declared.program.Term.{Term}
+use Rattle.dg_base.specs.declared.program.TestKind.{TestKind}
 use Rattle.dg_base.specs.Goals.{option_terms}
 use Rattle.dg_base.specs.Sound.{IsPrintable}
 use Rattle.dg_meaning.specs.Values.{Value}
+use Rattle.dg_meaning.specs.Numbers.{calculated, thrown}
+use Rattle.dg_meaning.specs.Choosing.{die}
 use Rattle.dg_meaning.specs.World.{Print}
 use Rattle.dg_meaning.specs.Render.{spaces_from, nothing_met, met_from}
 use Rattle.dg_meaning.specs.Cells.{nodes_of}
@@ -19,6 +24,7 @@ use Rattle.dg_mid.specs.Step.{Setting, values, asked_by}
 use Rattle.dg_mid.specs.Units.{units, selects, dropped, dropped_once, undone, unwound}
 use Rattle.dg_turn.specs.Terms.{AreNodes}
 use Rattle.dg_turn.specs.Turns.{entering_most, equal_most}
+use Rattle.dg_turn.specs.Operating.{test_most, compare_most, made_of, making_paid}
 use Rattle.dg_turn.specs.Rules.{keyed}
 use Rattle.dg_turn.specs.Queries.{asking_most}
 use Rattle.dg_turn.specs.Bodies.{querying_most, body_most}
@@ -85,3 +91,17 @@ pub record TextsArePaid : Type 0 where
       6 ≤ paid g ps (Runs m)
   pub gap_n : (g : Setting) (ps : List Print) (m : Mid) (a : Term) (ops : List Op) → m.ops ≡ op.Do (action.GapN a) ∷ ops →
       AreNodes g.game.program (nodes_of (a ∷ [])) → gap_n_most g.game.program a m ≤ paid g ps (Runs m)
+
+-- So are those of a test, a comparison, arithmetic and a throw.
+pub record OperationsArePaid : Type 0 where
+  pub test : (g : Setting) (ps : List Print) (m : Mid) (kind : TestKind) (a : Term) (ops : List Op) → m.ops ≡ op.Do (action.Test kind a) ∷ ops →
+      AreNodes g.game.program (nodes_of (a ∷ [])) → test_most g.game.program kind a m ≤ paid g ps (Runs m)
+  pub compare : (g : Setting) (ps : List Print) (m : Mid) (f : CompareOp) (a b : Term) (ops : List Op) →
+      m.ops ≡ op.Do (action.Compare f a b) ∷ ops → AreNodes g.game.program (nodes_of (a ∷ b ∷ [])) →
+      compare_most g.game.program a b m ≤ paid g ps (Runs m)
+  pub arith : (g : Setting) (ps : List Print) (m : Mid) (f : ArithOp) (a b c : Term) (ops : List Op) →
+      m.ops ≡ op.Do (action.Arith f a b c) ∷ ops → AreNodes g.game.program (nodes_of (a ∷ b ∷ c ∷ [])) →
+      making_paid g.game.program a b c (made_of g.game.program (calculated f) a b m) m ≤ paid g ps (Runs m)
+  pub random : (g : Setting) (ps : List Print) (m : Mid) (a b c : Term) (ops : List Op) →
+      m.ops ≡ op.Do (action.Random a b c) ∷ ops → AreNodes g.game.program (nodes_of (a ∷ b ∷ c ∷ [])) →
+      making_paid g.game.program a b c (made_of g.game.program (thrown (die g.game.dice m.lasting.dice)) a b m) m ≤ paid g ps (Runs m)

@@ -3,7 +3,8 @@ ghost use Rattle.dg_turn.specs.Bodies.{BodyTurns, FindTurns, LastQueryTurns, Que
 ghost use Rattle.dg_turn.specs.Choices.{BackTurns, BranchTurns, OnceTurns};
 ghost use Rattle.dg_turn.specs.LastQueries.{LastTurns};
 ghost use Rattle.dg_turn.specs.Leaving.{JustTurns, ReturnTurns};
-ghost use Rattle.dg_turn.specs.Paid.{TextsArePaid, TurnsArePaid};
+ghost use Rattle.dg_turn.specs.Operating.{ArithTurns, CompareTurns, RandomTurns, TestTurns};
+ghost use Rattle.dg_turn.specs.Paid.{OperationsArePaid, TextsArePaid, TurnsArePaid};
 ghost use Rattle.dg_turn.specs.Queries.{AskBegins, AskTurns, FailBegins, FailEnds, FailTurns};
 ghost use Rattle.dg_turn.specs.Stopping.{DoneTurns, LeaveTurns, NoRuleTurns, RefuseTurns, ShieldTurns, StopTurns};
 ghost use Rattle.dg_turn.specs.Rules.{BeginTurns, FoundTurns, NoneTurns, SelectTurns};
@@ -159,6 +160,31 @@ pub fn done_turns()
 /// An answer where there is no rule fails, in a turn.
 pub fn no_rule_turns()
     ensures { NoRuleTurns }
+{}
+
+/// Testing what a value is is a turn.
+pub fn test_turns()
+    ensures { TestTurns }
+{}
+
+/// Comparing two numbers is a turn.
+pub fn compare_turns()
+    ensures { CompareTurns }
+{}
+
+/// Calculating with two numbers is a turn.
+pub fn arith_turns()
+    ensures { ArithTurns }
+{}
+
+/// Throwing a number is a turn.
+pub fn random_turns()
+    ensures { RandomTurns }
+{}
+
+/// What these cost is paid for.
+pub fn operations_are_paid()
+    ensures { OperationsArePaid }
 {}
 
 /// Printing a text is a turn.
