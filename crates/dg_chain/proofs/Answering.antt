@@ -54,21 +54,21 @@ module _ (t : Telling) (plays : Playing t) (code : Code) (blocks : BlocksAt t co
 
   -- ## Answers
 
-  returned_leads : (ps : List Print) (w : Printed ps) (m : Mid) (rest : List Op) (f : Frame) (fs : List Frame) (b : Bool) (most all : ℕ) (z : ZState) → most ≤ all → ComesTo t w.out (t.at_block f.next) (returned set b f fs m) most z →
+  returned_leads : (ps : List Print) (m : Mid) (w : Printed t ps m.lasting) (rest : List Op) (f : Frame) (fs : List Frame) (b : Bool) (most all : ℕ) (z : ZState) → most ≤ all → ComesTo t w.out (t.at_block f.next) (returned set b f fs m) most z →
       Comes t.p.world (Stands t code) 1 ps (Runs (returned set b f fs (record m { ops = rest }))) all z
-  returned_leads ps w m rest f fs true most all z le k = led_runs t code dice 1 (omega arith) ps w (t.at_block f.next) (returned set true f fs m) (returned set true f fs (record m { ops = rest })) most all z refl (blocks.each f.next) le k
-  returned_leads ps w m rest f fs false most all z le k = led_runs t code dice 1 (omega arith) ps w (t.at_block f.next) (returned set false f fs m) (returned set false f fs (record m { ops = rest })) most all z refl (blocks.each f.next) le k
+  returned_leads ps m w rest f fs true most all z le k = led_runs t code dice 1 (omega arith) ps w (t.at_block f.next) (returned set true f fs m) (returned set true f fs (record m { ops = rest })) most all z refl (blocks.each f.next) le k
+  returned_leads ps m w rest f fs false most all z le k = led_runs t code dice 1 (omega arith) ps w (t.at_block f.next) (returned set false f fs m) (returned set false f fs (record m { ops = rest })) most all z refl (blocks.each f.next) le k
 
-  return_by : (ps : List Print) (w : Printed ps) (m : Mid) (rest : List Op) (z : ZState) → m.ops ≡ op.Return ∷ rest → Always code (Runs m) → Represented t w.out (t.p.names.routine LEAVE) m z → (frames : List Frame) → m.frames ≡ frames → Lead t code dice 1 ps (returns set frames (record m { ops = rest })) (cost ps m) z
-  return_by ps w m rest z e always r [] i =
+  return_by : (ps : List Print) (m : Mid) (w : Printed t ps m.lasting) (rest : List Op) (z : ZState) → m.ops ≡ op.Return ∷ rest → Always code (Runs m) → Represented t w.out (t.p.names.routine LEAVE) m z → (frames : List Frame) → m.frames ≡ frames → Lead t code dice 1 ps (returns set frames (record m { ops = rest })) (cost ps m) z
+  return_by ps m w rest z e always r [] i =
       let unit = a_unit t code dice ps m in
       led_fails t code dice 1 (omega arith) ps w m (record m { ops = rest }) 4 (cost ps m) z refl (omega arith) (no_rule_turns t plays w.out m z i r)
-  return_by ps w m rest z e always r (f ∷ fs) i =
+  return_by ps m w rest z e always r (f ∷ fs) i =
       let names : FramesNamed m.next_tag m.state.heap m.choices (f ∷ fs) = subst (FramesNamed m.next_tag m.state.heap m.choices) i always.ordered.named.frames_are in
-      returned_leads ps w m rest f fs f.many _ (cost ps m) z (turns_are_paid.returned set ps m rest e) (return_turns set t plays w.out m f fs z i names.0 r)
+      returned_leads ps m w rest f fs f.many _ (cost ps m) z (turns_are_paid.returned set ps m rest e) (return_turns set t plays w.out m f fs z i names.0 r)
 
   pub return_leads : OpLeads t code dice op.Return
   return_leads ps m rest z e always s =
       let x_is : s.at.x ≡ t.p.names.routine LEAVE = at_op t code dice ps m rest z op.Return e s in
       silently t code dice ps m rest z op.Return e _ (cost ps m) refl
-      (return_by ps s.printed m rest z e always (subst (λ (y : ℕ). Represented t s.printed.out y m z) x_is s.at.rep) m.frames refl)
+      (return_by ps m s.printed rest z e always (subst (λ (y : ℕ). Represented t s.printed.out y m z) x_is s.at.rep) m.frames refl)

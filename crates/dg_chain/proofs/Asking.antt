@@ -50,21 +50,21 @@ module _ (t : Telling) (plays : Playing t) (code : Code) (blocks : BlocksAt t co
       let unit = a_unit t code dice ps m in
       silently t code dice ps m rest z (op.Ask pred terms many next) e _ (cost ps m) refl
       (charged_leads t code dice 1 (omega arith) ps s.printed n m' (asks set pred (call_of (values set m' terms) many next (more n m')) (more n m')) (cost ps m) z s.at.rep.mid.state.few
-      (λ room. begun_leads t code dice 1 (omega arith) ps s.printed blocks call (more n m) rest room (selected (first_of m.state.subst call) rules) _ (cost ps m) z
+      (λ room. begun_leads t code dice 1 (omega arith) ps s.printed blocks call (more n m) rest room refl (selected (first_of m.state.subst call) rules) _ (cost ps m) z
       (turns_are_paid.ask set ps m pred terms many next rules rest e a.nodes (blocks.few pred)) (ask_begins t plays blocks.some out terms many next a.number rules m z a.rules.rules_are room at))
       (λ over. finishes t code dice 1 (omega arith) ps s.printed ending.HeapLimit (10 + closing_most) (cost ps m) z (λ q. (cc)) (omega arith) (ask_turns.meets t plays out terms many next a.number m z at over)))
 
   -- ## The last of a rule
 
   -- A query was asked, and its rules are looked at.
-  asked_leads : (ps : List Print) (w : Printed ps) (number pred : ℕ) (call : Call) (m : Mid) (rest : List Op) (most all : ℕ) (z : ZState) → RulesAt t (length call.args) number (rules_at code pred) → call.cut.height ≡ m.state.heap → m.state.heap ≤ 10000 →
+  asked_leads : (ps : List Print) (m : Mid) (w : Printed t ps m.lasting) (number pred : ℕ) (call : Call) (rest : List Op) (most all : ℕ) (z : ZState) → RulesAt t (length call.args) number (rules_at code pred) → call.cut.height ≡ m.state.heap → m.state.heap ≤ 10000 →
       most + (4 * keyed (rules_at code pred) + 70) ≤ all → AskedAt t w.out number call (first_of m.state.subst call) m most z → Lead t code dice 1 ps (asks set pred call (record m { ops = rest })) all z
-  asked_leads ps w number pred call m rest most all z rules_are cut heap le a =
+  asked_leads ps m w number pred call rest most all z rules_are cut heap le a =
       let rules = rules_at code pred in
       let few = a.few in
       let b = begin_turns t plays blocks.some w.out rules number call a.key m a.there rules_are a.key_is cut a.looks in
       leading_then t code dice 1 ps (asks set pred call (record m { ops = rest })) a.count (4 * keyed rules + 70) all z a.there (omega arith) a.leads
-      (begun_leads t code dice 1 (omega arith) ps w blocks call m rest heap (selected (first_of m.state.subst call) rules) (4 * keyed rules + 70) (4 * keyed rules + 70) a.there (omega arith) b)
+      (begun_leads t code dice 1 (omega arith) ps w blocks call m rest heap refl (selected (first_of m.state.subst call) rules) (4 * keyed rules + 70) (4 * keyed rules + 70) a.there (omega arith) b)
 
   module _ (pred : ℕ) (terms : List Term) (many : Bool) (ps : List Print) (m : Mid) (rest : List Op) (z : ZState) (e : m.ops ≡ op.LastAsk pred terms many ∷ rest) (s : Stands t code ps (Runs m) z) where
     abbrev n : ℕ
@@ -98,11 +98,11 @@ module _ (t : Telling) (plays : Playing t) (code : Code) (blocks : BlocksAt t co
     asks_by : (b : Bool) (f : Frame) (fs : List Frame) → m.state.heap + n ≤ 10000 →
         AskedAt t s.printed.out a.number (call_of args many (next_of b f) (more n m)) (first_of m.state.subst (call_of args many (next_of b f) (more n m))) (left_at b f fs (more n m)) (asking_most t.program terms m) z →
         Lead t code dice 1 ps (asks_last set (ToPred pred) args many b f fs (more n m')) (cost ps m) z
-    asks_by true f fs room k = asked_leads ps s.printed a.number pred (call_of args many f.next (more n m)) (left_at true f fs (more n m)) rest (asking_most t.program terms m) (cost ps m) z rules_are refl room paid_for k
-    asks_by false f fs room k = asked_leads ps s.printed a.number pred (call_of args many 0 (more n m)) (left_at false f fs (more n m)) rest (asking_most t.program terms m) (cost ps m) z rules_are refl room paid_for k
+    asks_by true f fs room k = asked_leads ps (left_at true f fs (more n m)) s.printed a.number pred (call_of args many f.next (more n m)) rest (asking_most t.program terms m) (cost ps m) z rules_are refl room paid_for k
+    asks_by false f fs room k = asked_leads ps (left_at false f fs (more n m)) s.printed a.number pred (call_of args many 0 (more n m)) rest (asking_most t.program terms m) (cost ps m) z rules_are refl room paid_for k
 
     room_by : (frames : List Frame) → m.frames ≡ frames → m.state.heap + n ≤ 10000 → Lead t code dice 1 ps (last set (ToPred pred) args many frames (more n m')) (cost ps m) z
-    room_by [] i room = asked_leads ps s.printed a.number pred (call_of args many 0 (more n m)) (record (more n m) { inner = [] }) rest (asking_most t.program terms m) (cost ps m) z rules_are refl room paid_for (last_turns.asks_alone t plays s.printed.out terms many a.number m z (alone i) room)
+    room_by [] i room = asked_leads ps (record (more n m) { inner = [] }) s.printed a.number pred (call_of args many 0 (more n m)) rest (asking_most t.program terms m) (cost ps m) z rules_are refl room paid_for (last_turns.asks_alone t plays s.printed.out terms many a.number m z (alone i) room)
     room_by (f ∷ fs) i room = asks_by f.many f fs room (last_turns.asks t plays s.printed.out terms many a.number f fs m z (at f fs i) room)
 
     over_by : (frames : List Frame) → m.frames ≡ frames → 10000 < m.state.heap + n → Closes t s.printed.out ending.HeapLimit (10 + closing_most) z

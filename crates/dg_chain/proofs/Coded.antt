@@ -1,5 +1,5 @@
 -- Each instruction of a story's code leads on, and so does the rest.
-use Rattle.std.proofs.Common.{ℕ, List, ◌∷◌, subst}
+use Rattle.std.proofs.Common.{◌≡◌, ℕ, List, ◌∷◌, refl, subst}
 use Rattle.dg_mid.specs.declared.code.Action.{Action}
 use Rattle.dg_mid.specs.declared.code.Action.TheVariants as action
 use Rattle.dg_mid.specs.declared.code.Code.{Code}
@@ -17,10 +17,11 @@ use Rattle.dg_chain.proofs.Printing.{text_leads, gap_leads, gap_n_leads, quit_le
 use Rattle.dg_chain.proofs.Answering.{just_leads, return_leads}
 use Rattle.dg_chain.proofs.Asking.{ask_leads, last_leads}
 use Rattle.dg_chain.proofs.Unifying.{equal_leads, enters_lead}
+use Rattle.dg_chain.proofs.Operating.{test_leads, compare_leads, arith_leads, random_leads}
 use Rattle.dg_chain.proofs.Querying.{query_leads, last_query_leads}
 use Rattle.dg_chain.proofs.Going.{resumes_lead, fails_lead}
 
-module _ (t : Telling) (plays : Playing t) (code : Code) (blocks : BlocksAt t code) (dice : List ℕ) where
+module _ (t : Telling) (plays : Playing t) (code : Code) (blocks : BlocksAt t code) (dice : List ℕ) (same : t.p.world.dice ≡ dice) where
   -- an instruction without a routine stands nowhere
   none_leads : (x : Op) → ((behind_is : ℕ → Type 0) (y : ℕ) → OpAt behind_is t code y x → ⊥) → OpLeads t code dice x
   none_leads x none ps m rest z e always s = absurd (none (λ y. OpsAt t code y rest) s.at.x (at_op t code dice ps m rest z x e s))
@@ -35,11 +36,11 @@ module _ (t : Telling) (plays : Playing t) (code : Code) (blocks : BlocksAt t co
   act_leads (action.Gap kind) = gap_leads t plays code dice kind
   act_leads (action.GapN x) = gap_n_leads t plays code dice x
   act_leads (action.Equal a b) = equal_leads t plays code dice a b
-  act_leads (action.Test kind x) = none_leads (op.Do (action.Test kind x)) (λ b y h. h)
+  act_leads (action.Test kind x) = test_leads t plays code dice kind x
   act_leads (action.Now place args sets) = none_leads (op.Do (action.Now place args sets)) (λ b y h. h)
-  act_leads (action.Arith f a b c) = none_leads (op.Do (action.Arith f a b c)) (λ b y h. h)
-  act_leads (action.Compare f a b) = none_leads (op.Do (action.Compare f a b)) (λ b y h. h)
-  act_leads (action.Random a b c) = none_leads (op.Do (action.Random a b c)) (λ b y h. h)
+  act_leads (action.Arith f a b c) = arith_leads t plays code dice f a b c
+  act_leads (action.Compare f a b) = compare_leads t plays code dice f a b
+  act_leads (action.Random a b c) = random_leads t plays code dice same a b c
   act_leads (action.Input x) = none_leads (op.Do (action.Input x)) (λ b y h. h)
   act_leads (action.SplitWord a b) = none_leads (op.Do (action.SplitWord a b)) (λ b y h. h)
   act_leads (action.JoinWords a b) = none_leads (op.Do (action.JoinWords a b)) (λ b y h. h)
@@ -84,6 +85,6 @@ module _ (t : Telling) (plays : Playing t) (code : Code) (blocks : BlocksAt t co
 
 pub code_leads : CodeLeads
 code_leads = record {
-  ops = λ t plays code blocks dice x. op_leads t plays code blocks dice x;
-  others = λ t plays code blocks dice. others_lead t plays code blocks dice;
+  ops = λ t plays code blocks x. op_leads t plays code blocks t.p.world.dice refl x;
+  others = λ t plays code blocks. others_lead t plays code blocks t.p.world.dice refl;
 }

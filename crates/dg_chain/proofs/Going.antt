@@ -39,15 +39,15 @@ module _ (t : Telling) (plays : Playing t) (code : Code) (blocks : BlocksAt t co
 
   -- ## Going on
 
-  resumed_leads : (ps : List Print) (w : Printed ps) (b : ℕ) (m : Mid) (z : ZState) → Represented t w.out (t.at_block b) m z → (ops : List Op) → block_at code b ≡ ops → Lead t code dice 0 ps (resumed set ops m) (step_cost set ps (Resumes (Goes b) m)) z
-  resumed_leads ps w b m z h (op.Retry alt ∷ ops) e =
+  resumed_leads : (ps : List Print) (m : Mid) (w : Printed t ps m.lasting) (b : ℕ) (z : ZState) → Represented t w.out (t.at_block b) m z → (ops : List Op) → block_at code b ≡ ops → Lead t code dice 0 ps (resumed set ops m) (step_cost set ps (Resumes (Goes b) m)) z
+  resumed_leads ps m w b z h (op.Retry alt ∷ ops) e =
       let o : Opens (λ y. OpsAt t code y ops) t (t.at_block b) branch_routine alt = subst (OpsAt t code (t.at_block b)) e (blocks.each b) in
       let at : OpensAt t w.out branch_routine alt o.goes.behind m z = record { x = t.at_block b; alt = o.alt; rep = h; there = o.goes.is; alt_is = o.alt_is } in
       let m' = record m { ops = ops } in
       let unit = units_never_none set ps (Resumes (Goes b) m) (λ q. q) in
       ten_leads t code dice 0 (omega arith) ps w (t.p.names.routine o.goes.behind) m' (inside (Goes alt) 0 m) (inside (Goes alt) 0 m') 30 (step_cost set ps (Resumes (Goes b) m)) z h.mid.state.few refl o.goes.next (omega arith)
       (λ room. branch_turns.branches t plays w.out alt o.goes.behind m z at room) (λ over. branch_turns.branch_meets t plays w.out alt o.goes.behind m z at over)
-  resumed_leads ps w b m z h ops e = record {
+  resumed_leads ps m w b z h ops e = record {
     there = z;
     stands = record { printed = w; at = record { x = t.at_block b; rep = alike t w.out (t.at_block b) m (passed (record m { ops = ops })) z refl h; ops_are = subst (OpsAt t code (t.at_block b)) e (blocks.each b) } };
     count = 0;
@@ -57,25 +57,25 @@ module _ (t : Telling) (plays : Playing t) (code : Code) (blocks : BlocksAt t co
   }
 
   -- further rules are looked at
-  looks_lead : (ps : List Print) (w : Printed ps) (call : Call) (rules : List RuleCode) (m : Mid) (z : ZState) → Always code (Resumes (Calls call rules) m) → LooksOn t w.out call rules m z → Lead t code dice 0 ps (begins set call rules m) (step_cost set ps (Resumes (Calls call rules) m)) z
-  looks_lead ps w call rules m z always l =
+  looks_lead : (ps : List Print) (m : Mid) (w : Printed t ps m.lasting) (call : Call) (rules : List RuleCode) (z : ZState) → Always code (Resumes (Calls call rules) m) → LooksOn t w.out call rules m z → Lead t code dice 0 ps (begins set call rules m) (step_cost set ps (Resumes (Calls call rules) m)) z
+  looks_lead ps m w call rules z always l =
       let cost = step_cost set ps (Resumes (Calls call rules) m) in
       let b = begin_turns t plays blocks.some w.out rules l.number call l.key m z l.rules_are l.key_is always.cuts.0 l.looks in
       subst (λ (found : List RuleCode). Lead t code dice 0 ps (begins set call found m) cost z) always.begins
-      (begun_leads t code dice 0 (omega arith) ps w blocks call m m.ops l.looks.rep.mid.state.few (selected (first_of m.state.subst call) rules) (4 * keyed rules + 70) cost z (turns_are_paid.begin set ps m call rules always.stands) b)
+      (begun_leads t code dice 0 (omega arith) ps w blocks call m m.ops l.looks.rep.mid.state.few refl (selected (first_of m.state.subst call) rules) (4 * keyed rules + 70) cost z (turns_are_paid.begin set ps m call rules always.stands) b)
 
-  resumes_by : (ps : List Print) (w : Printed ps) (way : Way) (m : Mid) (z : ZState) → Always code (Resumes way m) → ResumesAt t w.out way m z → Lead t code dice 0 ps (goes_on set way m) (step_cost set ps (Resumes way m)) z
-  resumes_by ps w (Goes b) m z always h = resumed_leads ps w b m z h (block_at code b) refl
-  resumes_by ps w (Takes b into) m z always h = let k = always.begins in absurd (subst (OpsAt t code (t.at_block b)) k.is (blocks.each b))
-  resumes_by ps w (Calls call rules) m z always h = looks_lead ps w call rules m z always h
-  resumes_by ps w (Tries f objects) m z always h = absurd h
+  resumes_by : (ps : List Print) (m : Mid) (w : Printed t ps m.lasting) (way : Way) (z : ZState) → Always code (Resumes way m) → ResumesAt t w.out way m z → Lead t code dice 0 ps (goes_on set way m) (step_cost set ps (Resumes way m)) z
+  resumes_by ps m w (Goes b) z always h = resumed_leads ps m w b z h (block_at code b) refl
+  resumes_by ps m w (Takes b into) z always h = let k = always.begins in absurd (subst (OpsAt t code (t.at_block b)) k.is (blocks.each b))
+  resumes_by ps m w (Calls call rules) z always h = looks_lead ps m w call rules z always h
+  resumes_by ps m w (Tries f objects) z always h = absurd h
 
   pub resumes_lead : (ps : List Print) (way : Way) (m : Mid) (z : ZState) → Always code (Resumes way m) → Stands t code ps (Resumes way m) z → Lead t code dice 0 ps (goes_on set way m) (step_cost set ps (Resumes way m)) z
-  resumes_lead ps way m z always s = resumes_by ps s.printed way m z always s.at
+  resumes_lead ps way m z always s = resumes_by ps m s.printed way z always s.at
 
   -- ## Going back
 
-  module _ (ps : List Print) (w : Printed ps) (m : Mid) (z : ZState) (always : Always code (Fails m)) (h : FailsIn t w.out m z) where
+  module _ (ps : List Print) (m : Mid) (w : Printed t ps m.lasting) (z : ZState) (always : Always code (Fails m)) (h : FailsIn t w.out m z) where
     -- the machine as it lies in memory
     abbrev m0 : Mid
     m0 = record m { frames = h.frames; inner = h.inner }
@@ -128,4 +128,4 @@ module _ (t : Telling) (plays : Playing t) (code : Code) (blocks : BlocksAt t co
     fails_by (c ∷ cs) e = back_leads c cs c.way e refl
 
   pub fails_lead : (ps : List Print) (m : Mid) (z : ZState) → Always code (Fails m) → Stands t code ps (Fails m) z → Lead t code dice 1 ps (goes_back m.choices m) (step_cost set ps (Fails m)) z
-  fails_lead ps m z always s = fails_by ps s.printed m z always s.at m.choices refl
+  fails_lead ps m z always s = fails_by ps m s.printed z always s.at m.choices refl

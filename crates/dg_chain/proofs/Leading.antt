@@ -10,7 +10,7 @@ use Rattle.dg_mid.specs.declared.code.Code.{Code}
 use Rattle.dg_mid.specs.declared.code.Op.{Op}
 use Rattle.dg_mid.specs.declared.code.RuleCode.{RuleCode}
 use Rattle.dg_mid.specs.Code.{selected}
-use Rattle.dg_mid.specs.State.{Call, Calls, Mid, Status, Runs, Enters, Resumes, Fails, Ended}
+use Rattle.dg_mid.specs.State.{Call, Calls, Lasting, Mid, Status, Runs, Enters, Resumes, Fails, Ended}
 use Rattle.dg_mid.specs.Step.{Setting, more, charged, bound, unified, if_agreed, trail_more, passed, inside, at_rule, enters, begins, first_of, step, said_in, said_to, said, followed}
 use Rattle.dg_mid.specs.Units.{units}
 use Rattle.z_model.specs.declared.end.ZEnd.{ZEnd}
@@ -31,20 +31,24 @@ use Rattle.dg_chain.specs.Routines.{OpAt, OpsAt, BlocksAt}
 use Rattle.dg_chain.specs.Stands.{Printed, Stands}
 use Rattle.dg_chain.specs.Whole.{story_setting}
 use Rattle.dg_chain.proofs.Points.{units_never_none}
-use Rattle.dg_chain.proofs.Printed.{closed_is}
+use Rattle.dg_chain.proofs.Printed.{closed_is, as_lasts}
 
 -- ## Machines with the same parts
 
--- Machines whose parts that memory has words for are the same.
-abbrev pub Alike : Mid → Mid → Type 0
-Alike m m' = m' ≡ record m { ops = m'.ops; next_tag = m'.next_tag; lasting = m'.lasting }
+-- Machines whose parts that memory has words for are the same, and this lasts of the second.
+abbrev pub Alike : Lasting → Mid → Mid → Type 0
+Alike l m m' = m' ≡ record m { ops = m'.ops; next_tag = m'.next_tag; lasting = l }
+
+-- So they are where what they have beside is the same.
+alike_by : {l : Lasting} (m m' : Mid) → m' ≡ record m { ops = m'.ops; next_tag = m'.next_tag; lasting = m'.lasting } → m'.lasting ≡ l → Alike l m m'
+alike_by m m' h e = h ∙ ap (λ (q : Lasting). record m { ops = m'.ops; next_tag = m'.next_tag; lasting = q }) e
 
 -- No cells more are none.
 pub more_none : (m : Mid) → more 0 m ≡ m
 more_none m = let q : m.state.heap + 0 ≡ m.state.heap = omega arith in ap (λ (n : ℕ). record m { state = record m.state { heap = n } }) q
 
-pub alike : (t : Telling) (out : Outside) (x : ℕ) (m m' : Mid) (z : ZState) → Alike m m' → Represented t out x m z → Represented t out x m' z
-alike t out x m m' z e r = record {
+pub alike : (t : Telling) (out : Outside) (x : ℕ) {l : Lasting} (m m' : Mid) (z : ZState) → Alike l m m' → Represented t out x m z → Represented t out x m' z
+alike t out x {l} m m' z e r = record {
   memory = r.memory;
   is = r.is;
   kept = r.kept;
@@ -53,7 +57,7 @@ alike t out x m m' z e r = record {
   next_is = r.next_is;
   sh = r.sh;
   trail = r.trail;
-  mid = subst (MidIn t out.words r.sh r.cells r.trail) (sym e) (mid_alike t r.sh r.cells r.trail m m'.ops m'.next_tag m'.lasting r.mid);
+  mid = subst (MidIn t out.words r.sh r.cells r.trail) (sym e) (mid_alike t r.sh r.cells r.trail m m'.ops m'.next_tag l r.mid);
 }
 
 -- ## Ends
@@ -135,14 +139,14 @@ module _ (t : Telling) (code : Code) (dice : List ℕ) where
 
   -- ## Where a turn leads
 
-  module _ (least : ℕ) (low : least ≤ 1) (ps : List Print) (w : Printed ps) where
-    pub led_runs : (next : ℕ) (m m' : Mid) (most all : ℕ) (z : ZState) → Alike m m' → OpsAt t code next m'.ops → most ≤ all → ComesTo t w.out next m most z → Comes t.p.world (Stands t code) least ps (Runs m') all z
+  module _ (least : ℕ) (low : least ≤ 1) (ps : List Print) {l : Lasting} (w : Printed t ps l) where
+    pub led_runs : (next : ℕ) (m m' : Mid) (most all : ℕ) (z : ZState) → Alike l m m' → OpsAt t code next m'.ops → most ≤ all → ComesTo t w.out next m most z → Comes t.p.world (Stands t code) least ps (Runs m') all z
     led_runs next m m' most all z h ops le c =
         let few = c.few in
         let some = c.some in
         record {
           there = c.there;
-          stands = record { printed = w; at = record { x = next; rep = alike t w.out next m m' c.there h c.rep; ops_are = ops } };
+          stands = record { printed = as_lasts w m'.lasting (ap (λ (k : Mid). k.lasting) h); at = record { x = next; rep = alike t w.out next m m' c.there h c.rep; ops_are = ops } };
           count = c.count;
           some = omega arith;
           few = omega arith;
@@ -150,27 +154,27 @@ module _ (t : Telling) (code : Code) (dice : List ℕ) where
         }
 
     -- the frames and inner constructs of what fails don't matter
-    pub led_fails : (m m' : Mid) (most all : ℕ) (z : ZState) → Alike m (record m' { frames = m.frames; inner = m.inner }) → most ≤ all → ComesTo t w.out (t.p.names.routine FAIL) m most z → Comes t.p.world (Stands t code) least ps (Fails m') all z
+    pub led_fails : (m m' : Mid) (most all : ℕ) (z : ZState) → Alike l m (record m' { frames = m.frames; inner = m.inner }) → most ≤ all → ComesTo t w.out (t.p.names.routine FAIL) m most z → Comes t.p.world (Stands t code) least ps (Fails m') all z
     led_fails m m' most all z h le c =
         let few = c.few in
         let some = c.some in
         record {
           there = c.there;
-          stands = record { printed = w; at = record { frames = m.frames; inner = m.inner; rep = alike t w.out (t.p.names.routine FAIL) m (record m' { frames = m.frames; inner = m.inner }) c.there h c.rep } };
+          stands = record { printed = as_lasts w m'.lasting (ap (λ (k : Mid). k.lasting) h); at = record { frames = m.frames; inner = m.inner; rep = alike t w.out (t.p.names.routine FAIL) m (record m' { frames = m.frames; inner = m.inner }) c.there h c.rep } };
           count = c.count;
           some = omega arith;
           few = omega arith;
           leads = c.leads;
         }
 
-    pub led_enters : (next : ℕ) (call : Call) (m m' : Mid) (most all : ℕ) (z : ZState) → Alike m m' → OpsAt t code next m'.ops → most ≤ all → EntersAt t w.out next call m most z → Comes t.p.world (Stands t code) least ps (Enters call m') all z
+    pub led_enters : (next : ℕ) (call : Call) (m m' : Mid) (most all : ℕ) (z : ZState) → Alike l m m' → OpsAt t code next m'.ops → most ≤ all → EntersAt t w.out next call m most z → Comes t.p.world (Stands t code) least ps (Enters call m') all z
     unfolding alike
     led_enters next call m m' most all z h ops le c =
         let few = c.few in
         let some = c.some in
         record {
           there = c.there;
-          stands = record { printed = w; at = record { x = next; rep = alike t w.out next m m' c.there h c.rep; ops_are = ops; call_is = c.call_is } };
+          stands = record { printed = as_lasts w m'.lasting (ap (λ (k : Mid). k.lasting) h); at = record { x = next; rep = alike t w.out next m m' c.there h c.rep; ops_are = ops; call_is = c.call_is } };
           count = c.count;
           some = omega arith;
           few = omega arith;
@@ -197,7 +201,7 @@ module _ (t : Telling) (code : Code) (dice : List ℕ) where
         (λ le. subst (λ (s : Status). Lead least ps s most z) (sym (charged_on n m next le)) (room le)) (cases_lt 10000 (m.state.heap + n))
 
     -- Ten cells are taken and it goes on there, or the limit is met.
-    pub ten_leads : (next : ℕ) (m m1 m2 : Mid) (most all : ℕ) (z : ZState) → m.state.heap ≤ 10000 → Alike m1 m2 → OpsAt t code next m2.ops → most + 10 ≤ all → (m.state.heap + 10 ≤ 10000 → ComesTo t w.out next m1 most z) → (10000 < m.state.heap + 10 → Closes t w.out ending.HeapLimit (10 + closing_most) z) → Lead least ps (charged set 10 m (Runs m2)) all z
+    pub ten_leads : (next : ℕ) (m m1 m2 : Mid) (most all : ℕ) (z : ZState) → m.state.heap ≤ 10000 → Alike l m1 m2 → OpsAt t code next m2.ops → most + 10 ≤ all → (m.state.heap + 10 ≤ 10000 → ComesTo t w.out next m1 most z) → (10000 < m.state.heap + 10 → Closes t w.out ending.HeapLimit (10 + closing_most) z) → Lead least ps (charged set 10 m (Runs m2)) all z
     ten_leads next m m1 m2 most all z fits h ops le room over =
         charged_leads 10 m (Runs m2) all z fits (λ q. led_runs next m1 m2 most all z h ops (omega arith) (room q)) (λ q. finishes ending.HeapLimit (10 + closing_most) all z (λ e. (cc)) (omega arith) (over q))
 
@@ -209,23 +213,23 @@ module _ (t : Telling) (code : Code) (dice : List ℕ) where
 
     -- ## Rules
 
-    module _ (blocks : BlocksAt t code) (call : Call) (m : Mid) (o : List Op) (few : m.state.heap ≤ 10000) where
+    module _ (blocks : BlocksAt t code) (call : Call) (m : Mid) (o : List Op) (few : m.state.heap ≤ 10000) (lasts : m.lasting ≡ l) where
       abbrev m' : Mid
       m' = record m { ops = o }
 
       -- A rule is entered, with these others left.
       enters_leads : (r : RuleCode) (rs others : List RuleCode) (most all : ℕ) (z : ZState) → most ≤ all → BegunTo t w.out call (r ∷ rs) others m most z → Lead least ps (enters set call r others m') all z
-      enters_leads r rs [] most all z le k = led_enters (t.at_block r.block) call m (passed (at_rule set r m')) most all z refl (blocks.each r.block) le k
+      enters_leads r rs [] most all z le k = led_enters (t.at_block r.block) call m (passed (at_rule set r m')) most all z (alike_by m (passed (at_rule set r m')) refl lasts) (blocks.each r.block) le k
       enters_leads r rs (q ∷ qs) most all z le k =
           let way = Calls call (q ∷ qs) in
           let n = length call.args in
           charged_leads (10 + n) m' (Enters call (inside way n (at_rule set r m'))) all z few
-          (λ room. led_enters (t.at_block r.block) call (inside way n m) (inside way n (at_rule set r m')) most all z refl (blocks.each r.block) le (k.opens room))
+          (λ room. led_enters (t.at_block r.block) call (inside way n m) (inside way n (at_rule set r m')) most all z (alike_by (inside way n m) (inside way n (at_rule set r m')) refl lasts) (blocks.each r.block) le (k.opens room))
           (λ over. finishes ending.HeapLimit (most + closing_most) all z (λ e. (cc)) (omega arith) (k.meets over))
 
       -- Some rules are looked at, none of which was found before.
       pub begun_leads : (found : List RuleCode) (most all : ℕ) (z : ZState) → most ≤ all → BegunTo t w.out call found (behind_first (first_of m.state.subst call) found) m most z → Lead least ps (begins set call found m') all z
-      begun_leads [] most all z le k = led_fails m m' most all z refl le k
+      begun_leads [] most all z le k = led_fails m m' most all z (alike_by m m' refl lasts) le k
       begun_leads (r ∷ rs) most all z le k = enters_leads r rs (selected (first_of m.state.subst call) rs) most all z le k
 
   -- ## Nothing is printed

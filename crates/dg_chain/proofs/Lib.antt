@@ -14,6 +14,7 @@ pub mod Jumping
 pub mod Answering
 pub mod Asking
 pub mod Unifying
+pub mod Operating
 pub mod Querying
 pub mod Printing
 pub mod Going

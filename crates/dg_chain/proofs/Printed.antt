@@ -1,17 +1,18 @@
 -- What was printed, with one thing more, and how it is closed.
-use Rattle.std.proofs.Common.{◌≡◌, ℕ, ◌+◌, Bool, true, false, List, [], ◌∷◌, ◌++◌, Option, Some, None, refl, sym, ap, ◌∙◌, subst}
+use Rattle.std.proofs.Common.{◌≡◌, ℕ, ◌+◌, Bool, true, false, ◌%◌, List, [], ◌∷◌, ◌++◌, length, Option, Some, None, refl, sym, ap, ◌∙◌, subst}
 use Rattle.std.specs.Prelude.{◌==◌, if◌then◌else◌}
 use Rattle.std.proofs.lemmas.List.{append-nil}
 use Rattle.dg_base.specs.declared.run.Ending.{Ending}
 use Rattle.dg_meaning.specs.Render.{opens, Met, nothing_met, met_from, met_behind, render_from, render, written}
 use Rattle.dg_meaning.specs.Transcript.{line_of, newline_behind, closed_text}
 use Rattle.dg_meaning.specs.World.{Print}
-use Rattle.dg_mid.specs.State.{Mid, Runs, Ended}
+use Rattle.dg_mid.specs.State.{Lasting, Mid, Runs, Ended}
 use Rattle.dg_mid.specs.Step.{Setting, does, runs, said_in, said_to, said, followed}
 use Rattle.dg_mid.specs.declared.code.Op.{Op}
 use Rattle.dg_rt.specs.Areas.{last_reg}
 use Rattle.dg_rt.specs.Closings.{closing}
 use Rattle.dg_rt.specs.Gaps.{last_word, Meets}
+use Rattle.dg_turn.specs.Told.{Telling}
 use Rattle.dg_turn.specs.Texts.{met_words, printed}
 use Rattle.dg_turn.proofs.Meeting.{met_meets}
 use Rattle.dg_chain.specs.Stands.{Printed}
@@ -32,7 +33,7 @@ newline_is (Some b) = by_open (opens b)
     by_open false = refl
 
 -- The register of how the text ends says how it is closed.
-pub closed_is : (ps : List Print) (w : Printed ps) (e : Ending) → closed_text ps (line_of e) ≡ render ps ++ closing (w.out.words last_reg) e
+pub closed_is : {t : Telling} {l : Lasting} (ps : List Print) (w : Printed t ps l) (e : Ending) → closed_text ps (line_of e) ≡ render ps ++ closing (w.out.words last_reg) e
 closed_is ps w e =
     let last = (met_from nothing_met ps).last in
     ap (λ (l : List ℕ). render ps ++ (l ++ line_of e)) (newline_is last) ∙ ap (λ (i : ℕ). render ps ++ closing i e) (sym w.meets.last)
@@ -48,14 +49,24 @@ unfolding render
 render_one ps e = render_more nothing_met ps (e ∷ []) ∙ ap (λ (l : List ℕ). render_from nothing_met ps ++ l) (append-nil (written (met_from nothing_met ps) e))
 
 -- What is outside behind it.
-abbrev pub printed_more : (ps : List Print) (w : Printed ps) (e : Print) → Printed (ps ++ e ∷ [])
+abbrev pub printed_more : {t : Telling} {l : Lasting} (ps : List Print) (w : Printed t ps l) (e : Print) → Printed t (ps ++ e ∷ []) l
 printed_more ps w e =
     let m = met_from nothing_met ps in
     record {
       out = printed m e w.out;
       written = ap (λ (l : List ℕ). l ++ written m e) w.written ∙ sym (render_one ps e);
+      drawn = w.drawn;
       meets = subst (Meets (met_words (met_behind m e) w.out.words)) (sym (met_more nothing_met ps e)) (met_meets (met_behind m e) w.out.words);
     }
+
+-- The same where this lasts too.
+abbrev pub as_lasts : {t : Telling} {ps : List Print} {l : Lasting} → Printed t ps l → (l' : Lasting) → l' ≡ l → Printed t ps l'
+as_lasts {t} w l' e = record {
+  out = w.out;
+  written = w.written;
+  meets = w.meets;
+  drawn = w.drawn ∙ ap (λ (k : Lasting). k.dice % length t.p.world.dice) (sym e);
+}
 
 -- ## What a step prints
 

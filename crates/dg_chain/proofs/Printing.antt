@@ -49,7 +49,7 @@ module _ (t : Telling) (plays : Playing t) (code : Code) (dice : List ℕ) where
   behind p m = lasting_in (printed_in p (world_of [] m)) m
 
   -- It leads on where the turn has this outside.
-  prints_on : (p : Print) (next : ℕ) (ps : List Print) (m m' : Mid) (rest : List Op) (z : ZState) (s : Stands t code ps (Runs m) z) (most : ℕ) → Alike m m' → m'.ops ≡ rest → OpsAt t code next rest → most ≤ cost ps m → ComesTo t (printed (met_from nothing_met ps) p s.printed.out) next m most z → Lead t code dice 1 (ps ++ p ∷ []) (Runs m') (cost ps m) z
+  prints_on : (p : Print) (next : ℕ) (ps : List Print) (m m' : Mid) (rest : List Op) (z : ZState) (s : Stands t code ps (Runs m) z) (most : ℕ) → Alike m.lasting m m' → m'.ops ≡ rest → OpsAt t code next rest → most ≤ cost ps m → ComesTo t (printed (met_from nothing_met ps) p s.printed.out) next m most z → Lead t code dice 1 (ps ++ p ∷ []) (Runs m') (cost ps m) z
   prints_on p next ps m m' rest z s most h ops_are ops le k =
       led_runs t code dice 1 (omega arith) (ps ++ p ∷ []) (printed_more ps s.printed p) next m m' most (cost ps m) z h (subst (OpsAt t code next) (sym ops_are) ops) le k
 

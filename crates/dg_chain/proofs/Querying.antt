@@ -34,6 +34,7 @@ use Rattle.dg_turn.proofs.Paid.{turns_are_paid}
 use Rattle.dg_chain.specs.Routines.{FindsAll, Queries, QueriesLast, OpsAt, BlocksAt}
 use Rattle.dg_chain.specs.Stands.{Printed, Stands}
 use Rattle.dg_chain.specs.Whole.{OpLeads, story_setting}
+use Rattle.dg_chain.proofs.Printed.{as_lasts}
 use Rattle.dg_chain.proofs.Leading.{Lead, Alike, led_fails, finishes, leading_then, charged_leads, unified_leads, at_op, silently, a_unit}
 use Rattle.dg_chain.proofs.Unifying.{agreed_leads}
 
@@ -99,7 +100,7 @@ module _ (t : Telling) (plays : Playing t) (code : Code) (blocks : BlocksAt t co
 
   -- ## A body is entered
 
-  module _ (ps : List Print) (w : Printed ps) (call : Call) (m : Mid) (rest : List Op) (short : length call.args ≤ 1) (cut : call.cut.height ≡ m.state.heap) where
+  module _ (ps : List Print) (call : Call) (m : Mid) (w : Printed t ps m.lasting) (rest : List Op) (short : length call.args ≤ 1) (cut : call.cut.height ≡ m.state.heap) where
     abbrev m' : Mid
     m' = record m { ops = rest }
 
@@ -122,7 +123,7 @@ module _ (t : Telling) (plays : Playing t) (code : Code) (blocks : BlocksAt t co
         (λ over. finishes t code dice 1 (omega arith) ps w ending.HeapLimit (15 + closing_most) all z (λ q. (cc)) (omega arith) (body_turns.meets_heap t plays w.out number place c call parts m z b f over)))
 
     -- What is asked, if it is a closure, and else it fails.
-    module _ (failed : Mid) (like : Alike m (record failed { frames = m.frames; inner = m.inner })) where
+    module _ (failed : Mid) (like : Alike m.lasting m (record failed { frames = m.frames; inner = m.inner })) where
       looked_leads : (find : ℕ) (finds : FindsAll t code find) (v : Value) (most all : ℕ) (z : ZState) → Looks t w.out find call v m most z → (o : Option Target) → closure_at code v ≡ o → most + 4 * finds.depth + 30 ≤ all →
           ((c : BodyCode) (captured : List Value) → o ≡ Some (ToBody c captured) → c.own ≤ 300 → most + 4 * finds.depth + body_most t.program captured c.own call m ≤ all) → Lead t code dice 1 ps (to failed call m' o) all z
       looked_leads find finds v most all z k None e least enough =
@@ -163,7 +164,7 @@ module _ (t : Telling) (plays : Playing t) (code : Code) (blocks : BlocksAt t co
       silently t code dice ps m rest z (op.Query a b many next) e _ (cost ps m) refl
       (charged_leads t code dice 1 (omega arith) ps s.printed n (record m { ops = rest }) (queries set target args many next m1) (cost ps m) z s.at.rep.mid.state.few
       (λ room. subst (λ (now : Status). Lead t code dice 1 ps now (cost ps m) z) (queries_are args many next m1 target)
-      (looked_leads ps s.printed call (more n m) rest (few_values (value_of t.program (vars_of m.frames)) b) refl m1 refl o.find o.all (asked_value t.program a m) (querying_most t.program a b m) (cost ps m) z
+      (looked_leads ps call (more n m) s.printed rest (few_values (value_of t.program (vars_of m.frames)) b) refl m1 refl o.find o.all (asked_value t.program a m) (querying_most t.program a b m) (cost ps m) z
       (query_turns.asks t plays out s.at.x a b o.behind many next o.find m z o.is o.goes o.nodes room s.at.rep) target refl (turns_are_paid.unasked set ps m a b many next rest o.all.depth e o.nodes o.all.few)
       (λ c captured q own. turns_are_paid.query set ps m a b many next rest c captured call o.all.depth e q refl o.nodes own o.all.few)))
       (λ over. finishes t code dice 1 (omega arith) ps s.printed ending.HeapLimit (10 + closing_most) (cost ps m) z (λ q. (cc)) (omega arith) (query_turns.meets t plays out s.at.x a b o.behind many o.find m z o.is over s.at.rep)))
@@ -190,9 +191,9 @@ module _ (t : Telling) (plays : Playing t) (code : Code) (blocks : BlocksAt t co
     call next = query_call t.program a b many next m
 
     -- where it goes on, and the machine in which it is called
-    called_leads : (next : ℕ) (left : Mid) → Alike left (record m1 { frames = left.frames; inner = left.inner }) → left.state ≡ (more n m).state → Looks t s.printed.out o.find (call next) (asked_value t.program a m) left (querying_most t.program a b m) z → Lead t code dice 1 ps (to m1 (call next) (record left { ops = rest }) target) (cost ps m) z
+    called_leads : (next : ℕ) (left : Mid) → Alike left.lasting left (record m1 { frames = left.frames; inner = left.inner }) → left.state ≡ (more n m).state → Looks t s.printed.out o.find (call next) (asked_value t.program a m) left (querying_most t.program a b m) z → Lead t code dice 1 ps (to m1 (call next) (record left { ops = rest }) target) (cost ps m) z
     called_leads next left like same k =
-        looked_leads ps s.printed (call next) left rest (few_values (value_of t.program (vars_of m.frames)) b) (ap (λ (x : State). x.heap) (sym same)) m1 like o.find o.all (asked_value t.program a m) (querying_most t.program a b m) (cost ps m) z k target refl
+        looked_leads ps (call next) left (as_lasts s.printed left.lasting (ap (λ (k : Mid). k.lasting) (sym like))) rest (few_values (value_of t.program (vars_of m.frames)) b) (ap (λ (x : State). x.heap) (sym same)) m1 like o.find o.all (asked_value t.program a m) (querying_most t.program a b m) (cost ps m) z k target refl
         (turns_are_paid.last_unasked set ps m a b many rest o.all.depth e o.nodes o.all.few)
         (λ c captured q own.
         let paid_for = turns_are_paid.last_query set ps m a b many rest c captured (call next) o.all.depth e q refl o.nodes own o.all.few in

@@ -12,7 +12,7 @@ use Rattle.dg_mid.specs.declared.code.Code.{Code}
 use Rattle.dg_mid.specs.declared.code.Op.{Op}
 use Rattle.dg_mid.specs.declared.code.Op.TheVariants as op
 use Rattle.dg_mid.specs.Actions.{act_at, registers_of, world_of}
-use Rattle.dg_mid.specs.State.{Call, Mid, Status, Runs, Enters as EntersNow, vars_of}
+use Rattle.dg_mid.specs.State.{Call, Lasting, Mid, Status, Runs, Enters as EntersNow, vars_of}
 use Rattle.dg_mid.specs.Step.{Setting, more, bound, charged, unified, if_agreed, done, new_frame, enter, entered as enters_now}
 use Rattle.dg_mid.specs.Units.{units}
 use Rattle.dg_mid.specs.Calls.{EntersWith}
@@ -38,7 +38,7 @@ module _ (t : Telling) (plays : Playing t) (code : Code) (dice : List ℕ) where
   set = story_setting t code dice
 
   -- Where values agree it goes on, and else it fails.
-  pub agreed_leads : (ps : List Print) (w : Printed ps) (behind : ℕ) (b : Bool) (m m' m2 : Mid) (most all : ℕ) (z : ZState) → Alike m m' → Alike m (record m2 { frames = m.frames; inner = m.inner }) → OpsAt t code (t.p.names.routine behind) m'.ops → most ≤ all → ComesTo t w.out (agreed_next t.p behind b) m most z →
+  pub agreed_leads : (ps : List Print) {l : Lasting} (w : Printed t ps l) (behind : ℕ) (b : Bool) (m m' m2 : Mid) (most all : ℕ) (z : ZState) → Alike l m m' → Alike l m (record m2 { frames = m.frames; inner = m.inner }) → OpsAt t code (t.p.names.routine behind) m'.ops → most ≤ all → ComesTo t w.out (agreed_next t.p behind b) m most z →
       Lead t code dice 1 ps (if_agreed b m2 (Runs m')) all z
   agreed_leads ps w behind true m m' m2 most all z h f ops le k = led_runs t code dice 1 (omega arith) ps w (t.p.names.routine behind) m m' most all z h ops le k
   agreed_leads ps w behind false m m' m2 most all z h f ops le k = led_fails t code dice 1 (omega arith) ps w m m2 most all z f le k

@@ -38,12 +38,12 @@ module _ (t : Telling) (code : Code) where
   written : (ps : List Print) (now : Status) (z : ZState) → Stands t code ps now z → z.output ≡ render ps
   written ps now z s = written_for s.printed.out now z s.at ∙ s.printed.written
 
-steps_stand : (t : Telling) → Playing t → (code : Code) → BlocksAt t code → (dice : List ℕ) → StepsAreTurns t.p.world (story_setting t code dice) (Always code) (Stands t code)
-steps_stand t plays code blocks dice = steps_by t.p.world (story_setting t code dice) (Always code) (Stands t code) (code_leads.ops t plays code blocks dice) (code_leads.others t plays code blocks dice) (λ ps now z s. written t code ps now z s)
+steps_stand : (t : Telling) → Playing t → (code : Code) → BlocksAt t code → StepsAreTurns t.p.world (story_setting t code t.p.world.dice) (Always code) (Stands t code)
+steps_stand t plays code blocks = steps_by t.p.world (story_setting t code t.p.world.dice) (Always code) (Stands t code) (code_leads.ops t plays code blocks) (code_leads.others t plays code blocks) (λ ps now z s. written t code ps now z s)
 
 pub code_fits : CodeFits
-code_fits searched costs looks moves heights trails cuts fits_calls never t code dice typed plays blocks codes tidy sound few z starts =
-    let set = story_setting t code dice in
+code_fits searched costs looks moves heights trails cuts fits_calls never t code typed plays blocks codes tidy sound few z starts =
+    let set = story_setting t code t.p.world.dice in
     let g = set.game in
     let always : (k : ℕ) → Always code (after set typed k).now = λ k. record {
       ordered = heights set typed k;
@@ -53,4 +53,4 @@ code_fits searched costs looks moves heights trails cuts fits_calls never t code
       begins = (let c = (searched g code story_limits codes typed k).comes 0 in begins_at set g (after set typed k).now (after set typed k).prints 0 c.world _ (affords set t.program codes tidy typed k).1 c.at);
       stands = all_stand t.program set codes blocks.few typed k;
     } in
-    fits_by searched costs looks moves never g code typed codes tidy t.p.world (Always code) (Stands t code) (steps_stand t plays code blocks dice) always z starts
+    fits_by searched costs looks moves never g code typed codes tidy t.p.world (Always code) (Stands t code) (steps_stand t plays code blocks) always z starts

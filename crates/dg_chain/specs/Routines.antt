@@ -19,6 +19,7 @@ use Rattle.dg_turn.specs.Queries.{asking_routine}
 use Rattle.dg_turn.specs.LastQueries.{last_routine}
 use Rattle.dg_turn.specs.Choices.{branch_routine, try_routine, once_routine}
 use Rattle.dg_turn.specs.Leaving.{just_routine}
+use Rattle.dg_turn.specs.Operating.{test_routine, compare_routine, arith_routine, random_routine}
 use Rattle.dg_turn.specs.Rules.{keyed}
 use Rattle.dg_turn.specs.Bodies.{query_routine, last_query_routine, FindsBodies}
 use Rattle.dg_turn.specs.Texts.{text_routine, gap_routine, gap_n_routine, quit_routine}
@@ -52,6 +53,11 @@ pub record Says (behind_is : ℕ → Type 0) (t : Telling) (x : ℕ) (text : Lis
 pub record AsksSpaces (behind_is : ℕ → Type 0) (t : Telling) (x : ℕ) (a : Term) : Type 0 where
   pub goes : GoesOn behind_is t x (gap_n_routine t.program a)
   pub nodes : AreNodes t.program (nodes_of (a ∷ []))
+
+-- So does that of a goal that writes terms of a story.
+pub record Writes (behind_is : ℕ → Type 0) (t : Telling) (x : ℕ) (ts : List Term) (routine : ℕ → Routine) : Type 0 where
+  pub goes : GoesOn behind_is t x routine
+  pub nodes : AreNodes t.program (nodes_of ts)
 
 -- So does the first of a rule, of no more than 300 variables and 12 terms in its head.
 pub record Enters (behind_is : ℕ → Type 0) (t : Telling) (x vars : ℕ) (head : List Term) : Type 0 where
@@ -127,6 +133,10 @@ OpAt behind_is t code x (op.Do (action.GapN a)) = AsksSpaces behind_is t x a
 OpAt behind_is t code x (op.Do action.Quit) = t.p.routine_at x ≡ Some quit_routine
 OpAt behind_is t code x (op.Do action.Just) = GoesOn behind_is t x just_routine
 OpAt behind_is t code x (op.Do (action.Equal a b)) = Unifies behind_is t x a b
+OpAt behind_is t code x (op.Do (action.Test kind a)) = Writes behind_is t x (a ∷ []) (test_routine t.program kind a)
+OpAt behind_is t code x (op.Do (action.Compare f a b)) = Writes behind_is t x (a ∷ b ∷ []) (compare_routine t.program f a b)
+OpAt behind_is t code x (op.Do (action.Arith f a b c)) = Writes behind_is t x (a ∷ b ∷ c ∷ []) (arith_routine t.program f a b c)
+OpAt behind_is t code x (op.Do (action.Random a b c)) = Writes behind_is t x (a ∷ b ∷ c ∷ []) (random_routine t.program a b c)
 OpAt behind_is t code x (op.Do action.Fail) = FailsAt t x
 OpAt behind_is t code x (op.Do action.Stop) = x ≡ t.p.names.routine UNSTOP
 OpAt behind_is t code x (op.Do a) = ⊥

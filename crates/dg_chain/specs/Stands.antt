@@ -1,12 +1,12 @@
 -- What memory stands for in each status of a machine, and what is outside. Hold it against dg_mid/specs/State.antt, and docs/STORIES.md, where it says with
 -- which line a story ends.
-use Rattle.std.specs.Prelude.{◌≡◌, ℕ, List, length}
+use Rattle.std.specs.Prelude.{◌≡◌, ℕ, ◌%◌, List, [], length}
 use Rattle.dg_meaning.specs.Values.{Value}
 use Rattle.dg_meaning.specs.World.{Print}
 use Rattle.dg_meaning.specs.Render.{nothing_met, met_from, render}
 use Rattle.dg_mid.specs.declared.code.Code.{Code}
 use Rattle.dg_mid.specs.declared.code.RuleCode.{RuleCode}
-use Rattle.dg_mid.specs.State.{Place, Frame, Call, Way, Goes, Takes, Calls, Tries, Mid, Status, Runs, Enters, Resumes, Fails, Ended}
+use Rattle.dg_mid.specs.State.{Place, Frame, Call, Way, Goes, Takes, Calls, Tries, Mid, Lasting, Status, Runs, Enters, Resumes, Fails, Ended}
 use Rattle.dg_mid.specs.Step.{first_of}
 use Rattle.z_model.specs.Run.{ZState}
 use Rattle.dg_rt.specs.declared.numbers.TheConstants.{FAIL}
@@ -69,13 +69,23 @@ StandsFor t code out (Ended e) z = ⊥
 
 -- ## What is outside
 
--- Outside is what was printed: it was written, and the registers say what the next piece meets.
-pub record Printed (ps : List Print) : Type 0 where
+-- What lasts of a status: nothing of a run that has ended.
+abbrev pub lasting_of : Status → Lasting
+lasting_of (Runs m) = m.lasting
+lasting_of (Enters call m) = m.lasting
+lasting_of (Resumes way m) = m.lasting
+lasting_of (Fails m) = m.lasting
+lasting_of (Ended e) = record { typed = []; dice = 0; facts = []; sites = [] }
+
+-- Outside is what was printed and what lasts: it was written, the registers say what the next piece meets, and as many of the player's dice words were
+-- drawn, in a circle.
+pub record Printed (t : Telling) (ps : List Print) (l : Lasting) : Type 0 where
   pub out : Outside
   pub written : out.output ≡ render ps
   pub meets : Meets out.words (met_from nothing_met ps)
+  pub drawn : out.drawn ≡ l.dice % length t.p.world.dice
 
 -- Memory stands for a status where so much was printed.
 pub record Stands (t : Telling) (code : Code) (ps : List Print) (now : Status) (z : ZState) : Type 0 where
-  pub printed : Printed ps
+  pub printed : Printed t ps (lasting_of now)
   pub at : StandsFor t code printed.out now z

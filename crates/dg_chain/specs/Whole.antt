@@ -28,16 +28,16 @@ OpLeads t code dice x = OpTurns (story_setting t code dice) (Always code) (Stand
 abbrev pub OthersLead : Telling → Code → List ℕ → Type 0
 OthersLead t code dice = OtherTurns (story_setting t code dice) (Always code) (Stands t code) (Next t.p.world (Stands t code))
 
--- Each is, and so is the rest, where the routines of the code stand.
+-- Each is, and so is the rest, where the routines of the code stand; the dice are the player's.
 pub record CodeLeads : Type 0 where
-  pub ops : (t : Telling) → Playing t → (code : Code) → BlocksAt t code → (dice : List ℕ) (x : Op) → OpLeads t code dice x
-  pub others : (t : Telling) → Playing t → (code : Code) → BlocksAt t code → (dice : List ℕ) → OthersLead t code dice
+  pub ops : (t : Telling) → Playing t → (code : Code) → BlocksAt t code → (x : Op) → OpLeads t code t.p.world.dice x
+  pub others : (t : Telling) → Playing t → (code : Code) → BlocksAt t code → OthersLead t code t.p.world.dice
 
 -- A story whose routines stand for the code of a sound program, whose goals hold at most 12 terms each, fits the program, whatever is typed and
 -- drawn, and however many instructions are done.
 abbrev pub CodeFits : Type 0
 CodeFits = RunsAsSearched → CostsItsWork → LooksItsWork → MovesOn → HeightsOrder → TrailsOrder → CallsCut → CallsFit → NoStepLimit →
-    (t : Telling) (code : Code) (dice typed : List ℕ) → let set = story_setting t code dice in
+    (t : Telling) (code : Code) (typed : List ℕ) → let set = story_setting t code t.p.world.dice in
     Playing t → BlocksAt t code → Codes t.program code → Tidy code → IsSound t.program → AllHoldFew 12 t.program →
     (z : ZState) → Starts t.p.world set (Stands t code) typed z → (steps : ℕ) →
     let r = zrun t.p.world steps z in Fits set.game typed steps r.state.output r.end
