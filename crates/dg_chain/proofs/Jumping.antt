@@ -74,14 +74,14 @@ module _ (t : Telling) (plays : Playing t) (code : Code) (blocks : BlocksAt t co
       let named : StopsNamed m.next_tag m.state.heap m.choices (n.within ++ n.part ∷ n.around) = subst (StopsNamed m.next_tag m.state.heap m.choices) n.is always.ordered.named.stops_are in
       ap (λ (i : ℕ). stop_to i m.stops) n.tag_is ∙ ap (stop_to n.part.place.tag) n.is ∙ stop_found m.next_tag m.state.heap m.choices n.within n.part n.around named
 
-  stops_by : (ps : List Print) (m : Mid) (rest : List Op) (z : ZState) → m.ops ≡ op.Do action.Stop ∷ rest → Always code (Runs m) → (s : Stands t code ps (Runs m) z) → Represented t s.printed.out (t.p.names.routine UNSTOP) m z → (u : Option ℕ) → m.stop ≡ u → (w : World) → Lead t code dice 1 ps (stops set u (lasting_in w (more 0 (record m { ops = rest })))) (cost ps m) z
-  stops_by ps m rest z e always s r None i w =
+  stops_by : (ps : List Print) (m : Mid) (rest : List Op) (z : ZState) → m.ops ≡ op.Do action.Stop ∷ rest → Always code (Runs m) → (s : Stands t code ps (Runs m) z) → Represented t s.printed.out (t.p.names.routine UNSTOP) m z → (u : Option ℕ) → m.stop ≡ u → Lead t code dice 1 ps (stops set u (more 0 (record m { ops = rest }))) (cost ps m) z
+  stops_by ps m rest z e always s r None i =
       let unit = a_unit t code dice ps m in
       finishes t code dice 1 (omega arith) ps s.printed ending.Stopped 30 (cost ps m) z (λ q. (cc)) (omega arith) (stop_turns.ends t plays s.printed.out m z i r)
-  stops_by ps m rest z e always s r (Some tag) i w =
+  stops_by ps m rest z e always s r (Some tag) i =
       let n : NamesStop (r.cells stop_reg) tag m.stops = subst (λ (o : Option ℕ). StopNamed (r.cells stop_reg) o m.stops) i r.mid.stop in
       let found = stop_known m tag (r.cells stop_reg) always n in
-      let m' = lasting_in w (more 0 (record m { ops = rest })) in
+      let m' = more 0 (record m { ops = rest }) in
       let fits = turns_are_paid.stop set ps m rest e in
       subst (λ (o : Option (Stop × List Stop)). Lead t code dice 1 ps (stops_at set o m') (cost ps m) z) (sym found)
       (led_runs t code dice 1 (omega arith) ps s.printed (t.at_block n.part.block) (stopped set n.part n.around m) (stopped set n.part n.around m') _ (cost ps m) z refl (blocks.each n.part.block) (omega arith)
@@ -91,7 +91,7 @@ module _ (t : Telling) (plays : Playing t) (code : Code) (blocks : BlocksAt t co
   stop_leads ps m rest z e always s =
       let x_is : s.at.x ≡ t.p.names.routine UNSTOP = at_op t code dice ps m rest z (op.Do action.Stop) e s in
       let r : Represented t s.printed.out (t.p.names.routine UNSTOP) m z = subst (λ (y : ℕ). Represented t s.printed.out y m z) x_is s.at.rep in
-      silently t code dice ps m rest z (op.Do action.Stop) e _ (cost ps m) refl (stops_by ps m rest z e always s r m.stop refl (world_of [] (more 0 (record m { ops = rest }))))
+      silently t code dice ps m rest z (op.Do action.Stop) e _ (cost ps m) refl (stops_by ps m rest z e always s r m.stop refl)
 
   -- ## The end
 

@@ -180,9 +180,9 @@ module _ (t : Telling) (plays : Playing t) (code : Code) (dice : List ℕ) where
 
   -- ## Dice
 
-  nothing_thrown : (made : Option ℕ) (into : Value) (r : Registers) (n : ℕ) (m : Mid) → said_by (throws made into r (worked n (world_of [] m))) ≡ []
-  nothing_thrown None into r n m = refl
-  nothing_thrown (Some i) into r n m = refl
+  nothing_thrown : (made : Option ℕ) (to : Value) (r : Registers) (n : ℕ) (m : Mid) → said_by (throws made to r (worked n (world_of [] m))) ≡ []
+  nothing_thrown None to r n m = refl
+  nothing_thrown (Some i) to r n m = refl
 
   -- The player's dice are the game's.
   module _ (same : t.p.world.dice ≡ dice) where
