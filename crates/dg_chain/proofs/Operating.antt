@@ -11,9 +11,9 @@ use Rattle.dg_meaning.specs.Cells.{cells}
 use Rattle.dg_meaning.specs.Choosing.{die}
 use Rattle.dg_meaning.specs.Moves.{looked_up, gives_number, throws}
 use Rattle.dg_meaning.specs.Numbers.{calculated, thrown}
-use Rattle.dg_meaning.specs.Path.{Registers, Act, Unifies as UnifiesNow}
+use Rattle.dg_meaning.specs.Path.{Registers, Unifies as UnifiesNow}
 use Rattle.dg_meaning.specs.TypeTests.{passes}
-use Rattle.dg_meaning.specs.Unify.{Unified, Equations, solve}
+use Rattle.dg_meaning.specs.Unify.{Equations, solve}
 use Rattle.dg_meaning.specs.Values.{Num, Value, leaf}
 use Rattle.dg_meaning.specs.World.{Print, World, worked, drew}
 use Rattle.dg_mid.specs.declared.code.Action.TheVariants as action
@@ -28,7 +28,7 @@ use Rattle.z_lang.specs.declared.act.Routine.{Routine}
 use Rattle.dg_rt.specs.Arithmetic.{drawn_behind}
 use Rattle.dg_rt.specs.Closings.{closing_most}
 use Rattle.dg_turn.specs.Told.{Telling}
-use Rattle.dg_turn.specs.Plays.{Playing, Outside, Comes as ComesTo}
+use Rattle.dg_turn.specs.Plays.{Playing, Comes as ComesTo}
 use Rattle.dg_turn.specs.Paid.{paid}
 use Rattle.dg_turn.specs.Turns.{agreed_next}
 use Rattle.dg_turn.specs.Operating.{term_value, test_routine, compare_routine, arith_routine, random_routine, InFront, Deciding, test_most, terms_in_order, compare_most, made_of, number_unified, making_most, giving_most, making_paid, Making}
