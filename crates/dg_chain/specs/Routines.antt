@@ -160,9 +160,9 @@ OpAt behind_is t code x (op.Enter vars head) = Enters behind_is t x vars head
 OpAt behind_is t code x op.Done = t.p.routine_at x ≡ Some (goto_routine DONE)
 OpAt behind_is t code x other = ⊥
 
--- The routines of some instructions: the first stands at an address, and each goes on at the next one; the last fails.
+-- The routines of some instructions: the first stands at an address, and each goes on at the next one. Behind the last comes none.
 abbrev pub OpsAt : Telling → Code → ℕ → List Op → Type 0
-OpsAt t code x [] = FailsAt t x
+OpsAt t code x [] = Unit {0}
 OpsAt t code x (o ∷ ops) = OpAt (λ y. OpsAt t code y ops) t code x o
 
 -- The code of each block stands where the block does, which is somewhere; no predicate has more than 2,200 rules that have a key.

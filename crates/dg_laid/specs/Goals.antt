@@ -1,0 +1,41 @@
+-- Which goals have routines so far, and that the code of a program of such goals has them. Hold it against dg_mid/specs/Codes.antt and `is_built` of
+-- dg_emit/specs/Code.antt.
+use Rattle.std.specs.Prelude.{◌≡◌, ℕ, List, [], ◌∷◌, Bool, true, false, ◌&&◌}
+use Rattle.dg_base.specs.declared.program.CoreProgram.{CoreProgram}
+use Rattle.dg_base.specs.declared.program.Goal.{Goal, out-Goal}
+use Rattle.dg_base.specs.declared.program.Goal.TheOpen as form
+use Rattle.dg_base.specs.Sound.{IsSound, all_goals}
+use Rattle.dg_mid.specs.declared.code.Code.{Code}
+use Rattle.dg_mid.specs.Codes.{Codes}
+use Rattle.dg_mid.specs.Weights.{Weights, IsLight}
+use Rattle.dg_laid.specs.Laid.{BlockSuits}
+
+-- A goal by itself has routines so far, whatever goals it holds.
+abbrev pub has_routines : form.Goal-F Goal → Bool
+has_routines (form.Equal a b) = true
+has_routines (form.Ask pred terms many) = true
+has_routines form.Just = true
+has_routines form.Fail = true
+has_routines form.Stop = true
+has_routines (form.Either lists) = true
+has_routines (form.Once goals) = true
+has_routines (form.Not goals) = true
+has_routines (form.If test first other) = true
+has_routines (form.Exhaust goals) = true
+has_routines (form.Stoppable goals) = true
+has_routines form.Forever = true
+has_routines other = false
+
+-- So has each of some goals.
+abbrev pub all_have : List Goal → Bool
+all_have [] = true
+all_have (goal ∷ goals) = has_routines (out-Goal goal) && all_have goals
+
+-- So has each goal of a program, at every depth.
+abbrev pub all_built : CoreProgram → Bool
+all_built program = all_have (all_goals program)
+
+-- Code that stands for a sound program and is as light as its goals suits, block by block, where all goals have routines.
+abbrev pub GoalsSuit : Type 0
+GoalsSuit = (program : CoreProgram) (code : Code) → IsSound program → Codes program code → ((w : Weights) → IsLight w program code) →
+    all_built program ≡ true → (b : ℕ) → BlockSuits code b
