@@ -8,12 +8,13 @@ use Rattle.dg_base.specs.Sound.{IsSound, all_goals}
 use Rattle.dg_mid.specs.declared.code.Code.{Code}
 use Rattle.dg_mid.specs.Codes.{Codes}
 use Rattle.dg_mid.specs.Weights.{Weights, IsLight}
-use Rattle.dg_laid.specs.Laid.{BlockSuits}
+use Rattle.dg_laid.specs.Laid.{BlockSuits, BodiesAreFew}
 
 -- A goal by itself has routines so far, whatever goals it holds.
 abbrev pub has_routines : form.Goal-F Goal → Bool
 has_routines (form.Equal a b) = true
 has_routines (form.Ask pred terms many) = true
+has_routines (form.Query a b many) = true
 has_routines form.Just = true
 has_routines form.Fail = true
 has_routines form.Stop = true
@@ -35,7 +36,11 @@ all_have (goal ∷ goals) = has_routines (out-Goal goal) && all_have goals
 abbrev pub all_built : CoreProgram → Bool
 all_built program = all_have (all_goals program)
 
--- Code that stands for a sound program and is as light as its goals suits, block by block, where all goals have routines.
+-- Code that stands for a sound program and takes no more room than its goals have suits, block by block, where all goals have routines.
 abbrev pub GoalsSuit : Type 0
 GoalsSuit = (program : CoreProgram) (code : Code) → IsSound program → Codes program code → ((w : Weights) → IsLight w program code) →
     all_built program ≡ true → (b : ℕ) → BlockSuits code b
+
+-- The bodies of its closures have few variables.
+abbrev pub BodiesSuit : Type 0
+BodiesSuit = (program : CoreProgram) (code : Code) → IsSound program → Codes program code → BodiesAreFew code.closures

@@ -1,6 +1,7 @@
 -- Routines that lie in a story in the order of their numbers stand for its code. Hold it against dg_emit/specs/Code.antt and dg_chain/specs/Routines.antt.
 use Rattle.std.specs.Prelude.{◌≡◌, ℕ, ◌+◌, ◌≤◌, List, [], ◌∷◌, length, Some, true}
 use Rattle.std.specs.List.{slice_get}
+use Rattle.dg_mid.specs.declared.code.BodyCode.{BodyCode}
 use Rattle.dg_mid.specs.declared.code.Code.{Code}
 use Rattle.dg_mid.specs.declared.code.Op.{Op}
 use Rattle.dg_mid.specs.declared.code.Op.TheVariants as op
@@ -40,6 +41,11 @@ pub record BlockSuits (code : Code) (b : ℕ) : Type 0 where
   pub built : are_built (block_at code b) ≡ true
   pub calls : OpsCall code (block_at code b)
 
+-- The bodies of closures have at most 300 variables of their own each.
+abbrev pub BodiesAreFew : List BodyCode → Type 0
+BodiesAreFew [] = Unit {0}
+BodiesAreFew (body ∷ bodies) = (body.own ≤ 300) × BodiesAreFew bodies
+
 -- No predicate has more than 2,200 rules that have a key.
 abbrev pub KeysAreFew : Code → Type 0
 KeysAreFew code = (pred : ℕ) → keyed (rules_at code pred) ≤ 2200
@@ -49,4 +55,4 @@ KeysAreFew code = (pred : ℕ) → keyed (rules_at code pred) ≤ 2200
 -- Where they lie so, they stand for code that fits and suits.
 abbrev pub BlocksStand : Type 0
 BlocksStand = (t : Telling) → Playing t → (first : ℕ) (code : Code) → CodeIsLaid t first code → CodeFits t.program code →
-    ((b : ℕ) → BlockSuits code b) → KeysAreFew code → BlocksAt t code
+    ((b : ℕ) → BlockSuits code b) → BodiesAreFew code.closures → KeysAreFew code → BlocksAt t code

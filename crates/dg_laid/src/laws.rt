@@ -1,6 +1,6 @@
 // What stands for the code of a program: each function's clause is a law.
 ghost use Rattle.dg_laid.specs.Laid.{BlocksStand};
-ghost use Rattle.dg_laid.specs.Goals.{GoalsSuit};
+ghost use Rattle.dg_laid.specs.Goals.{BodiesSuit, GoalsSuit};
 
 /// Routines that lie in a story in the order of their numbers stand for its code.
 pub fn blocks_stand()
@@ -9,5 +9,6 @@ pub fn blocks_stand()
 
 /// The code of a program whose goals have routines has them.
 pub fn goals_suit()
-    ensures { GoalsSuit }
+    ensures blocks { GoalsSuit }
+    ensures bodies { BodiesSuit }
 {}

@@ -1,0 +1,4 @@
+pub mod Lying
+pub mod Finding
+pub mod Standing
+pub mod Suiting

@@ -1,0 +1,226 @@
+-- Routines that lie in a story in the order of their numbers stand for its code.
+use Rattle.std.proofs.Common.{◌≡◌, ◌≢◌, ℕ, zero, suc, ◌+◌, ◌-◌, ◌≤◌, List, [], ◌∷◌, ◌++◌, length, Option, Some, None, refl, sym, ap, ◌∙◌, subst, arith}
+use Rattle.std.specs.Prelude.{Bool, true}
+use Rattle.std.specs.List.{slice_get}
+use Rattle.dg_meaning.specs.Values.{Label}
+use Rattle.dg_mid.specs.declared.code.Action.TheVariants as action
+use Rattle.dg_mid.specs.declared.code.Block.{Block}
+use Rattle.dg_mid.specs.declared.code.Code.{Code}
+use Rattle.dg_mid.specs.declared.code.Op.{Op}
+use Rattle.dg_mid.specs.declared.code.Op.TheVariants as op
+use Rattle.dg_mid.specs.declared.code.RuleCode.{RuleCode}
+use Rattle.dg_mid.specs.Calls.{EntersWith, AllEnterWith}
+use Rattle.dg_mid.specs.Code.{ops_of, block_at, codes_of, rules_at, label_of}
+use Rattle.z_lang.specs.Standing.{StandsAt}
+use Rattle.z_lang.specs.declared.act.Routine.{Routine}
+use Rattle.dg_rt.specs.declared.numbers.TheConstants.{FAIL, LEAVE, NONE, UNSTOP, WALK}
+use Rattle.dg_rt.specs.RunTime.{runtime, routine_of}
+use Rattle.dg_turn.specs.Told.{Telling, RulesAt, RuleAt, rule_acts}
+use Rattle.dg_turn.specs.Plays.{Playing}
+use Rattle.dg_emit.specs.declared.numbers.Numbers.{Numbers}
+use Rattle.dg_emit.specs.Numbers.{first_of, first_rule, rules_count, blocks_size, behind_blocks, block_starts, pred_starts, numbers_from, number_or, block_number, pred_number}
+use Rattle.dg_emit.specs.Bodies.{bodies_routines}
+use Rattle.dg_emit.specs.Code.{are_built, parameters_of, op_routine, ops_routines, blocks_routines, rule_routine, rules_routines, preds_routines, code_routines, OpsFit, BlocksFit, RulesFit, PredsFit, CodeFits}
+use Rattle.dg_chain.specs.Routines.{RulesFrom, FindsAll, OpsAt, BlocksAt}
+use Rattle.dg_laid.specs.Laid.{CodeIsLaid, OpsCall, BlockSuits, BodiesAreFew, KeysAreFew, BlocksStand}
+use Rattle.dg_laid.proofs.Lying.{preds_length, blocks_length, LieAt, lie_at, lie_front, lie_behind, RulesLie, rules_lie, OpsLie, ops_lie, no_pred, no_block}
+use Rattle.dg_laid.proofs.Finding.{bodies_found}
+
+-- what fits of all, of one
+rules_fit_at : (code : Code) (preds : List (List RuleCode)) (pred : ℕ) (rules : List RuleCode) → slice_get preds pred ≡ Some rules → PredsFit code preds → RulesFit code rules
+rules_fit_at code [] pred rules e h = absurd (cc)
+rules_fit_at code (rs ∷ preds) zero rules e h = let same : rs ≡ rules = cc in subst (RulesFit code) same h.0
+rules_fit_at code (rs ∷ preds) (suc pred) rules e h = rules_fit_at code preds pred rules e h.1
+
+module _ (t : Telling) (plays : Playing t) (first : ℕ) (code : Code) (laid : CodeIsLaid t first code) (fits : CodeFits t.program code)
+    (suits : (b : ℕ) → BlockSuits code b) (few : BodiesAreFew code.closures) where
+  abbrev numbers : Numbers
+  numbers = numbers_from first code
+
+  abbrev at : ℕ → ℕ
+  at k = t.p.names.routine k
+
+  abbrev of_rules : List Routine
+  of_rules = preds_routines code numbers first code.preds
+
+  abbrev of_blocks : List Routine
+  of_blocks = blocks_routines t.program numbers (first + rules_count code.preds) code.blocks
+
+  abbrev of_bodies : List Routine
+  of_bodies = bodies_routines t.program numbers (length code.closures) (behind_blocks first code) 0 code.closures
+
+  all_lie : LieAt t.p first (of_rules ++ (of_blocks ++ of_bodies))
+  all_lie = lie_at t.p first (code_routines t.program first code) laid.has
+
+  rules_all_lie : LieAt t.p first of_rules
+  rules_all_lie = lie_front t.p first of_rules (of_blocks ++ of_bodies) all_lie
+
+  behind_rules_lie : LieAt t.p (first + rules_count code.preds) (of_blocks ++ of_bodies)
+  behind_rules_lie = lie_behind t.p first (rules_count code.preds) of_rules (of_blocks ++ of_bodies) (preds_length code numbers first code.preds) all_lie
+
+  blocks_all_lie : LieAt t.p (first + rules_count code.preds) of_blocks
+  blocks_all_lie = lie_front t.p (first + rules_count code.preds) of_blocks of_bodies behind_rules_lie
+
+  bodies_all_lie : LieAt t.p (behind_blocks first code) of_bodies
+  bodies_all_lie =
+      lie_behind t.p (first + rules_count code.preds) (blocks_size code.blocks) of_blocks of_bodies
+      (blocks_length t.program numbers (first + rules_count code.preds) code.blocks) behind_rules_lie
+
+  -- a block is where its first routine is
+  to_block : (b : ℕ) → at (block_number numbers b) ≡ t.at_block b
+  to_block b = sym (laid.blocks b)
+
+  -- ## Rules
+
+  rules_stand : (arguments number : ℕ) (rules : List RuleCode) → arguments ≤ 12 → LieAt t.p number (rules_routines code numbers number rules) → RulesFit code rules →
+      AllEnterWith arguments code rules → RulesAt t arguments (first_rule number rules) rules
+  rules_stand arguments number [] short lie fit enters = refl
+  rules_stand arguments number (r ∷ rules) short lie fit enters =
+      let w : EntersWith arguments (block_at code r.block) = enters.0 in
+      let count : parameters_of (block_at code r.block) ≡ arguments = ap parameters_of w.is ∙ w.fits in
+      record {
+        few = short;
+        enter = block_number numbers r.block;
+        next = first_rule (number + 1) rules;
+        is = lie.0 ∙ ap (λ (n : ℕ). Some (routine_of 1 (rule_acts (label_of r.key) n (block_number numbers r.block) number (first_rule (number + 1) rules)))) count;
+        enter_is = to_block r.block;
+        fits = fit.0;
+        behind = rules_stand arguments (number + 1) rules short lie.1 fit.2 enters.1;
+      }
+
+  rules_from : (arguments pred : ℕ) → arguments ≤ 12 → AllEnterWith arguments code (rules_at code pred) → RulesFrom t code arguments (pred_number numbers pred) pred
+  rules_from arguments pred short enters = record { short = short; rules_are = by (slice_get code.preds pred) refl }
+    where
+      by : (o : Option (List RuleCode)) → slice_get code.preds pred ≡ o → RulesAt t arguments (pred_number numbers pred) (rules_at code pred)
+      by None e =
+          let none : pred_number numbers pred ≡ NONE = ap (number_or NONE) (no_pred first code.preds pred e) in
+          subst (λ (rs : List RuleCode). RulesAt t arguments (pred_number numbers pred) rs) (sym (ap codes_of e)) none
+      by (Some rules) e =
+          let there : RulesLie t.p code numbers (slice_get (pred_starts first code.preds) pred) rules = rules_lie t.p code numbers first code.preds pred rules e rules_all_lie in
+          let these : rules_at code pred ≡ rules = ap codes_of e in
+          let number : pred_number numbers pred ≡ first_rule there.start rules = ap (number_or NONE) there.told_is in
+          let stand : RulesAt t arguments (first_rule there.start rules) rules =
+          rules_stand arguments there.start rules short there.lie (rules_fit_at code code.preds pred rules e fits.1) (subst (AllEnterWith arguments code) these enters) in
+          subst (RulesAt t arguments (pred_number numbers pred)) (sym these) (subst (λ (n : ℕ). RulesAt t arguments n rules) (sym number) stand)
+
+  all_found : FindsAll t code numbers.find
+  all_found = record { depth = 14; few = omega arith; finds = bodies_found t numbers to_block (behind_blocks first code) code.closures fits.2.0 few bodies_all_lie }
+
+  -- ## Instructions
+
+  ops_stand : (n : ℕ) (ops : List Op) → LieAt t.p n (ops_routines t.program numbers n ops) → are_built ops ≡ true → OpsCall code ops → OpsFit t.program ops →
+      OpsAt t code (at (first_of n ops)) ops
+  ops_stand n [] lie built calls fit = tt
+  ops_stand n (op.Do action.Just ∷ ops) lie built calls fit = record { behind = first_of (n + 1) ops; is = lie.0; next = ops_stand (n + 1) ops lie.1 built calls.1 fit.1 }
+  ops_stand n (op.Do action.Fail ∷ ops) lie built calls fit = lie.0
+  ops_stand n (op.Do action.Stop ∷ ops) lie built calls fit = refl
+  ops_stand n (op.Do (action.Equal a b) ∷ ops) lie built calls fit =
+      record { goes = record { behind = first_of (n + 1) ops; is = lie.0; next = ops_stand (n + 1) ops lie.1 built calls.1 fit.1 }; nodes = fit.0.1 }
+  ops_stand n (op.Do a ∷ ops) lie built calls fit = absurd (cc)
+  ops_stand n (op.Ask pred terms many next ∷ ops) lie built calls fit = record {
+    behind = block_number numbers next;
+    number = pred_number numbers pred;
+    is = lie.0;
+    goes = to_block next;
+    rules = rules_from (length terms) pred fit.0.0 calls.0;
+    nodes = fit.0.1;
+  }
+  ops_stand n (op.LastAsk pred terms many ∷ ops) lie built calls fit = record {
+    end = block_number numbers 0;
+    number = pred_number numbers pred;
+    is = lie.0;
+    end_is = to_block 0;
+    rules = rules_from (length terms) pred fit.0.0 calls.0;
+    nodes = fit.0.1;
+  }
+  ops_stand n (op.Query a b many next ∷ ops) lie built calls fit =
+      record { behind = block_number numbers next; find = numbers.find; is = lie.0; goes = to_block next; all = all_found; nodes = fit.0.1 }
+  ops_stand n (op.LastQuery a b many ∷ ops) lie built calls fit =
+      record { end = block_number numbers 0; find = numbers.find; is = lie.0; end_is = to_block 0; all = all_found; nodes = fit.0.1 }
+  ops_stand n (op.Take ∷ ops) lie built calls fit = record { behind = first_of (n + 1) ops; is = lie.0; next = ops_stand (n + 1) ops lie.1 built calls.1 fit.1 }
+  ops_stand n (op.Branch alt ∷ ops) lie built calls fit = record {
+    alt = block_number numbers alt;
+    alt_is = to_block alt;
+    goes = record { behind = first_of (n + 1) ops; is = lie.0; next = ops_stand (n + 1) ops lie.1 built calls.1 fit.1 };
+  }
+  ops_stand n (op.Once ∷ ops) lie built calls fit = record { behind = first_of (n + 1) ops; is = lie.0; next = ops_stand (n + 1) ops lie.1 built calls.1 fit.1 }
+  ops_stand n (op.Try alt ∷ ops) lie built calls fit = record {
+    alt = block_number numbers alt;
+    alt_is = to_block alt;
+    goes = record { behind = first_of (n + 1) ops; is = lie.0; next = ops_stand (n + 1) ops lie.1 built calls.1 fit.1 };
+  }
+  ops_stand n (op.Shield alt ∷ ops) lie built calls fit = record {
+    alt = block_number numbers alt;
+    alt_is = to_block alt;
+    goes = record { behind = first_of (n + 1) ops; is = lie.0; next = ops_stand (n + 1) ops lie.1 built calls.1 fit.1 };
+  }
+  ops_stand n (op.Retry alt ∷ ops) lie built calls fit = record {
+    alt = block_number numbers alt;
+    alt_is = to_block alt;
+    goes = record { behind = first_of (n + 1) ops; is = lie.0; next = ops_stand (n + 1) ops lie.1 built calls.1 fit.1 };
+  }
+  ops_stand n (op.Commit ∷ ops) lie built calls fit = record { behind = first_of (n + 1) ops; is = lie.0; next = ops_stand (n + 1) ops lie.1 built calls.1 fit.1 }
+  ops_stand n (op.Refuse ∷ ops) lie built calls fit = lie.0
+  ops_stand n (op.Leave ∷ ops) lie built calls fit = record { behind = first_of (n + 1) ops; is = lie.0; next = ops_stand (n + 1) ops lie.1 built calls.1 fit.1 }
+  ops_stand n (op.Back ∷ ops) lie built calls fit = lie.0
+  ops_stand n (op.Return ∷ ops) lie built calls fit = refl
+  ops_stand n (op.Goto b ∷ ops) lie built calls fit = record { next = block_number numbers b; is = lie.0; next_is = to_block b }
+  ops_stand n (op.Enter vars head ∷ ops) lie built calls fit = record {
+    goes = record { behind = first_of (n + 1) ops; is = lie.0; next = ops_stand (n + 1) ops lie.1 built calls.1 fit.1 };
+    few_vars = calls.0;
+    short = fit.0.0;
+    nodes = fit.0.1;
+  }
+  ops_stand n (op.Done ∷ ops) lie built calls fit = lie.0
+  ops_stand n (x ∷ ops) lie built calls fit = absurd (cc)
+
+  -- ## Blocks
+
+  blocks_fit_at : (blocks : List Block) (b : ℕ) (block : Block) → slice_get blocks b ≡ Some block → BlocksFit t.program blocks → OpsFit t.program block.ops
+  blocks_fit_at [] b block e h = absurd (cc)
+  blocks_fit_at (x ∷ blocks) zero block e h = let same : x ≡ block = cc in subst (λ (y : Block). OpsFit t.program y.ops) same h.0
+  blocks_fit_at (x ∷ blocks) (suc b) block e h = blocks_fit_at blocks b block e h.1
+
+  each_stands : (b : ℕ) (o : Option Block) → slice_get code.blocks b ≡ o → OpsAt t code (t.at_block b) (block_at code b)
+  each_stands b None e = subst (OpsAt t code (t.at_block b)) (sym (ap ops_of e)) tt
+  each_stands b (Some block) e =
+      let there : OpsLie t.p t.program numbers (slice_get (block_starts (first + rules_count code.preds) code.blocks) b) block.ops =
+      ops_lie t.p t.program numbers (first + rules_count code.preds) code.blocks b block e blocks_all_lie in
+      let these : block_at code b ≡ block.ops = ap ops_of e in
+      let number : block_number numbers b ≡ first_of there.start block.ops = ap (number_or FAIL) there.told_is in
+      let s : BlockSuits code b = suits b in
+      let stand : OpsAt t code (at (first_of there.start block.ops)) block.ops =
+      ops_stand there.start block.ops there.lie (subst (λ (l : List Op). are_built l ≡ true) these s.built) (subst (OpsCall code) these s.calls) (blocks_fit_at code.blocks b block e fits.0) in
+      subst (OpsAt t code (t.at_block b)) (sym these) (subst (λ (x : ℕ). OpsAt t code x block.ops) (sym (laid.blocks b ∙ ap at number)) stand)
+
+  -- ## Addresses
+
+  -- where a routine stands isn't 0
+  stands_some : (x : ℕ) (r : Routine) → t.p.routine_at x ≡ Some r → x ≢ 0
+  stands_some x r e = let s : StandsAt t.p t.story x r = plays.stands.each x r e in s.some
+
+  of_run_time : (k : ℕ) (r : Routine) → slice_get runtime k ≡ Some r → at (WALK + k) ≢ 0
+  of_run_time k r e = stands_some (at (WALK + k)) r (plays.has.each k r e)
+
+  first_some : (n : ℕ) (ops : List Op) → LieAt t.p n (ops_routines t.program numbers n ops) → at (first_of n ops) ≢ 0
+  first_some n [] lie = stands_some (at n) _ lie.0
+  first_some n (op.Return ∷ ops) lie = of_run_time (LEAVE - WALK) _ refl
+  first_some n (op.Do action.Stop ∷ ops) lie = of_run_time (UNSTOP - WALK) _ refl
+  first_some n (x ∷ ops) lie = stands_some (at n) _ lie.0
+
+  block_some : (b : ℕ) (o : Option Block) → slice_get code.blocks b ≡ o → t.at_block b ≢ 0
+  block_some b None e =
+      let number : block_number numbers b ≡ FAIL = ap (number_or FAIL) (no_block (first + rules_count code.preds) code.blocks b e) in
+      subst (λ (x : ℕ). x ≢ 0) (sym (laid.blocks b ∙ ap at number)) (of_run_time (FAIL - WALK) _ refl)
+  block_some b (Some block) e =
+      let there : OpsLie t.p t.program numbers (slice_get (block_starts (first + rules_count code.preds) code.blocks) b) block.ops =
+      ops_lie t.p t.program numbers (first + rules_count code.preds) code.blocks b block e blocks_all_lie in
+      let number : block_number numbers b ≡ first_of there.start block.ops = ap (number_or FAIL) there.told_is in
+      subst (λ (x : ℕ). x ≢ 0) (sym (laid.blocks b ∙ ap at number)) (first_some there.start block.ops there.lie)
+
+pub blocks_stand : BlocksStand
+blocks_stand t plays first code laid fits suits few keys = record {
+  each = λ b. each_stands t plays first code laid fits suits few b (slice_get code.blocks b) refl;
+  some = λ b. block_some t plays first code laid fits suits few b (slice_get code.blocks b) refl;
+  few = keys;
+}

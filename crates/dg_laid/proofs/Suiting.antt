@@ -1,0 +1,207 @@
+-- The code of a sound program whose goals have routines suits.
+use Rattle.std.proofs.Common.{◌≡◌, ℕ, zero, suc, ◌+◌, ◌≤◌, List, [], ◌∷◌, ◌++◌, length, Option, Some, None, refl, sym, ap, ◌∙◌, subst, arith}
+use Rattle.std.specs.Prelude.{Bool, true, false, ◌&&◌, not}
+use Rattle.std.specs.List.{All, flat_map, slice_get}
+use Rattle.std.proofs.Math.Dec.{eqb, ltb}
+use Rattle.std.proofs.lemmas.Bool.{eqb-true, eq-eqb, le-ltb, ltb-false}
+use Rattle.dg_base.specs.declared.program.ClosureBody.{ClosureBody}
+use Rattle.dg_base.specs.declared.program.CoreProgram.{CoreProgram}
+use Rattle.dg_base.specs.declared.program.Goal.{Goal, out-Goal}
+use Rattle.dg_base.specs.declared.program.Goal.TheOpen as form
+use Rattle.dg_base.specs.declared.program.Pred.{Pred}
+use Rattle.dg_base.specs.declared.program.Rule.{Rule}
+use Rattle.dg_base.specs.Goals.{all_goals_of}
+use Rattle.dg_base.specs.Sound.{IsGoalOf, IsRuleOf, IsPredOf, IsClosureOf, IsEntry, FitsHeads, FitsProgram, closure_vars, all_goals, IsSound}
+use Rattle.dg_meaning.specs.Moves.{rules_of}
+use Rattle.dg_mid.specs.declared.code.Action.TheVariants as action
+use Rattle.dg_mid.specs.declared.code.BodyCode.{BodyCode}
+use Rattle.dg_mid.specs.declared.code.Code.{Code}
+use Rattle.dg_mid.specs.declared.code.Op.{Op}
+use Rattle.dg_mid.specs.declared.code.Op.TheVariants as op
+use Rattle.dg_mid.specs.declared.code.RuleCode.{RuleCode}
+use Rattle.dg_mid.specs.Calls.{AllEnterWith}
+use Rattle.dg_mid.specs.Code.{block_at, rules_at}
+use Rattle.dg_mid.specs.Codes.{RulesStand, RuleStands, BodyStands, Codes}
+use Rattle.dg_mid.specs.Passing.{Tests, GoalPasses, GoalsPass, RulesPass, PredsPass, ClosuresPass, ProgramPasses, OpPasses, OpsPass}
+use Rattle.dg_mid.proofs.Passing.{code_passes}
+use Rattle.dg_emit.specs.Code.{is_built, are_built}
+use Rattle.dg_laid.specs.Laid.{OpCalls, OpsCall, BlockSuits, BodiesAreFew}
+use Rattle.dg_laid.specs.Goals.{has_routines, all_have, all_built, GoalsSuit, BodiesSuit}
+
+-- ## Tests that pass
+
+both : (a b : Bool) → a && b ≡ true → (a ≡ true) × (b ≡ true)
+both true b e = (refl, e)
+both false b e = absurd (cc)
+
+and_true : (a b : Bool) → a ≡ true → b ≡ true → a && b ≡ true
+and_true a b d e = ap (λ (x : Bool). x && b) d ∙ e
+
+have_both : (xs ys : List Goal) → all_have (xs ++ ys) ≡ true → (all_have xs ≡ true) × (all_have ys ≡ true)
+have_both [] ys e = (refl, e)
+have_both (x ∷ xs) ys e =
+    let k = both (has_routines (out-Goal x)) (all_have (xs ++ ys)) e in
+    let more = have_both xs ys k.1 in (and_true (has_routines (out-Goal x)) (all_have xs) k.0 more.0, more.1)
+
+rest_of : {A : Type 0} (P : A → Type 0) (x : A) (xs : List A) → All P (x ∷ xs) → All P xs
+rest_of P x xs h k d lt = h (suc k) d (omega (arith, lt))
+
+rules_take : ℕ → List Rule → Bool
+rules_take n [] = true
+rules_take n (r ∷ rs) = eqb (length r.head) n && rules_take n rs
+
+pred_takes : ℕ → Option Pred → Bool
+pred_takes n None = false
+pred_takes n (Some pred) = rules_take n pred.rules
+
+rules_right : (n : ℕ) (rs : List Rule) → All (λ (rule : Rule). length rule.head ≡ n) rs → rules_take n rs ≡ true
+rules_right n [] h = refl
+rules_right n (r ∷ rs) h =
+    and_true (eqb (length r.head) n) (rules_take n rs) (eq-eqb (length r.head) n (h 0 r (omega arith))) (rules_right n rs (rest_of (λ (rule : Rule). length rule.head ≡ n) r rs h))
+
+pred_right : (n : ℕ) (o : Option Pred) → FitsHeads n o → pred_takes n o ≡ true
+pred_right n None h = absurd h
+pred_right n (Some pred) h = rules_right n pred.rules h
+
+of_pred : (n : ℕ) (o : Option Pred) → pred_takes n o ≡ true → rules_take n (rules_of o) ≡ true
+of_pred n None e = absurd (cc)
+of_pred n (Some pred) e = e
+
+module _ (program : CoreProgram) where
+  asks_right : form.Goal-F Goal → Bool
+  asks_right (form.Ask pred terms many) = pred_takes (length terms) (slice_get program.preds pred)
+  asks_right other = true
+
+  abbrev tests : Tests
+  tests = record { goal = λ g. has_routines g && asks_right g; head = λ vars head. not (ltb 300 vars); gathers = false }
+
+  -- ## The program
+
+  goal_passes : (layer : form.Goal-F Goal) → has_routines layer ≡ true → FitsProgram program layer → GoalPasses tests layer
+  goal_passes (form.Ask pred terms many) h fits = pred_right (length terms) (slice_get program.preds pred) fits
+  goal_passes (form.Equal a b) h fits = refl
+  goal_passes (form.Query a b many) h fits = refl
+  goal_passes form.Just h fits = refl
+  goal_passes form.Fail h fits = refl
+  goal_passes form.Stop h fits = refl
+  goal_passes (form.Either lists) h fits = tt
+  goal_passes (form.Once goals) h fits = tt
+  goal_passes (form.Not goals) h fits = tt
+  goal_passes (form.If test first other) h fits = tt
+  goal_passes (form.Exhaust goals) h fits = tt
+  goal_passes (form.Stoppable goals) h fits = tt
+  goal_passes form.Forever h fits = tt
+  goal_passes layer h fits = absurd (cc)
+
+  goals_pass : (vars : ℕ) (gs : List Goal) → all_have gs ≡ true → All (IsGoalOf program vars) gs → GoalsPass tests gs
+  goals_pass vars [] h a = tt
+  goals_pass vars (g ∷ gs) h a =
+      let k = both (has_routines (out-Goal g)) (all_have gs) h in
+      let is : IsGoalOf program vars g = a 0 g (omega arith) in
+      (goal_passes (out-Goal g) k.0 is.fits, goals_pass vars gs k.1 (rest_of (IsGoalOf program vars) g gs a))
+
+  abbrev rule_goals : Rule → List Goal
+  rule_goals rule = all_goals_of rule.body
+
+  abbrev pred_goals : Pred → List Goal
+  pred_goals pred = flat_map rule_goals pred.rules
+
+  abbrev closure_goals : ClosureBody → List Goal
+  closure_goals closure = all_goals_of closure.body
+
+  rules_pass : (rs : List Rule) → all_have (flat_map rule_goals rs) ≡ true → All (IsRuleOf program) rs → RulesPass tests rs
+  rules_pass [] h a = tt
+  rules_pass (r ∷ rs) h a =
+      let k = have_both (rule_goals r) (flat_map rule_goals rs) h in
+      let is : IsRuleOf program r = a 0 r (omega arith) in
+      let few = is.few in
+      (ap not (le-ltb 300 r.vars (omega arith)), goals_pass r.vars (rule_goals r) k.0 is.body, rules_pass rs k.1 (rest_of (IsRuleOf program) r rs a))
+
+  preds_pass : (ps : List Pred) → all_have (flat_map pred_goals ps) ≡ true → All (IsPredOf program) ps → PredsPass tests ps
+  preds_pass [] h a = tt
+  preds_pass (p ∷ ps) h a =
+      let k = have_both (pred_goals p) (flat_map pred_goals ps) h in
+      let is : IsPredOf program p = a 0 p (omega arith) in
+      (rules_pass p.rules k.0 is.rules, preds_pass ps k.1 (rest_of (IsPredOf program) p ps a))
+
+  closures_pass : (cs : List ClosureBody) → all_have (flat_map closure_goals cs) ≡ true → All (IsClosureOf program) cs → ClosuresPass tests cs
+  closures_pass [] h a = tt
+  closures_pass (c ∷ cs) h a =
+      let k = have_both (closure_goals c) (flat_map closure_goals cs) h in
+      let is : IsClosureOf program c = a 0 c (omega arith) in
+      (goals_pass (closure_vars c) (closure_goals c) k.0 is.body, closures_pass cs k.1 (rest_of (IsClosureOf program) c cs a))
+
+  entry_right : (o : Option Pred) → IsEntry o → pred_takes 0 o ≡ true
+  entry_right None h = absurd h
+  entry_right (Some pred) h = rules_right 0 pred.rules (λ k d lt. ap length (h k d lt))
+
+  program_passes : IsSound program → all_built program ≡ true → ProgramPasses tests program
+  program_passes sound h =
+      let k = have_both (flat_map pred_goals program.preds) (flat_map closure_goals program.closures) h in
+      record {
+        entry = entry_right (slice_get program.preds program.entry) sound.entry;
+        preds = preds_pass program.preds k.0 sound.preds;
+        closures = closures_pass program.closures k.1 sound.closures;
+      }
+
+  -- ## The code
+
+  module _ (code : Code) (codes : Codes program code) where
+    rules_enter : (n : ℕ) (cs : List RuleCode) (rs : List Rule) → RulesStand code cs rs → rules_take n rs ≡ true → AllEnterWith n code cs
+    rules_enter n [] rs s e = tt
+    rules_enter n (c ∷ cs) [] s e = absurd s
+    rules_enter n (c ∷ cs) (r ∷ rs) s e =
+        let k = both (eqb (length r.head) n) (rules_take n rs) e in
+        let first : RuleStands code c r = s.0 in
+        (record { vars = r.vars; head = r.head; rest = first.ops; is = first.block; fits = eqb-true (length r.head) n k.0 }, rules_enter n cs rs s.1 k.1)
+
+    pred_enters : (n pred : ℕ) → pred_takes n (slice_get program.preds pred) ≡ true → AllEnterWith n code (rules_at code pred)
+    pred_enters n pred e = rules_enter n (rules_at code pred) (rules_of (slice_get program.preds pred)) (codes.rules pred) (of_pred n (slice_get program.preds pred) e)
+
+    few_vars : (vars : ℕ) → not (ltb 300 vars) ≡ true → vars ≤ 300
+    few_vars vars e = ltb-false 300 vars (untrue (ltb 300 vars) e)
+      where
+        untrue : (b : Bool) → not b ≡ true → b ≡ false
+        untrue true e = absurd (cc)
+        untrue false e = refl
+
+    op_suits : (x : Op) → OpPasses tests x → (is_built x ≡ true) × OpCalls code x
+    op_suits (op.Do (action.Equal a b)) h = (refl, tt)
+    op_suits (op.Do action.Just) h = (refl, tt)
+    op_suits (op.Do action.Fail) h = (refl, tt)
+    op_suits (op.Do action.Stop) h = (refl, tt)
+    op_suits (op.Do a) h = absurd (cc)
+    op_suits (op.Ask pred terms many next) h = (refl, pred_enters (length terms) pred h)
+    op_suits (op.LastAsk pred terms many) h = (refl, pred_enters (length terms) pred h)
+    op_suits (op.Find None [] many next) h = absurd (cc)
+    op_suits (op.Find None (term ∷ []) many next) h = absurd (cc)
+    op_suits (op.Find None (term ∷ other ∷ terms) many next) h = absurd (cc)
+    op_suits (op.Find (Some place) terms many next) h = absurd (cc)
+    op_suits (op.Select site mode blocks behind) h = absurd (cc)
+    op_suits (op.Collect term into alt) h = absurd (cc)
+    op_suits (op.TakeOut whole into) h = absurd (cc)
+    op_suits (op.Keep term) h = absurd (cc)
+    op_suits (op.Enter vars head) h = (refl, few_vars vars h)
+    op_suits x h = (refl, tt)
+
+    ops_suit : (ops : List Op) → OpsPass tests ops → (are_built ops ≡ true) × OpsCall code ops
+    ops_suit [] h = (refl, tt)
+    ops_suit (x ∷ ops) h =
+        let first = op_suits x h.0 in
+        let more = ops_suit ops h.1 in (and_true (is_built x) (are_built ops) first.0 more.0, (first.1, more.1))
+
+    bodies_few : (cs : List BodyCode) (qs : List ClosureBody) → ((n : ℕ) → BodyStands code (slice_get cs n) (slice_get qs n)) → All (IsClosureOf program) qs → BodiesAreFew cs
+    bodies_few [] qs h a = tt
+    bodies_few (c ∷ cs) [] h a = absurd (h 0)
+    bodies_few (c ∷ cs) (q ∷ qs) h a =
+        let is : IsClosureOf program q = a 0 q (omega arith) in
+        let few = is.few in
+        let same : c.own ≡ q.own = (h 0).0 in
+        (omega arith, bodies_few cs qs (λ n. h (suc n)) (rest_of (IsClosureOf program) q qs a))
+
+pub goals_suit : GoalsSuit
+goals_suit program code sound codes light h b =
+    let k = ops_suit program code codes (block_at code b) (code_passes (tests program) program code light (program_passes program sound h) b) in record { built = k.0; calls = k.1 }
+
+pub bodies_suit : BodiesSuit
+bodies_suit program code sound codes = bodies_few program code codes code.closures program.closures codes.bodies sound.closures
