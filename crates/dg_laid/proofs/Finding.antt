@@ -2,7 +2,7 @@
 use Rattle.std.proofs.Common.{◌≡◌, ℕ, zero, suc, ◌+◌, ◌*◌, ◌-◌, ◌<◌, ◌≤◌, List, [], ◌∷◌, ◌++◌, length, take, drop, Some, refl, sym, ap, ◌∙◌, subst, arith, length-append, length-drop}
 use Rattle.std.specs.Prelude.{◌/◌, ◌%◌}
 use Rattle.std.specs.List.{slice_get}
-use Rattle.std.proofs.lemmas.List.{take-append-drop, length-take}
+use Rattle.std.proofs.lemmas.List.{take-append-drop, length-take-le}
 use Rattle.dg_base.specs.declared.program.CoreProgram.{CoreProgram}
 use Rattle.dg_meaning.specs.Cells.{captured_count}
 use Rattle.dg_mid.specs.declared.code.BodyCode.{BodyCode}
@@ -21,7 +21,7 @@ abbrev half : List BodyCode → ℕ
 half cs = length cs / 2
 
 half_is : (c d : BodyCode) (cs : List BodyCode) → length (take (half (c ∷ d ∷ cs)) (c ∷ d ∷ cs)) ≡ half (c ∷ d ∷ cs)
-half_is c d cs = omega (arith, length-take (half (c ∷ d ∷ cs)) (c ∷ d ∷ cs))
+half_is c d cs = length-take-le (half (c ∷ d ∷ cs)) (c ∷ d ∷ cs) (omega arith)
 
 other_is : (c d : BodyCode) (cs : List BodyCode) → length (drop (half (c ∷ d ∷ cs)) (c ∷ d ∷ cs)) ≡ length (c ∷ d ∷ cs) - half (c ∷ d ∷ cs)
 other_is c d cs = length-drop (half (c ∷ d ∷ cs)) (c ∷ d ∷ cs)

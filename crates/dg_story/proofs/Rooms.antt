@@ -156,7 +156,16 @@ pieces_room (suc further) number body way =
 
 -- the bytes of a plain story: an instruction and a block take 16 at most, one that prints a text 24, and 6 for each character
 abbrev pub bytes : Weights
-bytes = record { own = 16; opening = 16; small = 16; block = 16; node = λ layer. 0; text = 24; character = 6 }
+bytes = record {
+  own = λ goal. 16;
+  enters = λ vars head. 16;
+  opening = 16;
+  small = 16;
+  gathers = 0;
+  block = 16;
+  node = λ layer. 0;
+  text = λ text. 24 + 6 * characters text;
+}
 
 -- an instruction takes no more room than it weighs
 op_room : (numbers : Numbers) (k : ℕ) (x : Op) → rooms (op_routines numbers k x) ≤ op_weight bytes x
