@@ -46,11 +46,11 @@ have_both (x ∷ xs) ys e =
 rest_of : {A : Type 0} (P : A → Type 0) (x : A) (xs : List A) → All P (x ∷ xs) → All P xs
 rest_of P x xs h k d lt = h (suc k) d (omega (arith, lt))
 
-rules_take : ℕ → List Rule → Bool
+abbrev rules_take : ℕ → List Rule → Bool
 rules_take n [] = true
 rules_take n (r ∷ rs) = eqb (length r.head) n && rules_take n rs
 
-pred_takes : ℕ → Option Pred → Bool
+abbrev pred_takes : ℕ → Option Pred → Bool
 pred_takes n None = false
 pred_takes n (Some pred) = rules_take n pred.rules
 
@@ -68,7 +68,7 @@ of_pred n None e = absurd (cc)
 of_pred n (Some pred) e = e
 
 module _ (program : CoreProgram) where
-  asks_right : form.Goal-F Goal → Bool
+  abbrev asks_right : form.Goal-F Goal → Bool
   asks_right (form.Ask pred terms many) = pred_takes (length terms) (slice_get program.preds pred)
   asks_right other = true
 
