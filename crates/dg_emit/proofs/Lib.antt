@@ -2,5 +2,5 @@ mod Left
 mod Nodes
 mod Matching
 mod Halving
-mod Names
+pub mod Names
 pub mod Alike

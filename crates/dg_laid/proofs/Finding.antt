@@ -1,14 +1,12 @@
 -- Routines of forks and bodies that lie one behind the other find the bodies of all closures.
-use Rattle.std.proofs.Common.{◌≡◌, ℕ, zero, suc, ◌+◌, ◌*◌, ◌-◌, ◌<◌, ◌≤◌, List, [], ◌∷◌, ◌++◌, length, take, drop, Some, refl, sym, ap, ◌∙◌, subst, arith, length-append, length-drop}
-use Rattle.std.specs.Prelude.{◌/◌, ◌%◌}
-use Rattle.std.specs.List.{slice_get}
+use Rattle.std.proofs.Common.{◌≡◌, ℕ, zero, suc, ◌+◌, ◌*◌, ◌-◌, ◌<◌, ◌≤◌, List, [], ◌∷◌, length, take, drop, Some, refl, sym, ap, ◌∙◌, subst, arith, length-append, length-drop}
+use Rattle.std.specs.Prelude.{◌/◌}
 use Rattle.std.proofs.lemmas.List.{take-append-drop, length-take-le}
 use Rattle.dg_base.specs.declared.program.CoreProgram.{CoreProgram}
-use Rattle.dg_meaning.specs.Cells.{captured_count}
 use Rattle.dg_mid.specs.declared.code.BodyCode.{BodyCode}
 use Rattle.z_lang.specs.declared.act.Routine.{Routine}
 use Rattle.dg_turn.specs.Told.{Telling}
-use Rattle.dg_turn.specs.Bodies.{fork_routine, body_routine, BodyAt, FindsBodies, no_body, one_body, two_parts}
+use Rattle.dg_turn.specs.Bodies.{fork_routine, BodyAt, FindsBodies, no_body, one_body, two_parts}
 use Rattle.dg_emit.specs.declared.numbers.Numbers.{Numbers}
 use Rattle.dg_emit.specs.Numbers.{bodies_size, bodies_start, block_number}
 use Rattle.dg_emit.specs.Bodies.{bodies_routines, entering_routine}

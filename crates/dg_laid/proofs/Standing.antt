@@ -1,8 +1,7 @@
 -- Routines that lie in a story in the order of their numbers stand for its code.
 use Rattle.std.proofs.Common.{◌≡◌, ◌≢◌, ℕ, zero, suc, ◌+◌, ◌-◌, ◌≤◌, List, [], ◌∷◌, ◌++◌, length, Option, Some, None, refl, sym, ap, ◌∙◌, subst, arith}
-use Rattle.std.specs.Prelude.{Bool, true}
+use Rattle.std.specs.Prelude.{true}
 use Rattle.std.specs.List.{slice_get}
-use Rattle.dg_meaning.specs.Values.{Label}
 use Rattle.dg_mid.specs.declared.code.Action.TheVariants as action
 use Rattle.dg_mid.specs.declared.code.Block.{Block}
 use Rattle.dg_mid.specs.declared.code.Code.{Code}
@@ -15,14 +14,16 @@ use Rattle.z_lang.specs.Standing.{StandsAt}
 use Rattle.z_lang.specs.declared.act.Routine.{Routine}
 use Rattle.dg_rt.specs.declared.numbers.TheConstants.{FAIL, LEAVE, NONE, UNSTOP, WALK}
 use Rattle.dg_rt.specs.RunTime.{runtime, routine_of}
-use Rattle.dg_turn.specs.Told.{Telling, RulesAt, RuleAt, rule_acts}
+use Rattle.dg_turn.specs.Told.{Telling, RulesAt, rule_acts}
 use Rattle.dg_turn.specs.Plays.{Playing}
+use Rattle.dg_turn.specs.Texts.{text_routine}
 use Rattle.dg_emit.specs.declared.numbers.Numbers.{Numbers}
 use Rattle.dg_emit.specs.Numbers.{first_of, first_rule, rules_count, blocks_size, behind_blocks, block_starts, pred_starts, numbers_from, number_or, block_number, pred_number}
 use Rattle.dg_emit.specs.Bodies.{bodies_routines}
-use Rattle.dg_emit.specs.Code.{are_built, parameters_of, op_routine, ops_routines, blocks_routines, rule_routine, rules_routines, preds_routines, code_routines, OpsFit, BlocksFit, RulesFit, PredsFit, CodeFits}
-use Rattle.dg_chain.specs.Routines.{RulesFrom, FindsAll, OpsAt, BlocksAt}
-use Rattle.dg_laid.specs.Laid.{CodeIsLaid, OpsCall, BlockSuits, BodiesAreFew, KeysAreFew, BlocksStand}
+use Rattle.dg_emit.specs.Code.{are_built, parameters_of, ops_routines, blocks_routines, rules_routines, preds_routines, code_routines, OpsFit, BlocksFit, RulesFit, PredsFit, CodeFits}
+use Rattle.dg_emit.proofs.Names.{name_chars}
+use Rattle.dg_chain.specs.Routines.{RulesFrom, FindsAll, OpsAt}
+use Rattle.dg_laid.specs.Laid.{CodeIsLaid, OpsCall, BlockSuits, BodiesAreFew, BlocksStand}
 use Rattle.dg_laid.proofs.Lying.{preds_length, blocks_length, LieAt, lie_at, lie_front, lie_behind, RulesLie, rules_lie, OpsLie, ops_lie, no_pred, no_block}
 use Rattle.dg_laid.proofs.Finding.{bodies_found}
 
@@ -114,6 +115,20 @@ module _ (t : Telling) (plays : Playing t) (first : ℕ) (code : Code) (laid : C
   ops_stand n (op.Do action.Just ∷ ops) lie built calls fit = record { behind = first_of (n + 1) ops; is = lie.0; next = ops_stand (n + 1) ops lie.1 built calls.1 fit.1 }
   ops_stand n (op.Do action.Fail ∷ ops) lie built calls fit = lie.0
   ops_stand n (op.Do action.Stop ∷ ops) lie built calls fit = refl
+  ops_stand n (op.Do action.Quit ∷ ops) lie built calls fit = lie.0
+  ops_stand n (op.Do (action.Text text) ∷ ops) lie built calls fit =
+      let behind : ℕ = first_of (n + 1) ops in
+      record {
+        name = fit.0;
+        goes = record {
+          behind = behind;
+          is = lie.0 ∙ ap (λ (cs : List ℕ). Some (text_routine cs behind)) (name_chars text fit.0);
+          next = ops_stand (n + 1) ops lie.1 built calls.1 fit.1;
+        };
+      }
+  ops_stand n (op.Do (action.Gap kind) ∷ ops) lie built calls fit = record { behind = first_of (n + 1) ops; is = lie.0; next = ops_stand (n + 1) ops lie.1 built calls.1 fit.1 }
+  ops_stand n (op.Do (action.GapN a) ∷ ops) lie built calls fit =
+      record { goes = record { behind = first_of (n + 1) ops; is = lie.0; next = ops_stand (n + 1) ops lie.1 built calls.1 fit.1 }; nodes = fit.0.1 }
   ops_stand n (op.Do (action.Equal a b) ∷ ops) lie built calls fit =
       record { goes = record { behind = first_of (n + 1) ops; is = lie.0; next = ops_stand (n + 1) ops lie.1 built calls.1 fit.1 }; nodes = fit.0.1 }
   ops_stand n (op.Do a ∷ ops) lie built calls fit = absurd (cc)

@@ -1,5 +1,5 @@
 -- The code of a sound program whose goals have routines suits.
-use Rattle.std.proofs.Common.{◌≡◌, ℕ, zero, suc, ◌+◌, ◌≤◌, List, [], ◌∷◌, ◌++◌, length, Option, Some, None, refl, sym, ap, ◌∙◌, subst, arith}
+use Rattle.std.proofs.Common.{◌≡◌, ℕ, suc, ◌+◌, ◌≤◌, List, [], ◌∷◌, ◌++◌, length, Option, Some, None, refl, ap, ◌∙◌, arith}
 use Rattle.std.specs.Prelude.{Bool, true, false, ◌&&◌, not}
 use Rattle.std.specs.List.{All, flat_map, slice_get}
 use Rattle.std.proofs.Math.Dec.{eqb, ltb}
@@ -11,7 +11,7 @@ use Rattle.dg_base.specs.declared.program.Goal.TheOpen as form
 use Rattle.dg_base.specs.declared.program.Pred.{Pred}
 use Rattle.dg_base.specs.declared.program.Rule.{Rule}
 use Rattle.dg_base.specs.Goals.{all_goals_of}
-use Rattle.dg_base.specs.Sound.{IsGoalOf, IsRuleOf, IsPredOf, IsClosureOf, IsEntry, FitsHeads, FitsProgram, closure_vars, all_goals, IsSound}
+use Rattle.dg_base.specs.Sound.{IsGoalOf, IsRuleOf, IsPredOf, IsClosureOf, IsEntry, FitsHeads, FitsProgram, closure_vars, IsSound}
 use Rattle.dg_meaning.specs.Moves.{rules_of}
 use Rattle.dg_mid.specs.declared.code.Action.TheVariants as action
 use Rattle.dg_mid.specs.declared.code.BodyCode.{BodyCode}
@@ -25,7 +25,7 @@ use Rattle.dg_mid.specs.Codes.{RulesStand, RuleStands, BodyStands, Codes}
 use Rattle.dg_mid.specs.Passing.{Tests, GoalPasses, GoalsPass, RulesPass, PredsPass, ClosuresPass, ProgramPasses, OpPasses, OpsPass}
 use Rattle.dg_mid.proofs.Passing.{code_passes}
 use Rattle.dg_emit.specs.Code.{is_built, are_built}
-use Rattle.dg_laid.specs.Laid.{OpCalls, OpsCall, BlockSuits, BodiesAreFew}
+use Rattle.dg_laid.specs.Laid.{OpCalls, OpsCall, BodiesAreFew}
 use Rattle.dg_laid.specs.Goals.{has_routines, all_have, all_built, GoalsSuit, BodiesSuit}
 
 -- ## Tests that pass
@@ -79,11 +79,15 @@ module _ (program : CoreProgram) where
 
   goal_passes : (layer : form.Goal-F Goal) → has_routines layer ≡ true → FitsProgram program layer → GoalPasses tests layer
   goal_passes (form.Ask pred terms many) h fits = pred_right (length terms) (slice_get program.preds pred) fits
+  goal_passes (form.Text name) h fits = refl
+  goal_passes (form.Gap kind) h fits = refl
+  goal_passes (form.GapN a) h fits = refl
   goal_passes (form.Equal a b) h fits = refl
   goal_passes (form.Query a b many) h fits = refl
   goal_passes form.Just h fits = refl
   goal_passes form.Fail h fits = refl
   goal_passes form.Stop h fits = refl
+  goal_passes form.Quit h fits = refl
   goal_passes (form.Either lists) h fits = tt
   goal_passes (form.Once goals) h fits = tt
   goal_passes (form.Not goals) h fits = tt
@@ -166,10 +170,14 @@ module _ (program : CoreProgram) where
         untrue false e = refl
 
     op_suits : (x : Op) → OpPasses tests x → (is_built x ≡ true) × OpCalls code x
+    op_suits (op.Do (action.Text text)) h = (refl, tt)
+    op_suits (op.Do (action.Gap kind)) h = (refl, tt)
+    op_suits (op.Do (action.GapN a)) h = (refl, tt)
     op_suits (op.Do (action.Equal a b)) h = (refl, tt)
     op_suits (op.Do action.Just) h = (refl, tt)
     op_suits (op.Do action.Fail) h = (refl, tt)
     op_suits (op.Do action.Stop) h = (refl, tt)
+    op_suits (op.Do action.Quit) h = (refl, tt)
     op_suits (op.Do a) h = absurd (cc)
     op_suits (op.Ask pred terms many next) h = (refl, pred_enters (length terms) pred h)
     op_suits (op.LastAsk pred terms many) h = (refl, pred_enters (length terms) pred h)

@@ -12,12 +12,16 @@ use Rattle.dg_laid.specs.Laid.{BlockSuits, BodiesAreFew}
 
 -- A goal by itself has routines so far, whatever goals it holds.
 abbrev pub has_routines : form.Goal-F Goal → Bool
+has_routines (form.Text name) = true
+has_routines (form.Gap kind) = true
+has_routines (form.GapN a) = true
 has_routines (form.Equal a b) = true
 has_routines (form.Ask pred terms many) = true
 has_routines (form.Query a b many) = true
 has_routines form.Just = true
 has_routines form.Fail = true
 has_routines form.Stop = true
+has_routines form.Quit = true
 has_routines (form.Either lists) = true
 has_routines (form.Once goals) = true
 has_routines (form.Not goals) = true

@@ -160,6 +160,7 @@ bytes = record {
   own = λ goal. 16;
   enters = λ vars head. 16;
   opening = 16;
+  leaving = 16;
   small = 16;
   gathers = 0;
   block = 16;
