@@ -16,13 +16,17 @@ use Rattle.dg_rt.specs.declared.numbers.TheConstants.{FAIL, LEAVE, NONE, UNSTOP,
 use Rattle.dg_rt.specs.RunTime.{runtime, routine_of}
 use Rattle.dg_turn.specs.Told.{Telling, RulesAt, rule_acts}
 use Rattle.dg_turn.specs.Plays.{Playing}
-use Rattle.dg_turn.specs.Texts.{text_routine}
+use Rattle.dg_turn.specs.Choices.{branch_routine, try_routine, once_routine}
+use Rattle.dg_turn.specs.Leaving.{just_routine}
+use Rattle.dg_turn.specs.Stopping.{shield_routine, leave_routine}
+use Rattle.dg_turn.specs.Texts.{text_routine, gap_routine, gap_n_routine}
+use Rattle.dg_turn.specs.Turns.{enter_routine, equal_routine, goto_routine, commit_routine}
 use Rattle.dg_emit.specs.declared.numbers.Numbers.{Numbers}
 use Rattle.dg_emit.specs.Numbers.{first_of, first_rule, rules_count, blocks_size, behind_blocks, block_starts, pred_starts, numbers_from, number_or, block_number, pred_number}
 use Rattle.dg_emit.specs.Bodies.{bodies_routines}
 use Rattle.dg_emit.specs.Code.{are_built, parameters_of, ops_routines, blocks_routines, rules_routines, preds_routines, code_routines, OpsFit, BlocksFit, RulesFit, PredsFit, CodeFits}
 use Rattle.dg_emit.proofs.Names.{name_chars}
-use Rattle.dg_chain.specs.Routines.{RulesFrom, FindsAll, OpsAt}
+use Rattle.dg_chain.specs.Routines.{GoesOn, Opens, RulesFrom, FindsAll, OpsAt}
 use Rattle.dg_laid.specs.Laid.{CodeIsLaid, OpsCall, BlockSuits, BodiesAreFew, BlocksStand}
 use Rattle.dg_laid.proofs.Lying.{preds_length, blocks_length, LieAt, lie_at, lie_front, lie_behind, RulesLie, rules_lie, OpsLie, ops_lie, no_pred, no_block}
 use Rattle.dg_laid.proofs.Finding.{bodies_found}
@@ -109,28 +113,26 @@ module _ (t : Telling) (plays : Playing t) (first : ℕ) (code : Code) (laid : C
 
   -- ## Instructions
 
+  goes : (routine : ℕ → Routine) (n : ℕ) (ops : List Op) → t.p.routine_at (at n) ≡ Some (routine (first_of (n + 1) ops)) → OpsAt t code (at (first_of (n + 1) ops)) ops → GoesOn (λ y. OpsAt t code y ops) t (at n) routine
+  goes routine n ops is next = record { behind = first_of (n + 1) ops; is = is; next = next }
+
+  opens : (routine : ℕ → ℕ → Routine) (alt n : ℕ) (ops : List Op) → t.p.routine_at (at n) ≡ Some (routine (block_number numbers alt) (first_of (n + 1) ops)) → OpsAt t code (at (first_of (n + 1) ops)) ops →
+      Opens (λ y. OpsAt t code y ops) t (at n) routine alt
+  opens routine alt n ops is next = record { alt = block_number numbers alt; alt_is = to_block alt; goes = goes (routine (block_number numbers alt)) n ops is next }
+
   ops_stand : (n : ℕ) (ops : List Op) → LieAt t.p n (ops_routines t.program numbers n ops) → are_built ops ≡ true → OpsCall code ops → OpsFit t.program ops →
       OpsAt t code (at (first_of n ops)) ops
   ops_stand n [] lie built calls fit = tt
-  ops_stand n (op.Do action.Just ∷ ops) lie built calls fit = record { behind = first_of (n + 1) ops; is = lie.0; next = ops_stand (n + 1) ops lie.1 built calls.1 fit.1 }
+  ops_stand n (op.Do action.Just ∷ ops) lie built calls fit = goes just_routine n ops lie.0 (ops_stand (n + 1) ops lie.1 built calls.1 fit.1)
   ops_stand n (op.Do action.Fail ∷ ops) lie built calls fit = lie.0
   ops_stand n (op.Do action.Stop ∷ ops) lie built calls fit = refl
   ops_stand n (op.Do action.Quit ∷ ops) lie built calls fit = lie.0
   ops_stand n (op.Do (action.Text text) ∷ ops) lie built calls fit =
-      let behind : ℕ = first_of (n + 1) ops in
-      record {
-        name = fit.0;
-        goes = record {
-          behind = behind;
-          is = lie.0 ∙ ap (λ (cs : List ℕ). Some (text_routine cs behind)) (name_chars text fit.0);
-          next = ops_stand (n + 1) ops lie.1 built calls.1 fit.1;
-        };
-      }
-  ops_stand n (op.Do (action.Gap kind) ∷ ops) lie built calls fit = record { behind = first_of (n + 1) ops; is = lie.0; next = ops_stand (n + 1) ops lie.1 built calls.1 fit.1 }
-  ops_stand n (op.Do (action.GapN a) ∷ ops) lie built calls fit =
-      record { goes = record { behind = first_of (n + 1) ops; is = lie.0; next = ops_stand (n + 1) ops lie.1 built calls.1 fit.1 }; nodes = fit.0.1 }
-  ops_stand n (op.Do (action.Equal a b) ∷ ops) lie built calls fit =
-      record { goes = record { behind = first_of (n + 1) ops; is = lie.0; next = ops_stand (n + 1) ops lie.1 built calls.1 fit.1 }; nodes = fit.0.1 }
+      let is : t.p.routine_at (at n) ≡ Some (text_routine fit.0.characters (first_of (n + 1) ops)) = lie.0 ∙ ap (λ (cs : List ℕ). Some (text_routine cs (first_of (n + 1) ops))) (name_chars text fit.0) in
+      record { name = fit.0; goes = goes (text_routine fit.0.characters) n ops is (ops_stand (n + 1) ops lie.1 built calls.1 fit.1) }
+  ops_stand n (op.Do (action.Gap kind) ∷ ops) lie built calls fit = goes (gap_routine kind) n ops lie.0 (ops_stand (n + 1) ops lie.1 built calls.1 fit.1)
+  ops_stand n (op.Do (action.GapN a) ∷ ops) lie built calls fit = record { goes = goes (gap_n_routine t.program a) n ops lie.0 (ops_stand (n + 1) ops lie.1 built calls.1 fit.1); nodes = fit.0.1 }
+  ops_stand n (op.Do (action.Equal a b) ∷ ops) lie built calls fit = record { goes = goes (equal_routine t.program a b) n ops lie.0 (ops_stand (n + 1) ops lie.1 built calls.1 fit.1); nodes = fit.0.1 }
   ops_stand n (op.Do a ∷ ops) lie built calls fit = absurd (cc)
   ops_stand n (op.Ask pred terms many next ∷ ops) lie built calls fit = record {
     behind = block_number numbers next;
@@ -152,40 +154,20 @@ module _ (t : Telling) (plays : Playing t) (first : ℕ) (code : Code) (laid : C
       record { behind = block_number numbers next; find = numbers.find; is = lie.0; goes = to_block next; all = all_found; nodes = fit.0.1 }
   ops_stand n (op.LastQuery a b many ∷ ops) lie built calls fit =
       record { end = block_number numbers 0; find = numbers.find; is = lie.0; end_is = to_block 0; all = all_found; nodes = fit.0.1 }
-  ops_stand n (op.Take ∷ ops) lie built calls fit = record { behind = first_of (n + 1) ops; is = lie.0; next = ops_stand (n + 1) ops lie.1 built calls.1 fit.1 }
-  ops_stand n (op.Branch alt ∷ ops) lie built calls fit = record {
-    alt = block_number numbers alt;
-    alt_is = to_block alt;
-    goes = record { behind = first_of (n + 1) ops; is = lie.0; next = ops_stand (n + 1) ops lie.1 built calls.1 fit.1 };
-  }
-  ops_stand n (op.Once ∷ ops) lie built calls fit = record { behind = first_of (n + 1) ops; is = lie.0; next = ops_stand (n + 1) ops lie.1 built calls.1 fit.1 }
-  ops_stand n (op.Try alt ∷ ops) lie built calls fit = record {
-    alt = block_number numbers alt;
-    alt_is = to_block alt;
-    goes = record { behind = first_of (n + 1) ops; is = lie.0; next = ops_stand (n + 1) ops lie.1 built calls.1 fit.1 };
-  }
-  ops_stand n (op.Shield alt ∷ ops) lie built calls fit = record {
-    alt = block_number numbers alt;
-    alt_is = to_block alt;
-    goes = record { behind = first_of (n + 1) ops; is = lie.0; next = ops_stand (n + 1) ops lie.1 built calls.1 fit.1 };
-  }
-  ops_stand n (op.Retry alt ∷ ops) lie built calls fit = record {
-    alt = block_number numbers alt;
-    alt_is = to_block alt;
-    goes = record { behind = first_of (n + 1) ops; is = lie.0; next = ops_stand (n + 1) ops lie.1 built calls.1 fit.1 };
-  }
-  ops_stand n (op.Commit ∷ ops) lie built calls fit = record { behind = first_of (n + 1) ops; is = lie.0; next = ops_stand (n + 1) ops lie.1 built calls.1 fit.1 }
+  ops_stand n (op.Take ∷ ops) lie built calls fit = goes goto_routine n ops lie.0 (ops_stand (n + 1) ops lie.1 built calls.1 fit.1)
+  ops_stand n (op.Branch alt ∷ ops) lie built calls fit = opens branch_routine alt n ops lie.0 (ops_stand (n + 1) ops lie.1 built calls.1 fit.1)
+  ops_stand n (op.Once ∷ ops) lie built calls fit = goes once_routine n ops lie.0 (ops_stand (n + 1) ops lie.1 built calls.1 fit.1)
+  ops_stand n (op.Try alt ∷ ops) lie built calls fit = opens try_routine alt n ops lie.0 (ops_stand (n + 1) ops lie.1 built calls.1 fit.1)
+  ops_stand n (op.Shield alt ∷ ops) lie built calls fit = opens shield_routine alt n ops lie.0 (ops_stand (n + 1) ops lie.1 built calls.1 fit.1)
+  ops_stand n (op.Retry alt ∷ ops) lie built calls fit = opens branch_routine alt n ops lie.0 (ops_stand (n + 1) ops lie.1 built calls.1 fit.1)
+  ops_stand n (op.Commit ∷ ops) lie built calls fit = goes commit_routine n ops lie.0 (ops_stand (n + 1) ops lie.1 built calls.1 fit.1)
   ops_stand n (op.Refuse ∷ ops) lie built calls fit = lie.0
-  ops_stand n (op.Leave ∷ ops) lie built calls fit = record { behind = first_of (n + 1) ops; is = lie.0; next = ops_stand (n + 1) ops lie.1 built calls.1 fit.1 }
+  ops_stand n (op.Leave ∷ ops) lie built calls fit = goes leave_routine n ops lie.0 (ops_stand (n + 1) ops lie.1 built calls.1 fit.1)
   ops_stand n (op.Back ∷ ops) lie built calls fit = lie.0
   ops_stand n (op.Return ∷ ops) lie built calls fit = refl
   ops_stand n (op.Goto b ∷ ops) lie built calls fit = record { next = block_number numbers b; is = lie.0; next_is = to_block b }
-  ops_stand n (op.Enter vars head ∷ ops) lie built calls fit = record {
-    goes = record { behind = first_of (n + 1) ops; is = lie.0; next = ops_stand (n + 1) ops lie.1 built calls.1 fit.1 };
-    few_vars = calls.0;
-    short = fit.0.0;
-    nodes = fit.0.1;
-  }
+  ops_stand n (op.Enter vars head ∷ ops) lie built calls fit =
+      record { goes = goes (enter_routine t.program vars head) n ops lie.0 (ops_stand (n + 1) ops lie.1 built calls.1 fit.1); few_vars = calls.0; short = fit.0.0; nodes = fit.0.1 }
   ops_stand n (op.Done ∷ ops) lie built calls fit = lie.0
   ops_stand n (x ∷ ops) lie built calls fit = absurd (cc)
 

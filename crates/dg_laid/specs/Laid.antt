@@ -19,7 +19,8 @@ use Rattle.dg_chain.specs.Routines.{BlocksAt}
 
 -- The routines of code have their numbers in a story, from a number on, and each block is where its first one is.
 pub record CodeIsLaid (t : Telling) (first : ℕ) (code : Code) : Type 0 where
-  pub has : (k : ℕ) (r : Routine) → slice_get (code_routines t.program first code) k ≡ Some r → t.p.routine_at (t.p.names.routine (first + k)) ≡ Some r
+  pub has : (k : ℕ) (r : Routine) → slice_get (code_routines t.program first code) k ≡ Some r →
+      t.p.routine_at (t.p.names.routine (first + k)) ≡ Some r
   pub blocks : (b : ℕ) → t.at_block b ≡ t.p.names.routine (block_number (numbers_from first code) b)
 
 -- ## Code that has routines
