@@ -13,12 +13,14 @@ use Rattle.dg_base.specs.declared.program.Rule.{Rule}
 use Rattle.dg_base.specs.Goals.{all_goals_of}
 use Rattle.dg_base.specs.Sound.{IsGoalOf, IsRuleOf, IsPredOf, IsClosureOf, IsEntry, FitsHeads, FitsProgram, closure_vars, IsSound}
 use Rattle.dg_meaning.specs.Moves.{rules_of}
+use Rattle.dg_mid.specs.declared.code.Action.{Action}
 use Rattle.dg_mid.specs.declared.code.Action.TheVariants as action
 use Rattle.dg_mid.specs.declared.code.BodyCode.{BodyCode}
 use Rattle.dg_mid.specs.declared.code.Code.{Code}
 use Rattle.dg_mid.specs.declared.code.Op.{Op}
 use Rattle.dg_mid.specs.declared.code.Op.TheVariants as op
 use Rattle.dg_mid.specs.declared.code.RuleCode.{RuleCode}
+use Rattle.dg_mid.specs.Actions.{form_of}
 use Rattle.dg_mid.specs.Calls.{AllEnterWith}
 use Rattle.dg_mid.specs.Code.{block_at, rules_at}
 use Rattle.dg_mid.specs.Codes.{RulesStand, RuleStands, BodyStands, Codes}
@@ -79,15 +81,6 @@ module _ (program : CoreProgram) where
 
   goal_passes : (layer : form.Goal-F Goal) → has_routines layer ≡ true → FitsProgram program layer → GoalPasses tests layer
   goal_passes (form.Ask pred terms many) h fits = pred_right (length terms) (slice_get program.preds pred) fits
-  goal_passes (form.Text name) h fits = refl
-  goal_passes (form.Gap kind) h fits = refl
-  goal_passes (form.GapN a) h fits = refl
-  goal_passes (form.Equal a b) h fits = refl
-  goal_passes (form.Query a b many) h fits = refl
-  goal_passes form.Just h fits = refl
-  goal_passes form.Fail h fits = refl
-  goal_passes form.Stop h fits = refl
-  goal_passes form.Quit h fits = refl
   goal_passes (form.Either lists) h fits = tt
   goal_passes (form.Once goals) h fits = tt
   goal_passes (form.Not goals) h fits = tt
@@ -95,7 +88,10 @@ module _ (program : CoreProgram) where
   goal_passes (form.Exhaust goals) h fits = tt
   goal_passes (form.Stoppable goals) h fits = tt
   goal_passes form.Forever h fits = tt
-  goal_passes layer h fits = absurd (cc)
+  goal_passes (form.Collect a goals b) h fits = absurd (cc)
+  goal_passes (form.Accumulate a goals b) h fits = absurd (cc)
+  goal_passes (form.Select site mode lists) h fits = absurd (cc)
+  goal_passes layer h fits = and_true (has_routines layer) (asks_right layer) h refl
 
   goals_pass : (vars : ℕ) (gs : List Goal) → all_have gs ≡ true → All (IsGoalOf program vars) gs → GoalsPass tests gs
   goals_pass vars [] h a = tt
@@ -169,16 +165,13 @@ module _ (program : CoreProgram) where
         untrue true e = absurd (cc)
         untrue false e = refl
 
+    -- what is done at once is built where its goal has routines
+    act_built : (a : Action) → is_built (op.Do a) ≡ has_routines (form_of a)
+    act_built (action.Text text) = refl
+    act_built a = refl
+
     op_suits : (x : Op) → OpPasses tests x → (is_built x ≡ true) × OpCalls code x
-    op_suits (op.Do (action.Text text)) h = (refl, tt)
-    op_suits (op.Do (action.Gap kind)) h = (refl, tt)
-    op_suits (op.Do (action.GapN a)) h = (refl, tt)
-    op_suits (op.Do (action.Equal a b)) h = (refl, tt)
-    op_suits (op.Do action.Just) h = (refl, tt)
-    op_suits (op.Do action.Fail) h = (refl, tt)
-    op_suits (op.Do action.Stop) h = (refl, tt)
-    op_suits (op.Do action.Quit) h = (refl, tt)
-    op_suits (op.Do a) h = absurd (cc)
+    op_suits (op.Do a) h = (act_built a ∙ (both (has_routines (form_of a)) (asks_right (form_of a)) h).0, tt)
     op_suits (op.Ask pred terms many next) h = (refl, pred_enters (length terms) pred h)
     op_suits (op.LastAsk pred terms many) h = (refl, pred_enters (length terms) pred h)
     op_suits (op.Find None [] many next) h = absurd (cc)
