@@ -1,5 +1,5 @@
-mod Left
-mod Nodes
+pub mod Left
+pub mod Nodes
 mod Matching
 mod Halving
 pub mod Names

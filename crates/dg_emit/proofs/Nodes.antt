@@ -88,7 +88,7 @@ nodes_behind p (x ∷ xs) ys are = nodes_behind p xs ys are.1
 pub other_terms : (p : CoreProgram) (x : Term) (xs : List Term) → AreNodes p (nodes_of (x ∷ xs)) → AreNodes p (nodes_of xs)
 other_terms p x xs are = nodes_behind p (nodes x) (nodes_of xs) are
 
-cells_first : (p : CoreProgram) (x : Term) (xs : List Term) → cells p (x ∷ xs) ≡ cells p (x ∷ []) + cells p xs
+pub cells_first : (p : CoreProgram) (x : Term) (xs : List Term) → cells p (x ∷ xs) ≡ cells p (x ∷ []) + cells p xs
 cells_first p x xs =
     let f = λ (y : Term). node_cells p (out-Term y) in
     let all = sum_by-append f (nodes x) (nodes_of xs) in
