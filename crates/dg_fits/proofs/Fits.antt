@@ -1,0 +1,345 @@
+-- The routines of a story can be assembled.
+use Rattle.std.specs.Prelude.{take, nat_lt, map, if◌then◌else◌}
+use Rattle.std.specs.Str.{chars}
+use Rattle.std.proofs.Common.{◌≡◌, ℕ, zero, suc, ◌+◌, ◌*◌, ◌/◌, ◌<◌, ◌≤◌, inl, inr, ◌⊎◌, List, [], ◌∷◌, ◌++◌, length, drop, Option, Some, None, Bool, true, false, refl, sym, ap, subst, arith, length-append, length-drop}
+use Rattle.std.specs.List.{slice_get}
+use Rattle.std.proofs.lemmas.Bool.{ltb-true, and_parts}
+use Rattle.std.proofs.lemmas.List.{length-take-le}
+use Rattle.dg_base.specs.declared.program.CoreProgram.{CoreProgram}
+use Rattle.dg_base.specs.declared.program.Term.{Term}
+use Rattle.dg_base.specs.declared.program.GapKind.TheVariants as kinds
+use Rattle.dg_base.specs.Goals.{option_terms}
+use Rattle.dg_base.specs.Sound.{IsName}
+use Rattle.dg_meaning.specs.Cells.{nodes_of, cells, captured_count}
+use Rattle.dg_meaning.specs.Render.{opens, last_of}
+use Rattle.dg_meaning.specs.Values.{Label, Num, Word, Object, Nil, Pair, Closure, Unknown}
+use Rattle.dg_mid.specs.declared.code.Action.TheVariants as action
+use Rattle.dg_mid.specs.declared.code.Op.{Op}
+use Rattle.dg_mid.specs.declared.code.Op.TheVariants as op
+use Rattle.dg_mid.specs.declared.code.Block.{Block}
+use Rattle.dg_mid.specs.declared.code.BodyCode.{BodyCode}
+use Rattle.dg_mid.specs.declared.code.RuleCode.{RuleCode}
+use Rattle.dg_mid.specs.declared.code.Code.{Code}
+use Rattle.dg_mid.specs.Code.{block_at, label_of}
+use Rattle.z_code.specs.declared.target.LOp.{LOp}
+use Rattle.z_code.specs.Open.{Counts}
+use Rattle.z_lang.specs.declared.act.Act.{Act}
+use Rattle.z_lang.specs.declared.act.Act.TheVariants as acts
+use Rattle.z_lang.specs.declared.act.Args.TheVariants as args
+use Rattle.z_lang.specs.declared.act.Atom.{Atom}
+use Rattle.z_lang.specs.declared.act.Atom.TheVariants as atoms
+use Rattle.z_lang.specs.declared.act.Routine.{Routine}
+use Rattle.z_lang.specs.Bodies.{FitsAtom, AreFit}
+use Rattle.z_lang.specs.Code.{ops_of_acts}
+use Rattle.z_lang.specs.Sizes.{body_bytes}
+use Rattle.dg_rt.specs.Fits.{IsFit, AllFit}
+use Rattle.dg_rt.specs.Gaps.{last_word}
+use Rattle.dg_rt.specs.Rules.{key_word}
+use Rattle.dg_rt.specs.RunTime.{runtime, routine_of}
+use Rattle.dg_rt.specs.declared.numbers.TheConstants.{TAIL_CALL, FAIL, DONE, ASK_SPACES}
+use Rattle.dg_rt.specs.declared.registers.TheConstants.{ARGS, BACK, CLASH, LAST, WORD}
+use Rattle.dg_rt.proofs.Straight.{AreStraight, straight_append, straight_fits}
+use Rattle.dg_turn.specs.Told.{found_acts, rule_acts, KeyFits}
+use Rattle.dg_turn.specs.Lies.{bit_of}
+use Rattle.dg_turn.specs.Terms.{capped, terms_acts, AreNodes}
+use Rattle.dg_turn.specs.Turns.{HEAD, match_acts, last_acts, head_acts, enter_routine, equal_routine, goto_routine}
+use Rattle.dg_turn.specs.Queries.{some_of, ask_acts, asking_routine}
+use Rattle.dg_turn.specs.LastQueries.{last_routine}
+use Rattle.dg_turn.specs.Bodies.{CALLED, look_acts, query_routine, last_query_routine, body_routine, fork_routine}
+use Rattle.dg_turn.specs.Texts.{say, text_acts, text_routine, gap_routine, gap_n_routine}
+use Rattle.dg_emit.specs.declared.numbers.Numbers.{Numbers}
+use Rattle.dg_emit.specs.Numbers.{routines_of_op, routines_of_ops, blocks_size, bodies_size, rules_count, first_of, first_rule, behind_blocks, number_behind, numbers_from, block_number, pred_number}
+use Rattle.dg_emit.specs.Bodies.{entering_routine, bodies_routines}
+use Rattle.dg_emit.specs.Code.{op_routine, op_routines, ops_routines, blocks_routines, parameters_of, rule_routine, rules_routines, preds_routines, code_routines, TermsFit, OpFits, OpsFit, BlocksFit, RulesFit, PredsFit}
+use Rattle.dg_fits.proofs.Names.{AreSmall, chars_small}
+use Rattle.dg_fits.proofs.Terms.{num_bytes}
+use Rattle.dg_fits.proofs.Straight.{capped_few, terms_straight}
+use Rattle.dg_fits.proofs.Below.{AreBelow, two_each, two_is, ops_some, first_below, rule_below}
+
+pub fits_append : (c : Counts) (xs ys : List Routine) → AllFit c xs → AllFit c ys → AllFit c (xs ++ ys)
+fits_append c [] ys f g = g
+fits_append c (x ∷ xs) ys f g = (f.0, fits_append c xs ys f.1 g)
+
+-- where labels stand in a routine, it is short
+short_if : (c : Counts) (r : Routine) → body_bytes r.body ≤ 100 → (l : ℕ) → body_bytes r.body < 8000
+short_if c r le l = omega arith
+
+-- an instruction of few variables, which begins a rule
+abbrev pub EntersFew : Op → Type 0
+EntersFew (op.Enter vars head) = vars ≤ 65
+EntersFew x = Unit {0}
+
+abbrev pub AllEnterFew : List Op → Type 0
+AllEnterFew [] = Unit {0}
+AllEnterFew (x ∷ ops) = EntersFew x × AllEnterFew ops
+
+abbrev pub BlocksEnterFew : List Block → Type 0
+BlocksEnterFew [] = Unit {0}
+BlocksEnterFew (block ∷ blocks) = AllEnterFew block.ops × BlocksEnterFew blocks
+
+-- bodies of few variables
+abbrev pub OwnFew : List BodyCode → Type 0
+OwnFew [] = Unit {0}
+OwnFew (body ∷ bodies) = (body.own < 65536) × OwnFew bodies
+
+bit_small : (b : Bool) → bit_of b < 65536
+bit_small true = omega arith
+bit_small false = omega arith
+
+some_small : (ts : List Term) → some_of ts < 65536
+some_small [] = omega arith
+some_small (t ∷ ts) = omega arith
+
+last_small : (last : Option ℕ) → last_word last < 65536
+last_small None = omega arith
+last_small (Some c) = by_opening (opens c)
+  where
+    by_opening : (b : Bool) → (if b then 1 else 2) < 65536
+    by_opening true = omega arith
+    by_opening false = omega arith
+
+option_few : (b : Option Term) → length (option_terms b) ≤ 1
+option_few None = omega arith
+option_few (Some t) = omega arith
+
+module _ (c : Counts) (many : 1 + length runtime ≤ c.routines) where
+  matches_straight : (v x n : ℕ) → v + n ≤ 255 → x + n ≤ 255 → AreStraight c (match_acts v x n)
+  matches_straight v x zero le le' = tt
+  matches_straight v x (suc n) le le' = ((tt, omega arith, (omega arith, omega arith)), matches_straight (suc v) (suc x) n (omega arith) (omega arith))
+
+  last_straight : (behind : ℕ) → behind < c.routines → AreStraight c (last_acts behind)
+  last_straight behind lt = ((omega arith, omega arith, lt), (omega arith, tt))
+
+  goto_fits : (next : ℕ) → next < c.routines → IsFit c (goto_routine next)
+  goto_fits next lt = straight_fits c (goto_routine next) (omega arith) (lt, tt)
+
+  asks_straight : (behind : Atom) (ask : Bool) (ts : List Term) (rules : ℕ) → FitsAtom c behind → rules < c.routines → AreStraight c (ask_acts behind ask ts rules)
+  asks_straight behind ask ts rules fits lt = ((tt, omega arith, (fits, bit_small ask, some_small ts)), (lt, tt))
+
+  looks_straight : (b : Option Term) (ask : Bool) (find : ℕ) → find < c.routines → AreStraight c (look_acts b ask find)
+  looks_straight b ask find lt =
+      let few = option_few b in (
+        (omega arith, bit_small ask),
+        ((omega arith, omega arith), ((omega arith, omega arith, omega arith), ((omega arith, omega arith, omega arith), (lt, tt)))),
+      )
+
+  -- a routine that writes terms first
+  written_fits : (p : CoreProgram) (v : ℕ) (ts : List Term) (rest : List Act) → v ≤ 64 → TermsFit p ts → AreStraight c rest → IsFit c (routine_of 0 (terms_acts p v ts ++ rest))
+  written_fits p v ts rest le fits straight =
+      let few = fits.0 in
+      straight_fits c (routine_of 0 (terms_acts p v ts ++ rest)) (omega arith)
+      (straight_append c (terms_acts p v ts) rest (terms_straight c many p v ts (omega arith) fits.1) straight)
+
+  enter_fits : (p : CoreProgram) (vars : ℕ) (head : List Term) (behind : ℕ) → vars ≤ 65 → TermsFit p head → behind < c.routines → IsFit c (enter_routine p vars head behind)
+  enter_fits p vars head behind le fits lt =
+      let few = fits.0 in
+      let matches = match_acts ARGS HEAD (length head) in
+      straight_fits c (enter_routine p vars head behind) (omega arith)
+      ((tt, omega arith, (omega arith, omega (arith, capped_few c many (cells p head)))),
+      straight_append c (terms_acts p HEAD head) (matches ++ last_acts behind) (terms_straight c many p HEAD head (omega arith) fits.1)
+      (straight_append c matches (last_acts behind) (matches_straight ARGS HEAD (length head) (omega arith) (omega arith)) (last_straight behind lt)))
+
+  says_straight : (cs : List ℕ) → AreSmall cs → AreStraight c (map say cs)
+  says_straight [] small = tt
+  says_straight (x ∷ cs) small = (small.0, says_straight cs small.1)
+
+  texts_straight : (cs : List ℕ) → AreSmall cs → AreStraight c (text_acts cs)
+  texts_straight [] small = tt
+  texts_straight (x ∷ cs) small = ((tt, omega arith, small.0), ((tt, omega arith, small.0), says_straight cs small.1))
+
+  text_fits : (text : List ℕ) (behind : ℕ) → behind < c.routines → IsName text → IsFit c (text_routine (chars text) behind)
+  text_fits text behind lt is =
+      let cs = chars text in
+      straight_fits c (text_routine cs behind) (omega arith)
+      (straight_append c (text_acts cs) (acts.Copy LAST (atoms.Num (last_word (last_of None cs))) ∷ acts.Return (atoms.Routine behind) ∷ []) (texts_straight cs (chars_small text is))
+      ((omega arith, last_small (last_of None cs)), (lt, tt)))
+
+  line_fits : (behind : ℕ) → behind < c.routines → IsFit c (gap_routine kinds.Line behind)
+  line_fits behind lt = record {
+    few = omega arith;
+    short = λ l has. omega arith;
+    fit = (((omega arith, omega arith, tt), inl refl), ((omega arith, omega arith), ((λ h. h), ((omega arith, omega arith), (lt, tt)))));
+  }
+
+  -- ## Instructions
+
+  op_fit : (p : CoreProgram) (numbers : Numbers) (behind : ℕ) (x : Op) → AreBelow numbers c.routines → behind < c.routines → OpFits p x → EntersFew x → AllFit c (op_routines p numbers behind x)
+  op_fit p numbers behind op.Return below lt fits few = tt
+  op_fit p numbers behind (op.Do action.Stop) below lt fits few = tt
+  op_fit p numbers behind (op.Do action.Just) below lt fits few =
+      (straight_fits c _ (omega arith) ((omega arith, omega arith, omega arith), ((tt, omega arith, omega arith), (lt, tt))), tt)
+  op_fit p numbers behind (op.Do (action.Text text)) below lt fits few = (text_fits text behind lt fits, tt)
+  op_fit p numbers behind (op.Do (action.Gap kinds.NoSpace)) below lt fits few = (straight_fits c _ (omega arith) ((omega arith, omega arith), (lt, tt)), tt)
+  op_fit p numbers behind (op.Do (action.Gap kinds.Space)) below lt fits few = (straight_fits c _ (omega arith) ((omega arith, omega arith), (lt, tt)), tt)
+  op_fit p numbers behind (op.Do (action.Gap kinds.Line)) below lt fits few = (line_fits behind lt, tt)
+  op_fit p numbers behind (op.Do (action.Gap kinds.Par)) below lt fits few =
+      (straight_fits c _ (omega arith) ((omega arith, omega arith), ((omega arith, omega arith), (lt, tt))), tt)
+  op_fit p numbers behind (op.Do (action.Gap kinds.Upper)) below lt fits few = (straight_fits c _ (omega arith) ((omega arith, omega arith), (lt, tt)), tt)
+  op_fit p numbers behind (op.Do (action.GapN a)) below lt fits few = (
+    written_fits p ARGS (a ∷ []) (acts.Call (Some WORD) (atoms.Routine ASK_SPACES) (args.Two (atoms.Var ARGS) (atoms.Routine behind)) ∷ acts.Return (atoms.Var WORD) ∷ []) (omega arith) fits
+    ((omega arith, omega arith, (omega arith, lt)), (omega arith, tt)),
+    tt,
+  )
+  op_fit p numbers behind (op.Do action.Quit) below lt fits few = (goto_fits DONE (omega arith), tt)
+  op_fit p numbers behind (op.Do (action.Equal a b)) below lt fits few = (
+    written_fits p ARGS (a ∷ b ∷ []) (acts.Copy CLASH (atoms.Num 0) ∷ (match_acts ARGS (ARGS + 1) 1 ++ last_acts behind)) (omega arith) fits
+    ((omega arith, omega arith), ((tt, omega arith, (omega arith, omega arith)), last_straight behind lt)),
+    tt,
+  )
+  op_fit p numbers behind (op.Ask pred terms ask next) below lt fits few = (
+    written_fits p ARGS terms (ask_acts (atoms.Routine (block_number numbers next)) ask terms (pred_number numbers pred)) (omega arith) fits
+    (asks_straight (atoms.Routine (block_number numbers next)) ask terms (pred_number numbers pred) (below.block next) (below.pred pred)),
+    tt,
+  )
+  op_fit p numbers behind (op.LastAsk pred terms ask) below lt fits few = (
+    written_fits p ARGS terms
+    (acts.Call (Some WORD) (atoms.Routine TAIL_CALL) (args.One (atoms.Routine (block_number numbers 0))) ∷ ask_acts (atoms.Var WORD) ask terms (pred_number numbers pred)) (omega arith) fits
+    ((omega arith, omega arith, below.block 0), asks_straight (atoms.Var WORD) ask terms (pred_number numbers pred) (omega arith) (below.pred pred)),
+    tt,
+  )
+  op_fit p numbers behind (op.Query a b ask next) below lt fits few = (
+    written_fits p CALLED (a ∷ option_terms b) (acts.Copy BACK (atoms.Routine (block_number numbers next)) ∷ look_acts b ask numbers.find) (omega arith) fits
+    ((omega arith, below.block next), looks_straight b ask numbers.find below.find),
+    tt,
+  )
+  op_fit p numbers behind (op.LastQuery a b ask) below lt fits few = (
+    written_fits p CALLED (a ∷ option_terms b)
+    (acts.Call (Some BACK) (atoms.Routine TAIL_CALL) (args.One (atoms.Routine (block_number numbers 0))) ∷ look_acts b ask numbers.find) (omega arith) fits
+    ((omega arith, omega arith, below.block 0), looks_straight b ask numbers.find below.find),
+    tt,
+  )
+  op_fit p numbers behind (op.Enter vars head) below lt fits few = (enter_fits p vars head behind few fits lt, tt)
+  op_fit p numbers behind op.Take below lt fits few = (goto_fits behind lt, tt)
+  op_fit p numbers behind (op.Goto block) below lt fits few = (goto_fits (block_number numbers block) (below.block block), tt)
+  op_fit p numbers behind (op.Branch alt) below lt fits few =
+      (straight_fits c _ (omega arith) ((tt, omega arith, (below.block alt, omega arith, omega arith)), (lt, tt)), tt)
+  op_fit p numbers behind (op.Retry alt) below lt fits few =
+      (straight_fits c _ (omega arith) ((tt, omega arith, (below.block alt, omega arith, omega arith)), (lt, tt)), tt)
+  op_fit p numbers behind (op.Try alt) below lt fits few =
+      (straight_fits c _ (omega arith) ((omega arith, omega arith, (below.block alt, omega arith, omega arith)), (lt, tt)), tt)
+  op_fit p numbers behind (op.Shield alt) below lt fits few =
+      (straight_fits c _ (omega arith) ((omega arith, omega arith, (below.block alt, omega arith, omega arith)), ((omega arith, omega arith), (lt, tt))), tt)
+  op_fit p numbers behind op.Once below lt fits few = (straight_fits c _ (omega arith) ((tt, omega arith, tt), (lt, tt)), tt)
+  op_fit p numbers behind op.Commit below lt fits few = (straight_fits c _ (omega arith) ((tt, omega arith, tt), (lt, tt)), tt)
+  op_fit p numbers behind op.Refuse below lt fits few = (straight_fits c _ (omega arith) ((tt, omega arith, tt), (omega arith, tt)), tt)
+  op_fit p numbers behind op.Leave below lt fits few =
+      (straight_fits c _ (omega arith) ((omega arith, omega arith, omega arith), ((tt, omega arith, tt), (lt, tt))), tt)
+  op_fit p numbers behind op.Done below lt fits few = (goto_fits DONE (omega arith), tt)
+  op_fit p numbers behind x below lt fits few = (goto_fits FAIL (omega arith), tt)
+
+  ops_fit : (p : CoreProgram) (numbers : Numbers) (k : ℕ) (ops : List Op) → AreBelow numbers c.routines → k + routines_of_ops ops ≤ c.routines → OpsFit p ops → AllEnterFew ops → AllFit c (ops_routines p numbers k ops)
+  ops_fit p numbers k [] below le fits few = (goto_fits FAIL (omega arith), tt)
+  ops_fit p numbers k (x ∷ ops) below le fits few =
+      let behind = k + routines_of_op x in
+      fits_append c (op_routines p numbers (first_of behind ops) x) (ops_routines p numbers behind ops)
+      (op_fit p numbers (first_of behind ops) x below (first_below c.routines many behind ops (omega arith)) fits.0 few.0)
+      (ops_fit p numbers behind ops below (omega arith) fits.1 few.1)
+
+  pub blocks_fit : (p : CoreProgram) (numbers : Numbers) (k : ℕ) (blocks : List Block) → AreBelow numbers c.routines → k + blocks_size blocks ≤ c.routines → BlocksFit p blocks → BlocksEnterFew blocks → AllFit c (blocks_routines p numbers k blocks)
+  blocks_fit p numbers k [] below le fits few = tt
+  blocks_fit p numbers k (block ∷ blocks) below le fits few =
+      fits_append c (ops_routines p numbers k block.ops) (blocks_routines p numbers (k + routines_of_ops block.ops) blocks)
+      (ops_fit p numbers k block.ops below (omega arith) fits.0 few.0) (blocks_fit p numbers (k + routines_of_ops block.ops) blocks below (omega arith) fits.1 few.1)
+
+  -- ## Rules
+
+  key_small : (f : Label) → KeyFits (Some f) → key_word f < 65536
+  key_small (Num n) fits = omega arith
+  key_small (Word n) fits = omega arith
+  key_small (Object n) fits = omega arith
+  key_small (Closure place) fits = omega arith
+  key_small (Unknown spelling) fits = absurd fits
+  key_small Nil fits = omega arith
+  key_small Pair fits = omega arith
+
+  found_fit : (all : List LOp) (n enter self next : ℕ) → n ≤ 12 → enter < c.routines → self < c.routines → next < c.routines → AreFit c all (found_acts n enter self next)
+  found_fit all n enter self next le e s t = ((omega arith, omega arith), ((omega arith, omega arith, (e, s, t)), (omega arith, tt)))
+
+  rule_fits : (key : Option Label) (n enter self next : ℕ) → KeyFits key → n ≤ 12 → enter < c.routines → self < c.routines → next < c.routines → IsFit c (routine_of 1 (rule_acts key n enter self next))
+  rule_fits None n enter self next fits le e s t = record {
+    few = omega arith;
+    short = λ l has. absurd has;
+    fit = found_fit (ops_of_acts (found_acts n enter self next)) n enter self next le e s t;
+  }
+  rule_fits (Some f) n enter self next fits le e s t = record {
+    few = omega arith;
+    short = λ l has. omega (arith, num_bytes (nat_lt n 256), num_bytes (nat_lt (key_word f) 256));
+    fit = (
+      ((omega arith, omega arith, key_small f fits), inl refl),
+      (t, ((λ h. h), found_fit (ops_of_acts (rule_acts (Some f) n enter self next)) n enter self next le e s t)),
+    );
+  }
+
+  rules_fit : (code : Code) (numbers : Numbers) (k : ℕ) (rules : List RuleCode) → AreBelow numbers c.routines → k + length rules ≤ c.routines → RulesFit code rules → AllFit c (rules_routines code numbers k rules)
+  rules_fit code numbers k [] below le fits = tt
+  rules_fit code numbers k (rule ∷ rules) below le fits = (
+    rule_fits (label_of rule.key) (parameters_of (block_at code rule.block)) (block_number numbers rule.block) k (first_rule (k + 1) rules) fits.0 fits.1 (below.block rule.block) (omega arith)
+    (rule_below c.routines many (k + 1) rules (omega arith)),
+    rules_fit code numbers (k + 1) rules below (omega arith) fits.2,
+  )
+
+  pub preds_fit : (code : Code) (numbers : Numbers) (k : ℕ) (preds : List (List RuleCode)) → AreBelow numbers c.routines → k + rules_count preds ≤ c.routines → PredsFit code preds → AllFit c (preds_routines code numbers k preds)
+  preds_fit code numbers k [] below le fits = tt
+  preds_fit code numbers k (rules ∷ preds) below le fits =
+      fits_append c (rules_routines code numbers k rules) (preds_routines code numbers (k + length rules) preds) (rules_fit code numbers k rules below (omega arith) fits.0)
+      (preds_fit code numbers (k + length rules) preds below (omega arith) fits.1)
+
+  -- ## Bodies of closures
+
+  fork_fits : (place left right : ℕ) → place < 16384 → left < c.routines → right < c.routines → IsFit c (fork_routine place left right)
+  fork_fits place left right few l r = record {
+    few = omega arith;
+    short = λ l has. omega (arith, num_bytes (nat_lt (49152 + place) 256));
+    fit = (((omega arith, omega arith, tt), inl refl), (r, ((λ h. h), (l, tt))));
+  }
+
+  body_fits : (place own captured block : ℕ) → place < 16384 → own < 65536 → captured < 65536 → block < c.routines → IsFit c (body_routine place own captured block)
+  body_fits place own captured block few o n b = record {
+    few = omega arith;
+    short = λ l has. omega (arith, num_bytes (nat_lt (49152 + place) 256), num_bytes (nat_lt own 256), num_bytes (nat_lt captured 256));
+    fit = (
+      ((omega arith, omega arith, tt), inl refl),
+      (omega arith,
+      (not_again,
+      ((tt, omega arith, (o, omega arith)),
+      ((omega arith, omega arith),
+      (((omega arith, omega arith, tt), inr (inl refl)),
+      ((omega arith, omega arith, n),
+      ((tt, omega arith, (omega arith, omega arith)),
+      ((λ h. h), ((omega arith, omega arith, b), (omega arith, tt)))))))))),
+    );
+  }
+    where
+      not_again : (◌≡◌ {A = ℕ} 1 0) ⊎ ⊥ → ⊥
+      not_again (inl e) = absurd (omega arith)
+      not_again (inr h) = h
+
+  own_take : (n : ℕ) (bodies : List BodyCode) → OwnFew bodies → OwnFew (take n bodies)
+  own_take zero bodies few = tt
+  own_take (suc n) [] few = tt
+  own_take (suc n) (body ∷ bodies) few = (few.0, own_take n bodies few.1)
+
+  own_drop : (n : ℕ) (bodies : List BodyCode) → OwnFew bodies → OwnFew (drop n bodies)
+  own_drop zero bodies few = few
+  own_drop (suc n) [] few = tt
+  own_drop (suc n) (body ∷ bodies) few = own_drop n bodies few.1
+
+  pub bodies_fit : (p : CoreProgram) → ((n : ℕ) → captured_count (slice_get p.closures n) ≤ 64) → (numbers : Numbers) (halvings number place : ℕ) (bodies : List BodyCode) →
+      AreBelow numbers c.routines → number + two_each (length bodies) ≤ c.routines → place + length bodies ≤ 16384 → OwnFew bodies → AllFit c (bodies_routines p numbers halvings number place bodies)
+  bodies_fit p captured numbers halvings number place [] below le few own = tt
+  bodies_fit p captured numbers halvings number place (body ∷ []) below le few own =
+      (body_fits place body.own (captured_count (slice_get p.closures place)) (block_number numbers body.block) (omega arith) own.0 (omega (arith, captured place)) (below.block body.block), tt)
+  bodies_fit p captured numbers zero number place (a ∷ b ∷ bodies) below le few own = tt
+  bodies_fit p captured numbers (suc halvings) number place (a ∷ b ∷ bodies) below le few own =
+      let all : List BodyCode = a ∷ b ∷ bodies in
+      let half : ℕ = length all / 2 in
+      let first : length (take half all) ≡ half = length-take-le half all (omega arith) in
+      let second : length (drop half all) + half ≡ length all = omega (arith, length-drop half all) in
+      let one = two_is (length (take half all)) (omega arith) in
+      let two = two_is (length (drop half all)) (omega arith) in (
+        fork_fits (place + half) (number + 1) (number + 2 * half) (omega arith) (omega arith) (omega arith),
+        fits_append c
+        (bodies_routines p numbers halvings (number + 1) place (take half all)) (bodies_routines p numbers halvings (number + 2 * half) (place + half) (drop half all))
+        (bodies_fit p captured numbers halvings (number + 1) place (take half all) below (omega arith) (omega arith) (own_take half all own))
+        (bodies_fit p captured numbers halvings (number + 2 * half) (place + half) (drop half all) below (omega arith) (omega arith) (own_drop half all own)),
+      )

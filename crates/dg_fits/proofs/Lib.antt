@@ -1,0 +1,10 @@
+pub mod Names
+pub mod Terms
+pub mod Rooms
+pub mod Counting
+pub mod Suits
+pub mod Small
+pub mod Straight
+pub mod Below
+pub mod Fits
+pub mod Whole
