@@ -124,7 +124,7 @@ bodies_many p numbers (suc halvings) number place (a ∷ b ∷ bodies) le =
     omega (
       arith,
       length-append
-      (bodies_routines p numbers halvings (number + 1) place (take half all)) (bodies_routines p numbers halvings (number + 2 * half) (place + half) (drop half all)),
+          (bodies_routines p numbers halvings (number + 1) place (take half all)) (bodies_routines p numbers halvings (number + 2 * half) (place + half) (drop half all)),
       bodies_many p numbers halvings (number + 1) place (take half all) (omega arith),
       bodies_many p numbers halvings (number + 2 * half) (place + half) (drop half all) (omega arith),
       two_is (length (take half all)) (omega arith),

@@ -134,10 +134,11 @@ module _ (c : Counts) (many : 1 + length runtime ≤ c.routines) where
   enter_fits p vars head behind le fits lt =
       let few = fits.0 in
       let matches = match_acts ARGS HEAD (length head) in
-      straight_fits c (enter_routine p vars head behind) (omega arith)
-      ((tt, omega arith, (omega arith, omega (arith, capped_few c many (cells p head)))),
-      straight_append c (terms_acts p HEAD head) (matches ++ last_acts behind) (terms_straight c many p HEAD head (omega arith) fits.1)
-      (straight_append c matches (last_acts behind) (matches_straight ARGS HEAD (length head) (omega arith) (omega arith)) (last_straight behind lt)))
+      straight_fits c (enter_routine p vars head behind) (omega arith) (
+        (tt, omega arith, (omega arith, omega (arith, capped_few c many (cells p head)))),
+        straight_append c (terms_acts p HEAD head) (matches ++ last_acts behind) (terms_straight c many p HEAD head (omega arith) fits.1)
+            (straight_append c matches (last_acts behind) (matches_straight ARGS HEAD (length head) (omega arith) (omega arith)) (last_straight behind lt)),
+      )
 
   says_straight : (cs : List ℕ) → AreSmall cs → AreStraight c (map say cs)
   says_straight [] small = tt
@@ -177,35 +178,35 @@ module _ (c : Counts) (many : 1 + length runtime ≤ c.routines) where
   op_fit p numbers behind (op.Do (action.Gap kinds.Upper)) below lt fits few = (straight_fits c _ (omega arith) ((omega arith, omega arith), (lt, tt)), tt)
   op_fit p numbers behind (op.Do (action.GapN a)) below lt fits few = (
     written_fits p ARGS (a ∷ []) (acts.Call (Some WORD) (atoms.Routine ASK_SPACES) (args.Two (atoms.Var ARGS) (atoms.Routine behind)) ∷ acts.Return (atoms.Var WORD) ∷ []) (omega arith) fits
-    ((omega arith, omega arith, (omega arith, lt)), (omega arith, tt)),
+        ((omega arith, omega arith, (omega arith, lt)), (omega arith, tt)),
     tt,
   )
   op_fit p numbers behind (op.Do action.Quit) below lt fits few = (goto_fits DONE (omega arith), tt)
   op_fit p numbers behind (op.Do (action.Equal a b)) below lt fits few = (
     written_fits p ARGS (a ∷ b ∷ []) (acts.Copy CLASH (atoms.Num 0) ∷ (match_acts ARGS (ARGS + 1) 1 ++ last_acts behind)) (omega arith) fits
-    ((omega arith, omega arith), ((tt, omega arith, (omega arith, omega arith)), last_straight behind lt)),
+        ((omega arith, omega arith), ((tt, omega arith, (omega arith, omega arith)), last_straight behind lt)),
     tt,
   )
   op_fit p numbers behind (op.Ask pred terms ask next) below lt fits few = (
     written_fits p ARGS terms (ask_acts (atoms.Routine (block_number numbers next)) ask terms (pred_number numbers pred)) (omega arith) fits
-    (asks_straight (atoms.Routine (block_number numbers next)) ask terms (pred_number numbers pred) (below.block next) (below.pred pred)),
+        (asks_straight (atoms.Routine (block_number numbers next)) ask terms (pred_number numbers pred) (below.block next) (below.pred pred)),
     tt,
   )
   op_fit p numbers behind (op.LastAsk pred terms ask) below lt fits few = (
     written_fits p ARGS terms
-    (acts.Call (Some WORD) (atoms.Routine TAIL_CALL) (args.One (atoms.Routine (block_number numbers 0))) ∷ ask_acts (atoms.Var WORD) ask terms (pred_number numbers pred)) (omega arith) fits
-    ((omega arith, omega arith, below.block 0), asks_straight (atoms.Var WORD) ask terms (pred_number numbers pred) (omega arith) (below.pred pred)),
+        (acts.Call (Some WORD) (atoms.Routine TAIL_CALL) (args.One (atoms.Routine (block_number numbers 0))) ∷ ask_acts (atoms.Var WORD) ask terms (pred_number numbers pred)) (omega arith) fits
+        ((omega arith, omega arith, below.block 0), asks_straight (atoms.Var WORD) ask terms (pred_number numbers pred) (omega arith) (below.pred pred)),
     tt,
   )
   op_fit p numbers behind (op.Query a b ask next) below lt fits few = (
     written_fits p CALLED (a ∷ option_terms b) (acts.Copy BACK (atoms.Routine (block_number numbers next)) ∷ look_acts b ask numbers.find) (omega arith) fits
-    ((omega arith, below.block next), looks_straight b ask numbers.find below.find),
+        ((omega arith, below.block next), looks_straight b ask numbers.find below.find),
     tt,
   )
   op_fit p numbers behind (op.LastQuery a b ask) below lt fits few = (
     written_fits p CALLED (a ∷ option_terms b)
-    (acts.Call (Some BACK) (atoms.Routine TAIL_CALL) (args.One (atoms.Routine (block_number numbers 0))) ∷ look_acts b ask numbers.find) (omega arith) fits
-    ((omega arith, omega arith, below.block 0), looks_straight b ask numbers.find below.find),
+        (acts.Call (Some BACK) (atoms.Routine TAIL_CALL) (args.One (atoms.Routine (block_number numbers 0))) ∷ look_acts b ask numbers.find) (omega arith) fits
+        ((omega arith, omega arith, below.block 0), looks_straight b ask numbers.find below.find),
     tt,
   )
   op_fit p numbers behind (op.Enter vars head) below lt fits few = (enter_fits p vars head behind few fits lt, tt)
@@ -274,7 +275,7 @@ module _ (c : Counts) (many : 1 + length runtime ≤ c.routines) where
   rules_fit code numbers k [] below le fits = tt
   rules_fit code numbers k (rule ∷ rules) below le fits = (
     rule_fits (label_of rule.key) (parameters_of (block_at code rule.block)) (block_number numbers rule.block) k (first_rule (k + 1) rules) fits.0 fits.1 (below.block rule.block) (omega arith)
-    (rule_below c.routines many (k + 1) rules (omega arith)),
+        (rule_below c.routines many (k + 1) rules (omega arith)),
     rules_fit code numbers (k + 1) rules below (omega arith) fits.2,
   )
 
@@ -299,14 +300,28 @@ module _ (c : Counts) (many : 1 + length runtime ≤ c.routines) where
     short = λ l has. omega (arith, num_bytes (nat_lt (49152 + place) 256), num_bytes (nat_lt own 256), num_bytes (nat_lt captured 256));
     fit = (
       ((omega arith, omega arith, tt), inl refl),
-      (omega arith,
-      (not_again,
-      ((tt, omega arith, (o, omega arith)),
-      ((omega arith, omega arith),
-      (((omega arith, omega arith, tt), inr (inl refl)),
-      ((omega arith, omega arith, n),
-      ((tt, omega arith, (omega arith, omega arith)),
-      ((λ h. h), ((omega arith, omega arith, b), (omega arith, tt)))))))))),
+      (
+        omega arith,
+        (
+          not_again,
+          (
+            (tt, omega arith, (o, omega arith)),
+            (
+              (omega arith, omega arith),
+              (
+                ((omega arith, omega arith, tt), inr (inl refl)),
+                (
+                  (omega arith, omega arith, n),
+                  (
+                    (tt, omega arith, (omega arith, omega arith)),
+                    ((λ h. h), ((omega arith, omega arith, b), (omega arith, tt))),
+                  ),
+                ),
+              ),
+            ),
+          ),
+        ),
+      ),
     );
   }
     where
@@ -339,7 +354,7 @@ module _ (c : Counts) (many : 1 + length runtime ≤ c.routines) where
       let two = two_is (length (drop half all)) (omega arith) in (
         fork_fits (place + half) (number + 1) (number + 2 * half) (omega arith) (omega arith) (omega arith),
         fits_append c
-        (bodies_routines p numbers halvings (number + 1) place (take half all)) (bodies_routines p numbers halvings (number + 2 * half) (place + half) (drop half all))
-        (bodies_fit p captured numbers halvings (number + 1) place (take half all) below (omega arith) (omega arith) (own_take half all own))
-        (bodies_fit p captured numbers halvings (number + 2 * half) (place + half) (drop half all) below (omega arith) (omega arith) (own_drop half all own)),
+            (bodies_routines p numbers halvings (number + 1) place (take half all)) (bodies_routines p numbers halvings (number + 2 * half) (place + half) (drop half all))
+            (bodies_fit p captured numbers halvings (number + 1) place (take half all) below (omega arith) (omega arith) (own_take half all own))
+            (bodies_fit p captured numbers halvings (number + 2 * half) (place + half) (drop half all) below (omega arith) (omega arith) (own_drop half all own)),
       )

@@ -149,7 +149,7 @@ all_room p numbers (suc halvings) number place (a ∷ b ∷ bodies) =
       arith,
       fork_room (place + half) (number + 1) (number + 2 * half),
       rooms_append
-      (bodies_routines p numbers halvings (number + 1) place (take half all)) (bodies_routines p numbers halvings (number + 2 * half) (place + half) (drop half all)),
+          (bodies_routines p numbers halvings (number + 1) place (take half all)) (bodies_routines p numbers halvings (number + 2 * half) (place + half) (drop half all)),
       all_room p numbers halvings (number + 1) place (take half all),
       all_room p numbers halvings (number + 2 * half) (place + half) (drop half all),
       spare_some (take half all) (omega arith),

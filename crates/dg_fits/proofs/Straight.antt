@@ -60,13 +60,18 @@ module _ (counts : Counts) (many : 1 + length runtime ≤ counts.routines) where
   -- a node, with the cells of what stands in it behind its own
   node_straight : (p : CoreProgram) (o : ℕ) (x : term.Term-F Term) (xs : List Term) → o + (node_cells p x + cells p (parts_of x ++ xs)) ≤ 10000 → IsNode p x → AreStraight counts (node_acts p o x)
   node_straight p o (term.Pair head tail) xs le is =
-      let c = cells_first p head (tail ∷ xs) in
-      (
+      let c = cells_first p head (tail ∷ xs) in (
         cell_straight o (atoms.Num 0) (omega arith) (omega arith),
-        (word_straight 52 (o + 3) (out-Term head) (omega arith) (omega arith) is.0,
-        (cell_straight (o + 1) (atoms.Var 52) (omega arith) (omega arith),
-        (word_straight 52 (o + 3 + cells p (head ∷ [])) (out-Term tail) (omega arith) (omega arith) is.1,
-        (cell_straight (o + 2) (atoms.Var 52) (omega arith) (omega arith), tt)))),
+        (
+          word_straight 52 (o + 3) (out-Term head) (omega arith) (omega arith) is.0,
+          (
+            cell_straight (o + 1) (atoms.Var 52) (omega arith) (omega arith),
+            (
+              word_straight 52 (o + 3 + cells p (head ∷ [])) (out-Term tail) (omega arith) (omega arith) is.1,
+              (cell_straight (o + 2) (atoms.Var 52) (omega arith) (omega arith), tt),
+            ),
+          ),
+        ),
       )
   node_straight p o (term.Closure c) xs le is = closure_straight o c (captured_of (slice_get p.closures c)) (omega arith) is.0 is.1 is.2
   node_straight p o (term.Num n) xs le is = tt
