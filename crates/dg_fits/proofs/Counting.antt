@@ -17,7 +17,7 @@ use Rattle.dg_mid.specs.Codes.{Codes, RulesStand, BodyStands}
 use Rattle.dg_mid.specs.Weights.{lists_in, own_weight, ways_weight, goal_weight, goals_weight, body_weight, rules_weight, preds_weight, closures_weight, blocks_weight, IsLight}
 use Rattle.dg_emit.specs.Numbers.{rules_count}
 use Rattle.dg_fits.specs.Sizes.{terms_size, text_size, lists_held, goal_size, goals_size, body_size, rules_size, preds_size, closures_size, story_size}
-use Rattle.dg_fits.specs.Bytes.{bytes}
+use Rattle.dg_fits.specs.inside.Bytes.{bytes}
 use Rattle.dg_fits.proofs.Rooms.{terms_alike}
 
 -- ## Goals

@@ -48,7 +48,7 @@ use Rattle.dg_emit.specs.Numbers.{routines_of_op, routines_of_ops, blocks_size, 
 use Rattle.dg_emit.specs.Bodies.{entering_routine, bodies_routines}
 use Rattle.dg_emit.specs.Code.{op_routine, op_routines, ops_routines, blocks_routines, parameters_of, rule_routine, rules_routines, preds_routines, code_routines, OpFits, OpsFit, BlocksFit}
 use Rattle.dg_fits.specs.Sizes.{terms_size}
-use Rattle.dg_fits.specs.Bytes.{room, rooms, bytes}
+use Rattle.dg_fits.specs.inside.Bytes.{room, rooms, bytes}
 use Rattle.dg_fits.proofs.Names.{chars_few}
 use Rattle.dg_fits.proofs.Terms.{bytes_append, num_bytes, terms_room}
 

@@ -16,7 +16,7 @@ use Rattle.dg_emit.specs.Numbers.{number_behind, numbers_from, block_number}
 use Rattle.dg_emit.specs.Code.{code_routines}
 use Rattle.dg_emit.specs.Story.{start_acts, first_number, story_routines}
 use Rattle.dg_fits.specs.Sizes.{story_size}
-use Rattle.dg_fits.specs.Bytes.{room, rooms, bytes}
+use Rattle.dg_fits.specs.inside.Bytes.{room, rooms, bytes}
 use Rattle.dg_fits.specs.Laws.{IsSized, StoryFits, parts_with}
 use Rattle.dg_fits.proofs.Rooms.{rooms_append, code_room, code_many}
 use Rattle.dg_fits.proofs.Counting.{counted}

@@ -1,3 +1,3 @@
 pub mod Sizes
-pub mod Bytes
 pub mod Laws
+pub mod inside

@@ -1,5 +1,5 @@
--- How many bytes the parts of a program's code may take. Hold it against Sizes.antt: what a goal, a list of goals, a rule and a closure may take, with what
--- leads to them, is at most what they count.
+-- How many bytes the parts of a program's code may take: what a goal, a list of goals, a rule and a closure may take, with what leads to them, is at most
+-- what they count. The proofs alone rest on it.
 use Rattle.std.specs.Prelude.{ℕ, ◌+◌, ◌*◌, List, [], ◌∷◌}
 use Rattle.dg_meaning.specs.Render.{characters}
 use Rattle.dg_mid.specs.Weights.{Weights}
@@ -11,6 +11,7 @@ use Rattle.z_asm.specs.Layout.{aligned}
 abbrev pub room : Routine → ℕ
 room r = aligned (1 + body_bytes r.body)
 
+-- What some routines take.
 abbrev pub rooms : List Routine → ℕ
 rooms [] = 0
 rooms (r ∷ rs) = room r + rooms rs
