@@ -1,16 +1,15 @@
 -- The routines of a story can be assembled.
 use Rattle.std.specs.Prelude.{take, nat_lt, map, if◌then◌else◌}
 use Rattle.std.specs.Str.{chars}
-use Rattle.std.proofs.Common.{◌≡◌, ℕ, zero, suc, ◌+◌, ◌*◌, ◌/◌, ◌<◌, ◌≤◌, inl, inr, ◌⊎◌, List, [], ◌∷◌, ◌++◌, length, drop, Option, Some, None, Bool, true, false, refl, sym, ap, subst, arith, length-append, length-drop}
+use Rattle.std.proofs.Common.{◌≡◌, ℕ, zero, suc, ◌+◌, ◌*◌, ◌/◌, ◌<◌, ◌≤◌, inl, inr, ◌⊎◌, List, [], ◌∷◌, ◌++◌, length, drop, Option, Some, None, Bool, true, false, refl, arith, length-drop}
 use Rattle.std.specs.List.{slice_get}
-use Rattle.std.proofs.lemmas.Bool.{ltb-true, and_parts}
 use Rattle.std.proofs.lemmas.List.{length-take-le}
 use Rattle.dg_base.specs.declared.program.CoreProgram.{CoreProgram}
 use Rattle.dg_base.specs.declared.program.Term.{Term}
 use Rattle.dg_base.specs.declared.program.GapKind.TheVariants as kinds
 use Rattle.dg_base.specs.Goals.{option_terms}
 use Rattle.dg_base.specs.Sound.{IsName}
-use Rattle.dg_meaning.specs.Cells.{nodes_of, cells, captured_count}
+use Rattle.dg_meaning.specs.Cells.{cells, captured_count}
 use Rattle.dg_meaning.specs.Render.{opens, last_of}
 use Rattle.dg_meaning.specs.Values.{Label, Num, Word, Object, Nil, Pair, Closure, Unknown}
 use Rattle.dg_mid.specs.declared.code.Action.TheVariants as action
@@ -41,20 +40,19 @@ use Rattle.dg_rt.specs.declared.registers.TheConstants.{ARGS, BACK, CLASH, LAST,
 use Rattle.dg_rt.proofs.Straight.{AreStraight, straight_append, straight_fits}
 use Rattle.dg_turn.specs.Told.{found_acts, rule_acts, KeyFits}
 use Rattle.dg_turn.specs.Lies.{bit_of}
-use Rattle.dg_turn.specs.Terms.{capped, terms_acts, AreNodes}
-use Rattle.dg_turn.specs.Turns.{HEAD, match_acts, last_acts, head_acts, enter_routine, equal_routine, goto_routine}
-use Rattle.dg_turn.specs.Queries.{some_of, ask_acts, asking_routine}
-use Rattle.dg_turn.specs.LastQueries.{last_routine}
-use Rattle.dg_turn.specs.Bodies.{CALLED, look_acts, query_routine, last_query_routine, body_routine, fork_routine}
-use Rattle.dg_turn.specs.Texts.{say, text_acts, text_routine, gap_routine, gap_n_routine}
+use Rattle.dg_turn.specs.Terms.{terms_acts}
+use Rattle.dg_turn.specs.Turns.{HEAD, match_acts, last_acts, enter_routine, goto_routine}
+use Rattle.dg_turn.specs.Queries.{some_of, ask_acts}
+use Rattle.dg_turn.specs.Bodies.{CALLED, look_acts, body_routine, fork_routine}
+use Rattle.dg_turn.specs.Texts.{say, text_acts, text_routine, gap_routine}
 use Rattle.dg_emit.specs.declared.numbers.Numbers.{Numbers}
-use Rattle.dg_emit.specs.Numbers.{routines_of_op, routines_of_ops, blocks_size, bodies_size, rules_count, first_of, first_rule, behind_blocks, number_behind, numbers_from, block_number, pred_number}
-use Rattle.dg_emit.specs.Bodies.{entering_routine, bodies_routines}
-use Rattle.dg_emit.specs.Code.{op_routine, op_routines, ops_routines, blocks_routines, parameters_of, rule_routine, rules_routines, preds_routines, code_routines, TermsFit, OpFits, OpsFit, BlocksFit, RulesFit, PredsFit}
+use Rattle.dg_emit.specs.Numbers.{routines_of_op, routines_of_ops, blocks_size, rules_count, first_of, first_rule, block_number, pred_number}
+use Rattle.dg_emit.specs.Bodies.{bodies_routines}
+use Rattle.dg_emit.specs.Code.{op_routines, ops_routines, blocks_routines, parameters_of, rules_routines, preds_routines, TermsFit, OpFits, OpsFit, BlocksFit, RulesFit, PredsFit}
 use Rattle.dg_fits.proofs.Names.{AreSmall, chars_small}
 use Rattle.dg_fits.proofs.Terms.{num_bytes}
 use Rattle.dg_fits.proofs.Straight.{capped_few, terms_straight}
-use Rattle.dg_fits.proofs.Below.{AreBelow, two_each, two_is, ops_some, first_below, rule_below}
+use Rattle.dg_fits.proofs.Below.{AreBelow, two_each, two_is, first_below, rule_below}
 
 pub fits_append : (c : Counts) (xs ys : List Routine) → AllFit c xs → AllFit c ys → AllFit c (xs ++ ys)
 fits_append c [] ys f g = g

@@ -1,7 +1,7 @@
 -- How much room the routines of code take.
 use Rattle.std.specs.Prelude.{nat_lt, take, map}
 use Rattle.std.specs.Str.{chars}
-use Rattle.std.proofs.Common.{◌≡◌, ℕ, zero, suc, ◌+◌, ◌*◌, ◌/◌, ◌≤◌, List, [], ◌∷◌, ◌++◌, length, drop, Option, Some, None, Bool, true, false, refl, arith, length-append, length-drop}
+use Rattle.std.proofs.Common.{◌≡◌, ℕ, zero, suc, ◌+◌, ◌*◌, ◌/◌, ◌≤◌, List, [], ◌∷◌, ◌++◌, length, drop, Option, Some, None, Bool, refl, arith, length-drop}
 use Rattle.std.specs.List.{slice_get}
 use Rattle.std.proofs.lemmas.List.{length-take-le}
 use Rattle.dg_base.specs.declared.program.CoreProgram.{CoreProgram}
@@ -13,7 +13,6 @@ use Rattle.dg_base.specs.Terms.{nodes}
 use Rattle.dg_meaning.specs.Cells.{cells, captured_count}
 use Rattle.dg_meaning.specs.Render.{characters, last_of}
 use Rattle.dg_meaning.specs.Values.{Label}
-use Rattle.dg_mid.specs.declared.code.Action.{Action}
 use Rattle.dg_mid.specs.declared.code.Action.TheVariants as action
 use Rattle.dg_mid.specs.declared.code.Op.{Op}
 use Rattle.dg_mid.specs.declared.code.Op.TheVariants as op
@@ -28,25 +27,23 @@ use Rattle.z_lang.specs.declared.act.Act.TheVariants as acts
 use Rattle.z_lang.specs.declared.act.Args.TheVariants as args
 use Rattle.z_lang.specs.declared.act.Atom.TheVariants as atoms
 use Rattle.z_lang.specs.declared.act.Routine.{Routine}
-use Rattle.z_lang.specs.Sizes.{act_bytes, body_bytes}
-use Rattle.z_asm.specs.Layout.{aligned}
+use Rattle.z_lang.specs.Sizes.{body_bytes}
 use Rattle.dg_rt.specs.Gaps.{last_word}
 use Rattle.dg_rt.specs.Rules.{key_word}
 use Rattle.dg_turn.specs.Told.{rule_acts}
 use Rattle.dg_turn.specs.Lies.{bit_of}
 use Rattle.dg_turn.specs.Terms.{capped, terms_acts}
-use Rattle.dg_turn.specs.Turns.{HEAD, match_acts, last_acts, head_acts, enter_routine, equal_routine}
-use Rattle.dg_turn.specs.Queries.{some_of, ask_acts, asking_routine}
-use Rattle.dg_turn.specs.LastQueries.{last_routine}
-use Rattle.dg_turn.specs.Bodies.{CALLED, look_acts, query_routine, last_query_routine, body_routine, fork_routine}
+use Rattle.dg_turn.specs.Turns.{HEAD, match_acts, last_acts, enter_routine}
+use Rattle.dg_turn.specs.Queries.{some_of, ask_acts}
+use Rattle.dg_turn.specs.Bodies.{CALLED, look_acts, body_routine, fork_routine}
 use Rattle.dg_rt.specs.declared.numbers.TheConstants.{TAIL_CALL, ASK_SPACES}
 use Rattle.dg_rt.specs.declared.registers.TheConstants.{ARGS, BACK, CLASH, LAST, WORD}
 use Rattle.dg_rt.specs.RunTime.{routine_of}
-use Rattle.dg_turn.specs.Texts.{say, text_acts, text_routine, gap_n_routine}
+use Rattle.dg_turn.specs.Texts.{say, text_acts, text_routine}
 use Rattle.dg_emit.specs.declared.numbers.Numbers.{Numbers}
 use Rattle.dg_emit.specs.Numbers.{routines_of_op, routines_of_ops, blocks_size, bodies_size, rules_count, first_of, first_rule, behind_blocks, number_behind, numbers_from, block_number, pred_number}
-use Rattle.dg_emit.specs.Bodies.{entering_routine, bodies_routines}
-use Rattle.dg_emit.specs.Code.{op_routine, op_routines, ops_routines, blocks_routines, parameters_of, rule_routine, rules_routines, preds_routines, code_routines, OpFits, OpsFit, BlocksFit}
+use Rattle.dg_emit.specs.Bodies.{bodies_routines}
+use Rattle.dg_emit.specs.Code.{op_routines, ops_routines, blocks_routines, parameters_of, rules_routines, preds_routines, code_routines, OpFits, OpsFit, BlocksFit}
 use Rattle.dg_fits.specs.Sizes.{terms_size}
 use Rattle.dg_fits.specs.inside.Bytes.{room, rooms, bytes}
 use Rattle.dg_fits.proofs.Names.{chars_few}

@@ -1,21 +1,19 @@
 -- A story isn't too large.
-use Rattle.std.specs.Prelude.{nat_lt, map}
-use Rattle.std.proofs.Common.{◌≡◌, ℕ, ◌+◌, ◌*◌, ◌/◌, ◌≤◌, List, [], ◌∷◌, ◌++◌, length, inl, inr, Bool, true, false, refl, arith}
+use Rattle.std.specs.Prelude.{map}
+use Rattle.std.proofs.Common.{◌≡◌, ℕ, ◌+◌, ◌*◌, ◌/◌, ◌≤◌, List, [], ◌∷◌, inl, inr, Bool, true, false, refl, arith}
 use Rattle.std.proofs.lemmas.Bool.{ltb-true}
 use Rattle.dg_base.specs.declared.program.CoreProgram.{CoreProgram}
 use Rattle.dg_mid.specs.declared.code.Code.{Code}
 use Rattle.z_lang.specs.declared.act.Routine.{Routine}
 use Rattle.z_lang.specs.Sizes.{body_bytes}
 use Rattle.z_lang.proofs.Sizes.{takes_bytes}
-use Rattle.z_asm.specs.declared.image.Table.{Table}
 use Rattle.z_asm.specs.Layout.{aligned, end_from, code_size}
 use Rattle.z_asm.specs.Story as image
 use Rattle.z_story.specs.Parts.{routine_code, image_of}
 use Rattle.dg_rt.specs.RunTime.{runtime, routine_of}
-use Rattle.dg_emit.specs.Numbers.{number_behind, numbers_from, block_number}
+use Rattle.dg_emit.specs.Numbers.{numbers_from, block_number}
 use Rattle.dg_emit.specs.Code.{code_routines}
 use Rattle.dg_emit.specs.Story.{start_acts, first_number, story_routines}
-use Rattle.dg_fits.specs.Sizes.{story_size}
 use Rattle.dg_fits.specs.inside.Bytes.{room, rooms, bytes}
 use Rattle.dg_fits.specs.Laws.{IsSized, StoryFits, parts_with}
 use Rattle.dg_fits.proofs.Rooms.{rooms_append, code_room, code_many}

@@ -1,7 +1,7 @@
 -- Code of a program that isn't refused fits.
 use Rattle.std.specs.Prelude.{nat_lt, ◌&&◌}
-use Rattle.std.proofs.Common.{◌≡◌, ℕ, zero, suc, ◌+◌, ◌*◌, ◌<◌, ◌≤◌, List, [], ◌∷◌, ◌++◌, length, Option, Some, None, Bool, true, false, refl, sym, ◌∙◌, ap, subst, arith, length-append}
-use Rattle.std.specs.List.{All, slice_get, flat_map}
+use Rattle.std.proofs.Common.{◌≡◌, ℕ, zero, suc, ◌*◌, ◌<◌, ◌≤◌, List, [], ◌∷◌, ◌++◌, length, Option, Some, None, Bool, true, refl, sym, ◌∙◌, ap, subst, arith, length-append}
+use Rattle.std.specs.List.{All, slice_get}
 use Rattle.std.proofs.lemmas.Bool.{ltb-true, lt-ltb, and_parts}
 use Rattle.std.proofs.lemmas.Option.{slice_get_within}
 use Rattle.std.proofs.lemmas.List.Elements.{All-nil, All-head, All-tail}
@@ -39,7 +39,7 @@ use Rattle.dg_emit.specs.inside.Left.{parts_of}
 use Rattle.dg_emit.specs.Code.{parameters_of, TermsFit, OpFits, OpsFit, BlocksFit, RulesFit, PredsFit}
 use Rattle.dg_emit.proofs.Left.{nodes_next}
 use Rattle.dg_emit.proofs.Nodes.{first_term, other_terms}
-use Rattle.dg_fits.specs.Sizes.{place_size, places_size, world_size, words_size, terms_size, rules_size, preds_size, story_size}
+use Rattle.dg_fits.specs.Sizes.{place_size, places_size, words_size, terms_size, rules_size, preds_size}
 use Rattle.dg_fits.specs.Laws.{IsSized, CodeSuits}
 use Rattle.dg_fits.proofs.Names.{name_ok, name_passes, name_is}
 use Rattle.dg_fits.proofs.Terms.{some_node, captured_are}

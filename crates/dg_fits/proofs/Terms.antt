@@ -1,6 +1,6 @@
 -- How many bytes the acts take that write terms.
 use Rattle.std.specs.Prelude.{nat_lt, if◌then◌else◌}
-use Rattle.std.proofs.Common.{◌≡◌, ℕ, zero, suc, ◌+◌, ◌*◌, ◌≤◌, List, [], ◌∷◌, ◌++◌, length, drop, Option, Some, None, Bool, true, false, refl, ap, ◌∙◌, arith, length-append}
+use Rattle.std.proofs.Common.{◌≡◌, ℕ, zero, suc, ◌+◌, ◌*◌, ◌≤◌, List, [], ◌∷◌, ◌++◌, length, drop, Option, Some, None, Bool, true, false, refl, ap, arith, length-append}
 use Rattle.std.specs.List.{slice_get}
 use Rattle.dg_base.specs.declared.program.ClosureBody.{ClosureBody}
 use Rattle.dg_base.specs.declared.program.CoreProgram.{CoreProgram}
@@ -12,7 +12,6 @@ use Rattle.z_lang.specs.declared.act.Act.{Act}
 use Rattle.z_lang.specs.declared.act.Atom.{Atom}
 use Rattle.z_lang.specs.Sizes.{atom_bytes, act_bytes, body_bytes}
 use Rattle.dg_turn.specs.Terms.{header_at, word_act, words_acts, cell_act, two_numbers, captured_of, capture_acts, captures_for, closure_acts, node_acts, nodes_acts, capped, charge_acts, laying_acts, terms_acts}
-use Rattle.dg_emit.specs.inside.Left.{parts_of}
 use Rattle.dg_emit.proofs.Left.{nodes_next}
 use Rattle.dg_fits.specs.Sizes.{terms_size}
 

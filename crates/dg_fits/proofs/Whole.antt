@@ -1,6 +1,6 @@
 -- The parts of a story can be assembled.
-use Rattle.std.proofs.Common.{◌≡◌, ℕ, zero, suc, ◌+◌, ◌<◌, ◌≤◌, inl, List, [], ◌∷◌, ◌++◌, length, Option, Some, None, Bool, true, false, refl, ap, subst, arith, length-append}
-use Rattle.std.specs.Prelude.{nat_lt, ◌&&◌}
+use Rattle.std.proofs.Common.{◌≡◌, ℕ, zero, suc, ◌+◌, ◌<◌, ◌≤◌, inl, List, [], ◌∷◌, ◌++◌, length, Some, Bool, true, false, refl, subst, arith, length-append}
+use Rattle.std.specs.Prelude.{nat_lt}
 use Rattle.std.specs.List.{All, slice_get}
 use Rattle.std.proofs.lemmas.Bool.{ltb-true, and_parts}
 use Rattle.std.proofs.lemmas.List.Elements.{All-head, All-tail}
@@ -17,17 +17,16 @@ use Rattle.dg_mid.specs.Codes.{BodyStands}
 use Rattle.dg_mid.specs.Passing.{OpPasses, OpsPass}
 use Rattle.z_code.specs.Open.{Counts}
 use Rattle.z_lang.specs.declared.act.Routine.{Routine}
-use Rattle.z_asm.specs.declared.image.Table.{Table}
-use Rattle.z_story.specs.Parts.{IsRoutine, AreRoutines, AreParts, parts_counts}
+use Rattle.z_story.specs.Parts.{AreRoutines, parts_counts}
 use Rattle.dg_rt.specs.Fits.{IsFit, AllFit}
 use Rattle.dg_rt.specs.RunTime.{runtime, routine_of}
 use Rattle.dg_rt.specs.declared.closings.TheConstants.{KEEP_LIMIT_ACTS}
 use Rattle.dg_rt.proofs.Fitting.{runtime_fits}
-use Rattle.dg_emit.specs.Numbers.{rules_count, behind_blocks, bodies_size, number_behind, numbers_from, block_number}
+use Rattle.dg_emit.specs.Numbers.{rules_count, behind_blocks, number_behind, numbers_from, block_number}
 use Rattle.dg_emit.specs.Bodies.{bodies_routines}
 use Rattle.dg_emit.specs.Code.{preds_routines, blocks_routines, code_routines}
 use Rattle.dg_emit.specs.Story.{start_acts, first_number, story_routines}
-use Rattle.dg_fits.specs.Laws.{IsSized, CodeSuits, parts_with, RoutinesFit}
+use Rattle.dg_fits.specs.Laws.{IsSized, parts_with, RoutinesFit}
 use Rattle.dg_fits.proofs.Suits.{tests, terms_ok, captured_all, passes_all, suits}
 use Rattle.dg_fits.proofs.Below.{numbers_below, size_is, code_many}
 use Rattle.dg_fits.proofs.Fits.{EntersFew, AllEnterFew, BlocksEnterFew, OwnFew, fits_append, blocks_fit, preds_fit, bodies_fit}
