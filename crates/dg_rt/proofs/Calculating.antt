@@ -2,7 +2,7 @@
 use Rattle.std.proofs.Common.{◌≡◌, ◌≢◌, ℕ, zero, suc, ◌+◌, ◌-◌, ◌*◌, ◌/◌, ◌%◌, ◌<◌, ◌≤◌, Bool, true, false, inl, inr, List, [], ◌∷◌, drop, Option, Some, None, cond, refl, sym, ap, ◌∙◌, subst, arith}
 use Rattle.std.specs.Prelude.{eqb, nat_lt, nat_le}
 use Rattle.std.proofs.Math.Nat.{div-le_self, le-div_iff_mul-le}
-use Rattle.std.proofs.lemmas.Bool.{cases_lt, lt-ltb, le-ltb, le-leb, lt-leb, eq-eqb, ne_eqb, cond-true, cond-false}
+use Rattle.std.proofs.lemmas.Bool.{cases_lt, lt-ltb, le-ltb, le-leb, lt-leb, ne_eqb}
 use Rattle.dg_base.specs.declared.program.ArithOp.TheVariants.{Plus, Minus, Times, Divide, Modulo}
 use Rattle.dg_meaning.specs.Values.{Num, Value, Node, Values}
 use Rattle.dg_meaning.specs.Substitutions.{Substitution, walk, links}
@@ -12,13 +12,12 @@ use Rattle.z_lang.specs.declared.act.Act.{Act}
 use Rattle.z_lang.specs.declared.act.Act.TheVariants as acts
 use Rattle.z_lang.specs.declared.act.Atom.{Atom}
 use Rattle.z_lang.specs.declared.act.Atom.TheVariants as atoms
-use Rattle.z_lang.specs.declared.act.Comparison.{Comparison}
 use Rattle.z_lang.specs.declared.act.Comparison.TheVariants as comparisons
 use Rattle.z_lang.specs.declared.act.Function.TheVariants as functions
 use Rattle.z_lang.specs.declared.act.Test.{Test}
 use Rattle.z_lang.specs.State.{State, Program, value, put}
 use Rattle.z_lang.specs.Acts.{answer_of, computed, does, random_drawn}
-use Rattle.z_lang.specs.Runs.{ActsRun as Runs, ActsOutcome as Outcome, Returns, at_label, goes, done, taken, passed, returns, behind_label}
+use Rattle.z_lang.specs.Runs.{ActsRun as Runs, ActsOutcome as Outcome, Returns, at_label, done, taken, passed, returns, behind_label}
 use Rattle.dg_rt.specs.declared.arithmetic.TheConstants.{PLUS_ACTS, MINUS_ACTS, TIMES_ACTS, DIVIDE_ACTS, MODULO_ACTS, THROW_ACTS}
 use Rattle.dg_rt.specs.Cells.{compared, with_cell, replaced, Holds}
 use Rattle.dg_rt.specs.Areas.{IsMapped, state}
@@ -29,7 +28,7 @@ use Rattle.dg_rt.specs.Arithmetic.{result_word, clash_of, IsNumber, Makes, MakeO
 use Rattle.dg_rt.proofs.Cells.{other_cell, same_cell}
 use Rattle.dg_rt.proofs.CaptureSteps.{divides, leaves}
 use Rattle.dg_rt.proofs.Following.{word, some_state, tested, computes, copies, IsPut, puts, local_1, local_2, local_3, put_1, put_2, put_3}
-use Rattle.dg_rt.proofs.NoNumbers.{IsNone, Kind, is_number, is_none, kind_of}
+use Rattle.dg_rt.proofs.NoNumbers.{Kind, is_number, is_none, kind_of}
 use Rattle.dg_rt.proofs.Locals.{less_by, not_less_by, more_by, not_more_by, high_is_less, adds, subtracts}
 use Rattle.dg_rt.proofs.TwoNumbers.{both_first, both_told}
 

@@ -1,5 +1,5 @@
 -- Values that are numbers, and those that are none.
-use Rattle.std.proofs.Common.{◌≡◌, ℕ, ◌<◌, Bool, false, Option, None, refl}
+use Rattle.std.proofs.Common.{◌≡◌, ℕ, ◌<◌, false, Option, None, refl}
 use Rattle.dg_base.specs.declared.program.CompareOp.{CompareOp}
 use Rattle.dg_meaning.specs.Values.{Num, Word, Unknown, Object, Nil, Pair, Closure, Value, Var, Node, Values}
 use Rattle.dg_meaning.specs.Numbers.{of_numbers, are_in_order}

@@ -22,10 +22,10 @@ use Rattle.dg_rt.specs.Areas.{state}
 use Rattle.dg_rt.specs.Shapes.{Shape, IsShape, Shows, Stands}
 use Rattle.dg_rt.specs.RunTime.{routine_of, HasRunTime}
 use Rattle.dg_rt.specs.Operands.{no_value, number_word, FitsStory}
-use Rattle.dg_rt.specs.Conditions.{next_if, Decides, OrderWorks}
+use Rattle.dg_rt.specs.Conditions.{next_if, OrderWorks}
 use Rattle.dg_rt.proofs.AtTop.{operands_work}
 use Rattle.dg_rt.proofs.Following.{tested, local_1, local_2, local_3, put_1, put_2}
-use Rattle.dg_rt.proofs.NoNumbers.{IsNone, Kind, is_number, is_none, kind_of}
+use Rattle.dg_rt.proofs.NoNumbers.{Kind, is_number, is_none, kind_of}
 use Rattle.dg_rt.proofs.Locals.{less_by, not_less_by, high_is_less, low_not_less}
 
 number_at : (p : Program) → HasRunTime p → p.routine_at (p.names.routine NUMBER) ≡ Some (routine_of 1 NUMBER_ACTS)
