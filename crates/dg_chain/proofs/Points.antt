@@ -75,9 +75,9 @@ module _ (g : Game) (code : Code) (typed : List ℕ) where
   abbrev pub resumed_at : ℕ → Bool
   resumed_at k = is_resumed (points k).now
 
-  -- What the step of a point costs: 22 instructions more a unit than its turn, for what is in front of it and for an ending.
+  -- What the step of a point costs: 30 instructions more a unit than its turn, for what is in front of it and for an ending.
   abbrev pub cost_at : ℕ → ℕ
-  cost_at k = 822 * units set (points k).prints (points k).now + 9000 * selects (points k).now
+  cost_at k = 830 * units set (points k).prints (points k).now + 9000 * selects (points k).now
 
   -- The next point, or the one behind it where a choice goes on there.
   abbrev pub behind : ℕ → ℕ
@@ -134,7 +134,7 @@ module _ (g : Game) (code : Code) (typed : List ℕ) where
 
   -- what all steps up to a point cost
   abbrev pub all_spent : ℕ → ℕ
-  all_spent k = 822 * (points k).spent + 9000 * (points k).looks
+  all_spent k = 830 * (points k).spent + 9000 * (points k).looks
 
   ReachedAt : ℕ → Type 0
   ReachedAt k = resumed_at k ≡ false → (IsOver (points k).now → ⊥) → Reaches turning 0 (all_spent k) k
@@ -143,7 +143,7 @@ module _ (g : Game) (code : Code) (typed : List ℕ) where
   spent_once k e =
       let u = units set (points k).prints (points k).now in
       let l = selects (points k).now in
-      let c : turning.cost k ≡ 822 * u + 9000 * l + 0 = cost_once k e in
+      let c : turning.cost k ≡ 830 * u + 9000 * l + 0 = cost_once k e in
       let s : (points (suc k)).spent ≡ u + (points k).spent = refl in
       let t : (points (suc k)).looks ≡ l + (points k).looks = refl in
       omega arith
@@ -154,7 +154,7 @@ module _ (g : Game) (code : Code) (typed : List ℕ) where
       let l = selects (points k).now in
       let u' = units set (points (suc k)).prints (points (suc k)).now in
       let l' = selects (points (suc k)).now in
-      let c : turning.cost k ≡ 822 * u + 9000 * l + (822 * u' + 9000 * l') = cost_twice k e in
+      let c : turning.cost k ≡ 830 * u + 9000 * l + (830 * u' + 9000 * l') = cost_twice k e in
       let s : (points (suc (suc k))).spent ≡ u' + (u + (points k).spent) = refl in
       let t : (points (suc (suc k))).looks ≡ l' + (l + (points k).looks) = refl in
       omega arith
@@ -187,10 +187,10 @@ module _ (g : Game) (code : Code) (typed : List ℕ) where
   reaches k e on = reached_all k e on
 
   module _ (w : ZGiven) (Always : Status → Type 0) (Stands : Standing) (steps : StepsAreTurns w set Always Stands) (always : (k : ℕ) → Always (points k).now) where
-    -- The player is two instructions at most in front of a point that isn't the end, and at which no choice goes on.
+    -- The player is 10 instructions at most in front of a point that isn't the end, and at which no choice goes on.
     pub record Before (k : ℕ) (z : ZState) : Type 0 where
       pub count : ℕ
-      pub few : count ≤ 2
+      pub few : count ≤ 10
       pub there : ZState
       pub leads : Leads w count z there
       pub stands : Stands (points k).prints (points k).now there

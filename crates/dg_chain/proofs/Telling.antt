@@ -305,7 +305,7 @@ module _ (g : Game) (code : Code) (typed : List ℕ) (codes : Codes g.program co
           let both : (point (suc k)).looks ≡ l + p.looks = refl in
           let sum : (point (suc k)).spent ≡ u + p.spent = refl in
           let at = ended_rests (suc k) e is in
-          let cost : (turning g code typed).cost k ≡ 822 * u + 9000 * l + 0 = cost_once g code typed k at in
+          let cost : (turning g code typed).cost k ≡ 830 * u + 9000 * l + 0 = cost_once g code typed k at in
           over (reaches g code typed k rest on) (next_is g code typed k at ∙ ap (λ (now : Status). turn_to (point (suc k)).prints now (suc k)) is) (omega arith) (there_so n (suc k) e is le)
 
       -- before the end, where one does
@@ -321,7 +321,7 @@ module _ (g : Game) (code : Code) (typed : List ℕ) (codes : Codes g.program co
           let looks' = looked (suc (suc k)) n le in
           let both : (point (suc (suc k))).looks ≡ l' + (l + p.looks) = refl in
           let sum : (point (suc (suc k))).spent ≡ u' + (u + p.spent) = refl in
-          let cost : (turning g code typed).cost k ≡ 822 * u + 9000 * l + (822 * u' + 9000 * l') = cost_twice g code typed k goes in
+          let cost : (turning g code typed).cost k ≡ 830 * u + 9000 * l + (830 * u' + 9000 * l') = cost_twice g code typed k goes in
           over (reaches g code typed k (rests_before g code typed k goes) on) (second_is g code typed k goes ∙ ap (λ (now : Status). turn_to (point (suc (suc k))).prints now (suc (suc k))) is) (omega arith) (there_so n (suc (suc k)) e is le)
 
       before_end_by : (n k : ℕ) (b : Bool) → resumed_at g code typed k ≡ b → (IsOver (point k).now → ⊥) → (point (suc k)).goals ≤ n → (e : Ending) → (point (suc k)).now ≡ Ended e → InTime g typed (turning g code typed) 0 n

@@ -113,10 +113,10 @@ pub record OtherTurns (set : Setting) (Always : Status → Type 0) (Stands : Sta
   pub fails : (ps : List Print) (m : Mid) (z : ZState) → Always (Fails m) → Stands ps (Fails m) z →
       To 1 ps (goes_back m.choices m) (step_cost set ps (Fails m)) z
 
--- The player comes to the start in two instructions at most.
+-- The player comes to the start in 10 instructions at most.
 pub record Starts (w : ZGiven) (set : Setting) (Stands : Standing) (typed : List ℕ) (z : ZState) : Type 0 where
   pub count : ℕ
-  pub few : count ≤ 2
+  pub few : count ≤ 10
   pub there : ZState
   pub leads : Leads w count z there
   pub stands : Stands [] (start set typed) there
