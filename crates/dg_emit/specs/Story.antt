@@ -1,6 +1,6 @@
 -- All routines of a story. Hold it against dg_turn/specs/Plays.antt, dg_turn/specs/Lies.antt, and docs/STORIES.md, where it says with which line a story
 -- ends.
-use Rattle.std.specs.Prelude.{ℕ, ◌+◌, List, [], ◌∷◌, ◌++◌, length, Bool, true, false}
+use Rattle.std.specs.Prelude.{ℕ, ◌+◌, List, ◌∷◌, ◌++◌, length, Bool, true, false}
 use Rattle.dg_base.specs.declared.program.CoreProgram.{CoreProgram}
 use Rattle.dg_mid.specs.declared.code.Code.{Code}
 use Rattle.z_lang.specs.declared.act.Act.{Act}
@@ -11,7 +11,6 @@ use Rattle.dg_rt.specs.declared.closings.TheConstants.{KEEP_LIMIT_ACTS}
 use Rattle.dg_rt.specs.declared.registers.TheConstants.{MARK}
 use Rattle.dg_rt.specs.RunTime.{routine_of, runtime}
 use Rattle.dg_turn.specs.Plays.{NEXT, turn_acts}
-use Rattle.dg_emit.specs.declared.numbers.Numbers.{Numbers}
 use Rattle.dg_emit.specs.Numbers.{numbers_from, block_number}
 use Rattle.dg_emit.specs.Code.{code_routines}
 
