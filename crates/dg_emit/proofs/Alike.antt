@@ -98,6 +98,10 @@ module _ (p q : CoreProgram) (same : SameCaptures p q) where
   op_same : (numbers : Numbers) (behind : ℕ) (x : Op) → op_routine p numbers behind x ≡ op_routine q numbers behind x
   op_same numbers behind (op.Do action.Just) = refl
   op_same numbers behind (op.Do (action.GapN a)) = rw (terms_same ARGS (a ∷ [])) refl
+  op_same numbers behind (op.Do (action.Test kind a)) = rw (terms_same ARGS (a ∷ [])) refl
+  op_same numbers behind (op.Do (action.Compare f a b)) = rw (terms_same ARGS (a ∷ b ∷ [])) refl
+  op_same numbers behind (op.Do (action.Arith f a b c)) = rw (terms_same ARGS (a ∷ b ∷ c ∷ [])) refl
+  op_same numbers behind (op.Do (action.Random a b c)) = rw (terms_same ARGS (a ∷ b ∷ c ∷ [])) refl
   op_same numbers behind (op.Do (action.Equal a b)) = rw (terms_same ARGS (a ∷ b ∷ [])) refl
   op_same numbers behind (op.Do other) = refl
   op_same numbers behind (op.Ask pred terms many next) = rw (terms_same ARGS terms) refl
@@ -170,6 +174,10 @@ module _ (p q : CoreProgram) (same : SameCaptures p q) where
   op_fits : (x : Op) → OpFits p x → OpFits q x
   op_fits (op.Do (action.Equal a b)) fits = terms_fit (a ∷ b ∷ []) fits
   op_fits (op.Do (action.GapN a)) fits = terms_fit (a ∷ []) fits
+  op_fits (op.Do (action.Test kind a)) fits = terms_fit (a ∷ []) fits
+  op_fits (op.Do (action.Compare f a b)) fits = terms_fit (a ∷ b ∷ []) fits
+  op_fits (op.Do (action.Arith f a b c)) fits = terms_fit (a ∷ b ∷ c ∷ []) fits
+  op_fits (op.Do (action.Random a b c)) fits = terms_fit (a ∷ b ∷ c ∷ []) fits
   op_fits (op.Do other) fits = fits
   op_fits (op.Ask pred terms many next) fits = terms_fit terms fits
   op_fits (op.LastAsk pred terms many) fits = terms_fit terms fits

@@ -26,6 +26,7 @@ use Rattle.dg_turn.specs.Leaving.{just_routine}
 use Rattle.dg_turn.specs.Stopping.{shield_routine, leave_routine}
 use Rattle.dg_turn.specs.Bodies.{query_routine, last_query_routine}
 use Rattle.dg_turn.specs.Texts.{text_routine, gap_routine, gap_n_routine, quit_routine}
+use Rattle.dg_turn.specs.Operating.{test_routine, compare_routine, arith_routine, random_routine}
 use Rattle.dg_emit.specs.declared.numbers.Numbers.{Numbers}
 use Rattle.dg_emit.specs.Numbers.{routines_of_op, routines_of_ops, first_of, first_rule, rules_count, behind_blocks, numbers_from, block_number, pred_number}
 use Rattle.dg_emit.specs.Bodies.{bodies_routines, ClosuresFit}
@@ -41,6 +42,10 @@ is_built (op.Do action.Quit) = true
 is_built (op.Do (action.Text text)) = true
 is_built (op.Do (action.Gap kind)) = true
 is_built (op.Do (action.GapN a)) = true
+is_built (op.Do (action.Test kind a)) = true
+is_built (op.Do (action.Compare f a b)) = true
+is_built (op.Do (action.Arith f a b c)) = true
+is_built (op.Do (action.Random a b c)) = true
 is_built (op.Do (action.Equal a b)) = true
 is_built (op.Do other) = false
 is_built (op.Ask pred terms many next) = true
@@ -74,6 +79,10 @@ op_routine program numbers behind (op.Do action.Quit) = quit_routine
 op_routine program numbers behind (op.Do (action.Text text)) = text_routine (chars text) behind
 op_routine program numbers behind (op.Do (action.Gap kind)) = gap_routine kind behind
 op_routine program numbers behind (op.Do (action.GapN a)) = gap_n_routine program a behind
+op_routine program numbers behind (op.Do (action.Test kind a)) = test_routine program kind a behind
+op_routine program numbers behind (op.Do (action.Compare f a b)) = compare_routine program f a b behind
+op_routine program numbers behind (op.Do (action.Arith f a b c)) = arith_routine program f a b c behind
+op_routine program numbers behind (op.Do (action.Random a b c)) = random_routine program a b c behind
 op_routine program numbers behind (op.Do (action.Equal a b)) = equal_routine program a b behind
 op_routine program numbers behind (op.Ask pred terms many next) =
     asking_routine program terms (block_number numbers next) many (pred_number numbers pred)
@@ -155,6 +164,10 @@ TermsFit program terms = (length terms ≤ 12) × AreNodes program (nodes_of ter
 abbrev pub OpFits : CoreProgram → Op → Type 0
 OpFits program (op.Do (action.Text text)) = IsName text
 OpFits program (op.Do (action.GapN a)) = TermsFit program (a ∷ [])
+OpFits program (op.Do (action.Test kind a)) = TermsFit program (a ∷ [])
+OpFits program (op.Do (action.Compare f a b)) = TermsFit program (a ∷ b ∷ [])
+OpFits program (op.Do (action.Arith f a b c)) = TermsFit program (a ∷ b ∷ c ∷ [])
+OpFits program (op.Do (action.Random a b c)) = TermsFit program (a ∷ b ∷ c ∷ [])
 OpFits program (op.Do (action.Equal a b)) = TermsFit program (a ∷ b ∷ [])
 OpFits program (op.Ask pred terms many next) = TermsFit program terms
 OpFits program (op.LastAsk pred terms many) = TermsFit program terms

@@ -25,6 +25,8 @@ pub fn is_built(op: &Op) -> bool
     match op {
         Op::Do(Action::Just) | Op::Do(Action::Fail) | Op::Do(Action::Stop) => true,
         Op::Do(Action::Quit) | Op::Do(Action::Equal(_, _)) => true,
+        Op::Do(Action::Test(_, _)) | Op::Do(Action::Compare(_, _, _)) => true,
+        Op::Do(Action::Arith(_, _, _, _)) | Op::Do(Action::Random(_, _, _)) => true,
         Op::Do(Action::Text(_)) | Op::Do(Action::Gap(_)) | Op::Do(Action::GapN(_)) => true,
         Op::Do(_) => false,
         Op::Find(_, _, _, _) | Op::Select(_, _, _, _) | Op::Collect(_, _, _) => false,
@@ -136,6 +138,10 @@ impl CodeWriter<'_> {
             Action::Text(text) => text_routine(alloc, text.as_slice(), behind),
             Action::Gap(kind) => gap_routine(alloc, *kind, behind),
             Action::GapN(term) => self.writer.gap_n_routine(term, behind),
+            Action::Test(kind, a) => self.writer.test_routine(*kind, a, behind),
+            Action::Compare(op, a, b) => self.writer.compare_routine(*op, a, b, behind),
+            Action::Arith(op, a, b, c) => self.writer.arith_routine(*op, a, b, c, behind),
+            Action::Random(a, b, c) => self.writer.random_routine(a, b, c, behind),
             Action::Equal(a, b) => self.writer.equal_routine(a, b, behind),
             _ => goto(alloc, FAIL),
         }

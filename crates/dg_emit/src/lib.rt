@@ -10,6 +10,7 @@ mod counting;
 mod laws;
 mod layout;
 mod numbers;
+mod operations;
 mod queries;
 mod rules;
 mod story;

@@ -12,7 +12,7 @@ ghost use Rattle.dg_turn.specs.Texts as spec;
 use crate::terms::Writer;
 use dg_base::{GapKind, Items, Term};
 use dg_rt::numbers::{ASK_SPACES, FIRST, SEPARATE};
-use dg_rt::registers::{ARGS, ASKED, LAST, LINES, SPACES, UPPER, WORD};
+use dg_rt::registers::{ARGS, ASKED, LAST, LINES, SPACES, UPPER};
 use std::alloc::{AllocError, Global};
 use z_lang::{Act, Args, Atom, Comparison, Print, Routine, Test};
 
@@ -154,10 +154,6 @@ impl Writer<'_> {
         ensures { IfOk result (λ r. r ≡ spec.gap_n_routine self.now.program.now term.now behind) }
     {
         let spaces = Args::Two(Atom::Var(ARGS), Atom::Routine(behind));
-        let mut body = Items::new(self.alloc);
-        self.put_terms(&mut body, ARGS, &[term])?;
-        body.push(Act::Call(Some(WORD), Atom::Routine(ASK_SPACES), spaces))?;
-        body.push(Act::Return(Atom::Var(WORD)))?;
-        Ok(Routine { locals: 0, body })
+        self.deciding_routine(&[term], ASK_SPACES, spaces)
     }
 }
