@@ -12,7 +12,7 @@ use Rattle.dg_open.specs.inside.Views.{sign_view}
 use Rattle.dg_reader.specs.Heads.{is_unsigned, is_empty_body, declared_query, declares_query, keeps_declaration_rules}
 use Rattle.dg_open.specs.declared.frames.Sign.{Sign}
 use Rattle.dg_open.specs.declared.frames.Sign.TheVariants as sign
-use Rattle.dg_reader.specs.contracts.frames.Sign.{the_type}
+use Rattle.dg_open.specs.contracts.frames.Sign.{the_type}
 use Rattle.dg_reader.proofs.Views.{head_seen}
 
 plain_unsigned : (s : Sign) (plain : Bool) → plain ≡ sameb the_type s sign.Plain → plain ≡ true → true ≡ is_unsigned (sign_view s)
