@@ -2,6 +2,8 @@
 use Rattle.std.proofs.Common.{◌≡◌, ◌≢◌, ℕ, zero, suc, ◌+◌, ◌-◌, ◌≤◌, List, [], ◌∷◌, ◌++◌, length, Option, Some, None, refl, sym, ap, ◌∙◌, subst, arith}
 use Rattle.std.specs.Prelude.{true}
 use Rattle.std.specs.List.{slice_get}
+use Rattle.dg_base.specs.declared.program.Term.{Term}
+use Rattle.dg_meaning.specs.Cells.{nodes_of}
 use Rattle.dg_mid.specs.declared.code.Action.TheVariants as action
 use Rattle.dg_mid.specs.declared.code.Block.{Block}
 use Rattle.dg_mid.specs.declared.code.Code.{Code}
@@ -18,7 +20,9 @@ use Rattle.dg_turn.specs.Told.{Telling, RulesAt, rule_acts}
 use Rattle.dg_turn.specs.Plays.{Playing}
 use Rattle.dg_turn.specs.Choices.{branch_routine, try_routine, once_routine}
 use Rattle.dg_turn.specs.Leaving.{just_routine}
+use Rattle.dg_turn.specs.Operating.{test_routine, compare_routine, arith_routine, random_routine}
 use Rattle.dg_turn.specs.Stopping.{shield_routine, leave_routine}
+use Rattle.dg_turn.specs.Terms.{AreNodes}
 use Rattle.dg_turn.specs.Texts.{text_routine, gap_routine, gap_n_routine}
 use Rattle.dg_turn.specs.Turns.{enter_routine, equal_routine, goto_routine, commit_routine}
 use Rattle.dg_emit.specs.declared.numbers.Numbers.{Numbers}
@@ -26,7 +30,7 @@ use Rattle.dg_emit.specs.Numbers.{first_of, first_rule, rules_count, blocks_size
 use Rattle.dg_emit.specs.Bodies.{bodies_routines}
 use Rattle.dg_emit.specs.Code.{are_built, parameters_of, ops_routines, blocks_routines, rules_routines, preds_routines, code_routines, OpsFit, BlocksFit, RulesFit, PredsFit, CodeFits}
 use Rattle.dg_emit.proofs.Names.{name_chars}
-use Rattle.dg_chain.specs.Routines.{GoesOn, Opens, RulesFrom, FindsAll, OpsAt}
+use Rattle.dg_chain.specs.Routines.{GoesOn, Opens, Writes, RulesFrom, FindsAll, OpsAt}
 use Rattle.dg_laid.specs.Laid.{CodeIsLaid, OpsCall, BlockSuits, BodiesAreFew, BlocksStand}
 use Rattle.dg_laid.proofs.Lying.{preds_length, blocks_length, LieAt, lie_at, lie_front, lie_behind, RulesLie, rules_lie, OpsLie, ops_lie, no_pred, no_block}
 use Rattle.dg_laid.proofs.Finding.{bodies_found}
@@ -120,6 +124,10 @@ module _ (t : Telling) (plays : Playing t) (first : ℕ) (code : Code) (laid : C
       Opens (λ y. OpsAt t code y ops) t (at n) routine alt
   opens routine alt n ops is next = record { alt = block_number numbers alt; alt_is = to_block alt; goes = goes (routine (block_number numbers alt)) n ops is next }
 
+  writes : (ts : List Term) (routine : ℕ → Routine) (n : ℕ) (ops : List Op) → t.p.routine_at (at n) ≡ Some (routine (first_of (n + 1) ops)) → OpsAt t code (at (first_of (n + 1) ops)) ops →
+      AreNodes t.program (nodes_of ts) → Writes (λ y. OpsAt t code y ops) t (at n) ts routine
+  writes ts routine n ops is next nodes = record { goes = goes routine n ops is next; nodes = nodes }
+
   ops_stand : (n : ℕ) (ops : List Op) → LieAt t.p n (ops_routines t.program numbers n ops) → are_built ops ≡ true → OpsCall code ops → OpsFit t.program ops →
       OpsAt t code (at (first_of n ops)) ops
   ops_stand n [] lie built calls fit = tt
@@ -133,6 +141,10 @@ module _ (t : Telling) (plays : Playing t) (first : ℕ) (code : Code) (laid : C
   ops_stand n (op.Do (action.Gap kind) ∷ ops) lie built calls fit = goes (gap_routine kind) n ops lie.0 (ops_stand (n + 1) ops lie.1 built calls.1 fit.1)
   ops_stand n (op.Do (action.GapN a) ∷ ops) lie built calls fit = record { goes = goes (gap_n_routine t.program a) n ops lie.0 (ops_stand (n + 1) ops lie.1 built calls.1 fit.1); nodes = fit.0.1 }
   ops_stand n (op.Do (action.Equal a b) ∷ ops) lie built calls fit = record { goes = goes (equal_routine t.program a b) n ops lie.0 (ops_stand (n + 1) ops lie.1 built calls.1 fit.1); nodes = fit.0.1 }
+  ops_stand n (op.Do (action.Test kind a) ∷ ops) lie built calls fit = writes (a ∷ []) (test_routine t.program kind a) n ops lie.0 (ops_stand (n + 1) ops lie.1 built calls.1 fit.1) fit.0.1
+  ops_stand n (op.Do (action.Compare f a b) ∷ ops) lie built calls fit = writes (a ∷ b ∷ []) (compare_routine t.program f a b) n ops lie.0 (ops_stand (n + 1) ops lie.1 built calls.1 fit.1) fit.0.1
+  ops_stand n (op.Do (action.Arith f a b c) ∷ ops) lie built calls fit = writes (a ∷ b ∷ c ∷ []) (arith_routine t.program f a b c) n ops lie.0 (ops_stand (n + 1) ops lie.1 built calls.1 fit.1) fit.0.1
+  ops_stand n (op.Do (action.Random a b c) ∷ ops) lie built calls fit = writes (a ∷ b ∷ c ∷ []) (random_routine t.program a b c) n ops lie.0 (ops_stand (n + 1) ops lie.1 built calls.1 fit.1) fit.0.1
   ops_stand n (op.Do a ∷ ops) lie built calls fit = absurd (cc)
   ops_stand n (op.Ask pred terms many next ∷ ops) lie built calls fit = record {
     behind = block_number numbers next;
