@@ -4,8 +4,13 @@ use Rattle.std.specs.Str.{chars}
 use Rattle.std.proofs.Common.{◌≡◌, ℕ, zero, suc, ◌+◌, ◌*◌, ◌/◌, ◌<◌, ◌≤◌, inl, inr, ◌⊎◌, List, [], ◌∷◌, ◌++◌, length, drop, Option, Some, None, Bool, true, false, refl, arith, length-drop}
 use Rattle.std.specs.List.{slice_get}
 use Rattle.std.proofs.lemmas.List.{length-take-le}
+use Rattle.dg_base.specs.declared.program.ArithOp.{ArithOp}
+use Rattle.dg_base.specs.declared.program.ArithOp.TheVariants as arith_op
+use Rattle.dg_base.specs.declared.program.CompareOp.TheVariants as compare
 use Rattle.dg_base.specs.declared.program.CoreProgram.{CoreProgram}
 use Rattle.dg_base.specs.declared.program.Term.{Term}
+use Rattle.dg_base.specs.declared.program.TestKind.{TestKind}
+use Rattle.dg_base.specs.declared.program.TestKind.TheVariants as test
 use Rattle.dg_base.specs.declared.program.GapKind.TheVariants as kinds
 use Rattle.dg_base.specs.Goals.{option_terms}
 use Rattle.dg_base.specs.Sound.{IsName}
@@ -24,18 +29,21 @@ use Rattle.z_code.specs.declared.target.LOp.{LOp}
 use Rattle.z_code.specs.Open.{Counts}
 use Rattle.z_lang.specs.declared.act.Act.{Act}
 use Rattle.z_lang.specs.declared.act.Act.TheVariants as acts
+use Rattle.z_lang.specs.declared.act.Args.{Args}
 use Rattle.z_lang.specs.declared.act.Args.TheVariants as args
 use Rattle.z_lang.specs.declared.act.Atom.{Atom}
 use Rattle.z_lang.specs.declared.act.Atom.TheVariants as atoms
 use Rattle.z_lang.specs.declared.act.Routine.{Routine}
-use Rattle.z_lang.specs.Bodies.{FitsAtom, AreFit}
+use Rattle.z_lang.specs.Bodies.{FitsAtom, AreFit, FitArgs}
 use Rattle.z_lang.specs.Code.{ops_of_acts}
 use Rattle.z_lang.specs.Sizes.{body_bytes}
 use Rattle.dg_rt.specs.Fits.{IsFit, AllFit}
 use Rattle.dg_rt.specs.Gaps.{last_word}
+use Rattle.dg_rt.specs.Conditions.{test_number}
+use Rattle.dg_rt.specs.Arithmetic.{arith_number}
 use Rattle.dg_rt.specs.Rules.{key_word}
 use Rattle.dg_rt.specs.RunTime.{runtime, routine_of}
-use Rattle.dg_rt.specs.declared.numbers.TheConstants.{TAIL_CALL, FAIL, DONE, ASK_SPACES}
+use Rattle.dg_rt.specs.declared.numbers.TheConstants.{TAIL_CALL, FAIL, DONE, ASK_SPACES, IF_LESS, THROW}
 use Rattle.dg_rt.specs.declared.registers.TheConstants.{ARGS, BACK, CLASH, LAST, WORD}
 use Rattle.dg_rt.proofs.Straight.{AreStraight, straight_append, straight_fits}
 use Rattle.dg_turn.specs.Told.{found_acts, rule_acts, KeyFits}
@@ -44,6 +52,7 @@ use Rattle.dg_turn.specs.Terms.{terms_acts}
 use Rattle.dg_turn.specs.Turns.{HEAD, match_acts, last_acts, enter_routine, goto_routine}
 use Rattle.dg_turn.specs.Queries.{some_of, ask_acts}
 use Rattle.dg_turn.specs.Bodies.{CALLED, look_acts, body_routine, fork_routine}
+use Rattle.dg_turn.specs.Operating.{deciding_routine, making_routine}
 use Rattle.dg_turn.specs.Texts.{say, text_acts, text_routine, gap_routine}
 use Rattle.dg_emit.specs.declared.numbers.Numbers.{Numbers}
 use Rattle.dg_emit.specs.Numbers.{routines_of_op, routines_of_ops, blocks_size, rules_count, first_of, first_rule, block_number, pred_number}
@@ -138,6 +147,27 @@ module _ (c : Counts) (many : 1 + length runtime ≤ c.routines) where
             (straight_append c matches (last_acts behind) (matches_straight ARGS HEAD (length head) (omega arith) (omega arith)) (last_straight behind lt)),
       )
 
+  test_below : (kind : TestKind) → test_number kind < c.routines
+  test_below test.Number = omega arith
+  test_below test.Word = omega arith
+  test_below test.UnknownWord = omega arith
+  test_below kind = omega arith
+
+  arith_below : (f : ArithOp) → arith_number f < c.routines
+  arith_below arith_op.Plus = omega arith
+  arith_below f = omega arith
+
+  compare_fits : (p : CoreProgram) (a b : Term) (given : Args) → TermsFit p (a ∷ b ∷ []) → FitArgs c given → IsFit c (deciding_routine p (a ∷ b ∷ []) IF_LESS given)
+  compare_fits p a b given fits are =
+      written_fits p ARGS (a ∷ b ∷ []) (acts.Call (Some WORD) (atoms.Routine IF_LESS) given ∷ acts.Return (atoms.Var WORD) ∷ []) (omega arith) fits
+      ((omega arith, omega arith, are), (omega arith, tt))
+
+  making_fits : (p : CoreProgram) (maker : ℕ) (a b d : Term) (behind : ℕ) → maker < c.routines → behind < c.routines → TermsFit p (a ∷ b ∷ d ∷ []) → IsFit c (making_routine p maker a b d behind)
+  making_fits p maker a b d behind mk lt fits =
+      written_fits p ARGS (a ∷ b ∷ d ∷ [])
+      (acts.Call (Some WORD) (atoms.Routine maker) (args.Two (atoms.Var ARGS) (atoms.Var (ARGS + 1))) ∷ (match_acts (ARGS + 2) WORD 1 ++ last_acts behind)) (omega arith) fits
+      ((omega arith, mk, (omega arith, omega arith)), ((tt, omega arith, (omega arith, omega arith)), last_straight behind lt))
+
   says_straight : (cs : List ℕ) → AreSmall cs → AreStraight c (map say cs)
   says_straight [] small = tt
   says_straight (x ∷ cs) small = (small.0, says_straight cs small.1)
@@ -180,6 +210,17 @@ module _ (c : Counts) (many : 1 + length runtime ≤ c.routines) where
     tt,
   )
   op_fit p numbers behind (op.Do action.Quit) below lt fits few = (goto_fits DONE (omega arith), tt)
+  op_fit p numbers behind (op.Do (action.Test kind a)) below lt fits few = (
+    written_fits p ARGS (a ∷ []) (acts.Call (Some WORD) (atoms.Routine (test_number kind)) (args.Two (atoms.Var ARGS) (atoms.Routine behind)) ∷ acts.Return (atoms.Var WORD) ∷ []) (omega arith) fits
+        ((omega arith, test_below kind, (omega arith, lt)), (omega arith, tt)),
+    tt,
+  )
+  op_fit p numbers behind (op.Do (action.Compare compare.Less a b)) below lt fits few =
+      (compare_fits p a b (args.Three (atoms.Var ARGS) (atoms.Var (ARGS + 1)) (atoms.Routine behind)) fits (omega arith, omega arith, lt), tt)
+  op_fit p numbers behind (op.Do (action.Compare compare.Greater a b)) below lt fits few =
+      (compare_fits p a b (args.Three (atoms.Var (ARGS + 1)) (atoms.Var ARGS) (atoms.Routine behind)) fits (omega arith, omega arith, lt), tt)
+  op_fit p numbers behind (op.Do (action.Arith f a b d)) below lt fits few = (making_fits p (arith_number f) a b d behind (arith_below f) lt fits, tt)
+  op_fit p numbers behind (op.Do (action.Random a b d)) below lt fits few = (making_fits p THROW a b d behind (omega arith) lt fits, tt)
   op_fit p numbers behind (op.Do (action.Equal a b)) below lt fits few = (
     written_fits p ARGS (a ∷ b ∷ []) (acts.Copy CLASH (atoms.Num 0) ∷ (match_acts ARGS (ARGS + 1) 1 ++ last_acts behind)) (omega arith) fits
         ((omega arith, omega arith), ((tt, omega arith, (omega arith, omega arith)), last_straight behind lt)),

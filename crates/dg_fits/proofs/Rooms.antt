@@ -4,6 +4,8 @@ use Rattle.std.specs.Str.{chars}
 use Rattle.std.proofs.Common.{◌≡◌, ℕ, zero, suc, ◌+◌, ◌*◌, ◌/◌, ◌≤◌, List, [], ◌∷◌, ◌++◌, length, drop, Option, Some, None, Bool, refl, arith, length-drop}
 use Rattle.std.specs.List.{slice_get}
 use Rattle.std.proofs.lemmas.List.{length-take-le}
+use Rattle.dg_base.specs.declared.program.CompareOp.{CompareOp}
+use Rattle.dg_base.specs.declared.program.CompareOp.TheVariants as compare
 use Rattle.dg_base.specs.declared.program.CoreProgram.{CoreProgram}
 use Rattle.dg_base.specs.declared.program.Term.{Term}
 use Rattle.dg_base.specs.declared.program.GapKind.TheVariants as kinds
@@ -27,8 +29,10 @@ use Rattle.z_lang.specs.declared.act.Act.TheVariants as acts
 use Rattle.z_lang.specs.declared.act.Args.TheVariants as args
 use Rattle.z_lang.specs.declared.act.Atom.TheVariants as atoms
 use Rattle.z_lang.specs.declared.act.Routine.{Routine}
-use Rattle.z_lang.specs.Sizes.{body_bytes}
+use Rattle.z_lang.specs.Sizes.{args_bytes, body_bytes}
 use Rattle.dg_rt.specs.Gaps.{last_word}
+use Rattle.dg_rt.specs.Conditions.{test_number}
+use Rattle.dg_rt.specs.Arithmetic.{arith_number}
 use Rattle.dg_rt.specs.Rules.{key_word}
 use Rattle.dg_turn.specs.Told.{rule_acts}
 use Rattle.dg_turn.specs.Lies.{bit_of}
@@ -36,9 +40,10 @@ use Rattle.dg_turn.specs.Terms.{capped, terms_acts}
 use Rattle.dg_turn.specs.Turns.{HEAD, match_acts, last_acts, enter_routine}
 use Rattle.dg_turn.specs.Queries.{some_of, ask_acts}
 use Rattle.dg_turn.specs.Bodies.{CALLED, look_acts, body_routine, fork_routine}
-use Rattle.dg_rt.specs.declared.numbers.TheConstants.{TAIL_CALL, ASK_SPACES}
+use Rattle.dg_rt.specs.declared.numbers.TheConstants.{TAIL_CALL, ASK_SPACES, IF_LESS, THROW}
 use Rattle.dg_rt.specs.declared.registers.TheConstants.{ARGS, BACK, CLASH, LAST, WORD}
 use Rattle.dg_rt.specs.RunTime.{routine_of}
+use Rattle.dg_turn.specs.Operating.{compared_args, making_routine}
 use Rattle.dg_turn.specs.Texts.{say, text_acts, text_routine}
 use Rattle.dg_emit.specs.declared.numbers.Numbers.{Numbers}
 use Rattle.dg_emit.specs.Numbers.{routines_of_op, routines_of_ops, blocks_size, bodies_size, rules_count, first_of, first_rule, behind_blocks, number_behind, numbers_from, block_number, pred_number}
@@ -70,6 +75,10 @@ asks_few behind many ts rules = omega (arith, num_bytes (nat_lt (bit_of many) 25
 
 looks_few : (b : Option Term) (many : Bool) (find : ℕ) → body_bytes (look_acts b many find) ≤ 25
 looks_few b many find = omega (arith, num_bytes (nat_lt (bit_of many) 256), num_bytes (nat_lt (length (option_terms b)) 256))
+
+compared_few : (f : CompareOp) (behind : ℕ) → args_bytes (compared_args f behind) ≤ 4
+compared_few compare.Less behind = omega arith
+compared_few compare.Greater behind = omega arith
 
 says_few : (cs : List ℕ) → body_bytes (map say cs) ≤ 5 * length cs
 says_few [] = omega arith
@@ -189,8 +198,22 @@ module _ (p : CoreProgram) (captured : (c : ℕ) → captured_count (slice_get p
         num_bytes (nat_lt (last_word (last_of None (chars text))) 256),
       )
 
+  making_room : (maker : ℕ) (a b c : Term) (behind : ℕ) → room (making_routine p maker a b c behind) ≤ 36 + terms_weight bytes (a ∷ b ∷ c ∷ [])
+  making_room maker a b c behind =
+      let rest =
+      acts.Call (Some WORD) (atoms.Routine maker) (args.Two (atoms.Var ARGS) (atoms.Var (ARGS + 1))) ∷ (match_acts (ARGS + 2) WORD 1 ++ last_acts behind) in
+      omega (arith, written_room ARGS (a ∷ b ∷ c ∷ []) rest 22 (omega arith))
+
   -- an instruction takes no more room than it weighs
   op_room : (numbers : Numbers) (behind : ℕ) (x : Op) → OpFits p x → rooms (op_routines p numbers behind x) ≤ op_weight bytes x
+  op_room numbers behind (op.Do (action.Test kind a)) fits =
+      let rest = acts.Call (Some WORD) (atoms.Routine (test_number kind)) (args.Two (atoms.Var ARGS) (atoms.Routine behind)) ∷ acts.Return (atoms.Var WORD) ∷ [] in
+      omega (arith, written_room ARGS (a ∷ []) rest 10 (omega arith))
+  op_room numbers behind (op.Do (action.Compare f a b)) fits =
+      let rest = acts.Call (Some WORD) (atoms.Routine IF_LESS) (compared_args f behind) ∷ acts.Return (atoms.Var WORD) ∷ [] in
+      omega (arith, written_room ARGS (a ∷ b ∷ []) rest 11 (omega (arith, compared_few f behind)))
+  op_room numbers behind (op.Do (action.Arith f a b c)) fits = omega (arith, making_room (arith_number f) a b c behind)
+  op_room numbers behind (op.Do (action.Random a b c)) fits = omega (arith, making_room THROW a b c behind)
   op_room numbers behind (op.Do (action.Equal a b)) fits =
       omega (
         arith,

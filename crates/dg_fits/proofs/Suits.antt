@@ -130,6 +130,10 @@ terms_fit p ts e =
 op_fits : (p : CoreProgram) (x : Op) → OpPasses (tests p) x → OpFits p x
 op_fits p (op.Do (action.Text text)) e = name_is text e
 op_fits p (op.Do (action.GapN a)) e = terms_fit p (a ∷ []) e
+op_fits p (op.Do (action.Test kind a)) e = terms_fit p (a ∷ []) e
+op_fits p (op.Do (action.Compare f a b)) e = terms_fit p (a ∷ b ∷ []) e
+op_fits p (op.Do (action.Arith f a b c)) e = terms_fit p (a ∷ b ∷ c ∷ []) e
+op_fits p (op.Do (action.Random a b c)) e = terms_fit p (a ∷ b ∷ c ∷ []) e
 op_fits p (op.Do (action.Equal a b)) e = terms_fit p (a ∷ b ∷ []) e
 op_fits p (op.Ask pred terms many next) e = terms_fit p terms e
 op_fits p (op.LastAsk pred terms many) e = terms_fit p terms e
