@@ -11,7 +11,7 @@ use Rattle.dg_base.specs.Terms.{nodes}
 use Rattle.dg_base.specs.Goals.{goals_within, all_goals_of}
 use Rattle.dg_base.proofs.NodeLemmas.{inside, within_out}
 use Rattle.dg_story.specs.declared.counting.Left.{Left}
-use Rattle.dg_story.specs.Sizes.{lists_held, goals_size, body_size}
+use Rattle.dg_fits.specs.Sizes.{lists_held, goals_size, body_size}
 use Rattle.dg_story.specs.inside.Counting.{left_size, lists_size, whole_size}
 
 pub left_append : (xs ys : List Left) → left_size (xs ++ ys) ≡ left_size xs + left_size ys
@@ -61,7 +61,7 @@ body_append (g ∷ gs) hs =
 body_one : (x : Goal) → body_size (x ∷ []) ≡ whole_size (out-Goal x)
 body_one x = let a = goals_append (goals_within x) [] in omega (arith, a, whole_is x)
 
-split_last : (gs : List Goal) (x : Goal) → 1 ≤ length gs → x ≡ get_or gs (length gs - 1) x → gs ≡ take (length gs - 1) gs ++ x ∷ []
+pub split_last : (gs : List Goal) (x : Goal) → 1 ≤ length gs → x ≡ get_or gs (length gs - 1) x → gs ≡ take (length gs - 1) gs ++ x ∷ []
 split_last gs x some is =
     let k = length gs - 1 in
     let e : k + 1 ≡ length gs = omega arith in

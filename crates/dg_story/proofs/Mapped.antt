@@ -1,32 +1,60 @@
--- Where the heap's tables, the base and the routines of a built story are.
-use Rattle.std.proofs.Common.{◌≡◌, ℕ, zero, suc, ◌+◌, ◌<◌, List, Bool, Some, refl, arith}
-use Rattle.std.specs.Prelude.{slice_get}
+-- Where what may be written ends in a built story, and where its routines are.
+use Rattle.std.proofs.Common.{◌≡◌, ℕ, ◌+◌, ◌<◌, List, [], ◌∷◌, ◌++◌, length, map, replicate, Bool, true, Some, inl, ⊎_elim, ap, ◌∙◌, subst, arith, length-append}
+use Rattle.std.specs.List.{slice_get}
+use Rattle.std.proofs.lemmas.Bool.{cases_lt}
+use Rattle.std.proofs.lemmas.List.{length-replicate}
+use Rattle.dg_base.specs.declared.program.CoreProgram.{CoreProgram}
 use Rattle.dg_mid.specs.declared.code.Code.{Code}
 use Rattle.z_lang.specs.State.{Program}
 use Rattle.z_lang.specs.declared.act.Routine.{Routine}
-use Rattle.z_story.specs.Does.{program}
-use Rattle.dg_story.specs.Routines.{all_routines}
-use Rattle.dg_story.specs.Built.{story_parts, IsStoryOf}
-use Rattle.dg_story.specs.inside.Cells.{at_cell, heap_at, IsMapped}
+use Rattle.z_asm.specs.declared.image.Image.{Image}
+use Rattle.z_asm.specs.Layout.{code_size, table_bytes}
+use Rattle.z_asm.specs.Story.{routines_from, image_end, IsTooLarge}
+use Rattle.z_asm.proofs.Layouts.{packed_below}
+use Rattle.z_story.specs.Parts.{image_of}
+use Rattle.z_story.specs.Does as does
+use Rattle.dg_rt.specs.RunTime.{runtime, HasRunTime}
+use Rattle.dg_emit.specs.Code.{code_routines}
+use Rattle.dg_emit.specs.Story.{first_number, story_routines}
+use Rattle.dg_story.specs.Built.{story_tables, story_parts, IsStoryOf}
+use Rattle.dg_story.proofs.Numbered.{runtime_has, code_has}
 
-module _ (code : Code) (keeps : Bool) (story : List ℕ) (is : IsStoryOf code keeps story) (dice : List ℕ) where
+-- so many zeros
+abbrev pub zeros : ℕ → List ℕ
+zeros n = replicate n 0
+
+pub long : (n : ℕ) → length (zeros n ++ []) ≡ n
+long n = omega (arith, length-append (zeros n) [], length-replicate {A = ℕ} n 0)
+
+module _ (program : CoreProgram) (code : Code) (keeps : Bool) (story : List ℕ) (is : IsStoryOf (story_parts program code keeps) story) (dice : List ℕ) where
   abbrev pub p : Program
-  p = program (story_parts code keeps) story dice
+  p = does.program (story_parts program code keeps) story dice
 
-  heap_is : (f : ℕ) → f < 4 → p.names.table f ≡ at_cell (heap_at + f)
-  heap_is zero lt = refl
-  heap_is (suc zero) lt = refl
-  heap_is (suc (suc zero)) lt = refl
-  heap_is (suc (suc (suc zero))) lt = refl
-  heap_is (suc (suc (suc (suc f)))) lt = absurd (omega arith)
+  abbrev image : Image
+  image = image_of (story_parts program code keeps)
 
-  -- The heap and the base are where they are thought.
-  pub mapped : IsMapped p
-  mapped = record { heap = heap_is; base = is.assembled.header.base }
-
-  -- Each routine stands at the address of its number.
-  pub routine_is : (k : ℕ) (r : Routine) → slice_get (all_routines code keeps) k ≡ Some r → p.routine_at (p.names.routine k) ≡ Some r
-  routine_is k r e = is.does.named dice k r e
+  pub base_is : p.world.layout.base ≡ 28694
+  base_is =
+      let written : length (table_bytes true (story_tables program.closures)) ≡ 28024 = long 28024 in
+      is.assembled.header.base ∙ ap (λ (n : ℕ). 670 + n) written
 
   pub globals_are : p.world.layout.globals ≡ 64
   globals_are = is.assembled.header.globals_is
+
+  -- Each routine stands at the address of its number.
+  pub routine_is : (k : ℕ) (r : Routine) → slice_get (story_routines program code keeps) k ≡ Some r → p.routine_at (p.names.routine k) ≡ Some r
+  routine_is k r e = is.does.named dice k r e
+
+  pub has : HasRunTime p
+  has = record {
+    mapped = record { room = let b = base_is in omega arith };
+    each = λ k r e. routine_is (1 + k) r (runtime_has program code keeps k r e);
+  }
+
+  pub code_is : (k : ℕ) (r : Routine) → slice_get (code_routines program first_number code) k ≡ Some r → p.routine_at (p.names.routine (first_number + k)) ≡ Some r
+  code_is k r e = routine_is (first_number + k) r (code_has program code keeps k r e)
+
+  -- Addresses of routines are words.
+  pub words_are : (IsTooLarge image → ⊥) → (k : ℕ) → p.names.routine k < 65536
+  words_are small k =
+      packed_below (routines_from image) (map code_size image.routines) k (⊎_elim (λ lt. absurd (small (inl lt))) (λ le. le) (cases_lt 524280 (image_end image)))

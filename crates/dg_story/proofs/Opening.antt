@@ -1,6 +1,7 @@
--- The beginning of a story's run: its first two instructions come to the trampoline.
-use Rattle.std.proofs.Common.{◌≡◌, ℕ, ◌+◌, ◌*◌, ◌≤◌, List, [], take, drop, Bool, true, Some, refl, sym, ap, ◌∙◌, subst, arith}
-use Rattle.std.proofs.Math.Seq.{take-length}
+-- The beginning of a story's run: its first three instructions set two registers and come to where one routine after another is called.
+use Rattle.std.proofs.Common.{◌≡◌, ℕ, ◌+◌, ◌*◌, ◌<◌, ◌≤◌, List, [], drop, Bool, true, Some, refl, sym, ap, ◌∙◌, subst, arith}
+use Rattle.dg_base.specs.declared.program.CoreProgram.{CoreProgram}
+use Rattle.dg_mid.specs.declared.code.Code.{Code}
 use Rattle.z_model.specs.Run.{ZState, zstep}
 use Rattle.z_model.specs.Story.{start_state, memory_of}
 use Rattle.z_code.specs.Targets.{OpsAt, label_from}
@@ -15,44 +16,42 @@ use Rattle.z_lang.specs.Standing.{IsKept, Context, HasRoom, Follows, state_at}
 use Rattle.z_lang.proofs.Stretches.{leads_step}
 use Rattle.z_lang.proofs.Follows.{end_at, on}
 use Rattle.z_lang.proofs.Start.{opening, start_of_play, from_opening, begins}
-use Rattle.z_lang.proofs.Trampoline.{trampoline}
 use Rattle.z_asm.specs.Story.{code_start, first_ops, call_first}
 use Rattle.z_story.specs.Parts.{image_of}
-use Rattle.dg_mid.specs.declared.code.Code.{Code}
-use Rattle.dg_story.specs.declared.support.TheConstants.{TRAMPOLINE}
-use Rattle.dg_story.specs.Numbers.{numbers_of, block_number}
-use Rattle.dg_story.specs.Routines.{routine, start_acts}
+use Rattle.dg_rt.specs.Cells.{with_cell, replaced, Holds}
+use Rattle.dg_rt.specs.Areas.{state}
+use Rattle.dg_rt.specs.RunTime.{routine_of}
+use Rattle.dg_rt.proofs.Following.{copies, puts}
+use Rattle.dg_turn.specs.Plays.{turn_acts}
+use Rattle.dg_emit.specs.Numbers.{numbers_from, block_number}
+use Rattle.dg_emit.specs.Story.{start_acts, first_number}
 use Rattle.dg_story.specs.Built.{story_parts, IsStoryOf}
-use Rattle.dg_story.specs.inside.Cells.{with_cell, state}
-use Rattle.dg_story.proofs.Rules.{put_register, copies}
-use Rattle.dg_story.proofs.Mapped.{p, routine_is, globals_are}
+use Rattle.dg_story.proofs.Mapped.{p, routine_is, base_is}
+use Rattle.dg_story.proofs.Zeros.{memory_is, starts_holding}
 
-module _ (code : Code) (keeps : Bool) (story : List ℕ) (is : IsStoryOf code keeps story) (dice typed : List ℕ) where
+module _ (program : CoreProgram) (code : Code) (keeps : Bool) (story : List ℕ) (is : IsStoryOf (story_parts program code keeps) story) (dice typed : List ℕ) where
   abbrev q : Program
-  q = p code keeps story is dice
+  q = p program code keeps story is dice
 
   abbrev image_first : ℕ
-  image_first = code_start (image_of (story_parts code keeps))
+  image_first = code_start (image_of (story_parts program code keeps))
 
-  -- the packed address of the routine that asks the entry
-  abbrev pub asks_entry : ℕ
-  asks_entry = q.names.routine (block_number (numbers_of code) 1)
+  -- the routine that asks the entry
+  abbrev pub entry : ℕ
+  entry = block_number (numbers_from first_number code) 1
 
   abbrev pub first : Routine
-  first = routine 0 (start_acts keeps (block_number (numbers_of code) 1))
+  first = routine_of 0 (start_acts keeps entry)
 
   -- where it is called from
   abbrev pub c : Context
   c = from_opening (end_at image_first call_first)
 
   first_there : q.routine_at (q.names.routine 0) ≡ Some first
-  first_there = routine_is code keeps story is dice 0 first refl
-
-  memory_is : memory_of story ≡ story
-  memory_is = ap (λ (n : ℕ). take n story) is.assembled.header.length ∙ take-length story
+  first_there = routine_is program code keeps story is dice 0 first refl
 
   pub starts_kept : IsKept q.world.layout.base story (memory_of story)
-  starts_kept = ap (λ (l : List ℕ). drop q.world.layout.base l) memory_is
+  starts_kept = ap (λ (l : List ℕ). drop q.world.layout.base l) (memory_is program code keeps story is dice)
 
   abbrev pub at_first : ZState
   at_first = state_at (state (memory_of story) [] typed 0 []) c (8 * q.names.routine 0 + 1)
@@ -64,46 +63,84 @@ module _ (code : Code) (keeps : Bool) (story : List ℕ) (is : IsStoryOf code ke
       (begins q story (is.does.stands dice) (label_from image_first first_ops) (memory_of story) typed image_first 0 first is.assembled.first.0 starts_kept (omega arith) first_there)
 
   -- there is room for the routines that are called
-  pub room : (m t o : List ℕ) (d : ℕ) → HasRoom c (state m [] t d o) 8 100
+  pub room : (m t o : List ℕ) (d : ℕ) → HasRoom c (state m [] t d o) 3600 20000
   room m t o d = record { frames = omega arith; words = omega arith }
 
   abbrev pub labels : ℕ → ℕ
   labels = label_from (8 * q.names.routine 0 + 1) (code_of first.body)
 
   -- The first routine does what its acts mean.
-  pub first_follows : (n : ℕ) (o : ActsOutcome) (s' : State) → ActsRun q 8 100 first.body first.body (state (memory_of story) [] typed 0 []) o s' n → Follows q story labels c o s' n at_first
-  first_follows n o s' runs = (is.does.does dice 0 first refl).comes c 8 100 n (state (memory_of story) [] typed 0 []) s' o starts_kept (room (memory_of story) typed [] 0) runs
+  pub first_follows : (f w n : ℕ) → f ≤ 3600 → w ≤ 20000 → (o : ActsOutcome) (s' : State) → ActsRun q f w first.body first.body (state (memory_of story) [] typed 0 []) o s' n → Follows q story labels c o s' n at_first
+  first_follows f w n lt le o s' runs =
+      let few : HasRoom c (state (memory_of story) [] typed 0 []) f w = record { frames = omega arith; words = omega arith } in
+      (is.does.does dice 0 first refl).comes c f w n (state (memory_of story) [] typed 0 []) s' o starts_kept few runs
 
-module _ (code : Code) (story : List ℕ) (is : IsStoryOf code true story) (dice typed : List ℕ) where
+-- ## Where it goes on
+
+module _ (program : CoreProgram) (code : Code) (story : List ℕ) (is : IsStoryOf (story_parts program code true) story) (dice typed : List ℕ) (words : (k : ℕ) → (p program code true story is dice).names.routine k < 65536) where
   abbrev r : Program
-  r = p code true story is dice
+  r = p program code true story is dice
 
-  abbrev asked : ℕ
-  asked = asks_entry code true story is dice typed
+  -- the address of the routine that asks the entry
+  abbrev pub asked : ℕ
+  asked = r.names.routine (entry program code true story is dice typed)
 
-  abbrev begun_first : List Act
-  begun_first = (first code true story is dice typed).body
+  abbrev marked : List ℕ
+  marked = with_cell (memory_of story) 2 32768
 
-  sets_next : ActsRun r 8 100 begun_first begun_first (state (memory_of story) [] typed 0 []) (Rests TRAMPOLINE) (state (with_cell (memory_of story) 0 asked) [] typed 0 []) 1
-  sets_next =
-      done (copies r (state (memory_of story) [] typed 0 []) (state (with_cell (memory_of story) 0 asked) [] typed 0 []) 16 (atoms.Routine (block_number (numbers_of code) 1)) asked refl
-      (put_register r (state (memory_of story) [] typed 0 []) 16 asked (globals_are code true story is dice) (omega arith) (omega arith)))
-      rests
+  -- memory behind the first instructions, and its words
+  abbrev pub begun : List ℕ
+  begun = with_cell marked 0 asked
 
-  pub follows : Follows r story (labels code true story is dice typed) (c code true story is dice typed) (Rests TRAMPOLINE) (state (with_cell (memory_of story) 0 asked) [] typed 0 []) 1 (at_first code true story is dice typed)
-  follows = first_follows code true story is dice typed 1 (Rests TRAMPOLINE) (state (with_cell (memory_of story) 0 asked) [] typed 0 []) sets_next
+  abbrev pub begun_words : ℕ → ℕ
+  begun_words = replaced (replaced (λ k. 0) 2 32768) 0 asked
 
-  -- where the trampoline stands
+  abbrev before : State
+  before = state (memory_of story) [] typed 0 []
+
+  abbrev between : State
+  between = state marked [] typed 0 []
+
+  abbrev behind : State
+  behind = state begun [] typed 0 []
+
+  abbrev acts : List Act
+  acts = (first program code true story is dice typed).body
+
+  record Begins : Type 0 where
+    sets : ActsRun r 8 100 acts acts before (Rests turn_acts) behind 2
+    holds : Holds r.world.layout begun begun_words
+
+  begins_so : Begins
+  begins_so =
+      let base = base_is program code true story is dice in
+      let mark = puts r before (λ k. 0) 18 32768 (starts_holding program code true story is dice) (omega arith) (omega arith) (omega arith) (omega arith) in
+      let next = puts r between (replaced (λ k. 0) 2 32768) 16 asked mark.holds (omega arith) (omega arith) (omega arith) (words (entry program code true story is dice typed)) in
+      record {
+        sets =
+            done (copies r before between 18 (atoms.Num 32768) 32768 refl mark.put_is)
+            (done (copies r between behind 16 (atoms.Routine (entry program code true story is dice typed)) asked refl next.put_is)
+            rests);
+        holds = next.holds;
+      }
+
+  pub holding : Holds r.world.layout begun begun_words
+  holding = begins_so.holds
+
+  pub follows : Follows r story (labels program code true story is dice typed) (c program code true story is dice typed) (Rests turn_acts) behind 2 (at_first program code true story is dice typed)
+  follows = first_follows program code true story is dice typed 8 100 2 (omega arith) (omega arith) (Rests turn_acts) behind begins_so.sets
+
+  -- where one routine after another is called
   abbrev pub pc : ℕ
   pc = follows.comes.pc
 
-  pub placed : OpsAt story r.names (labels code true story is dice typed) pc (code_of (trampoline 16))
+  pub placed : OpsAt story r.names (labels program code true story is dice typed) pc (code_of turn_acts)
   placed = follows.comes.placed
 
   pub from : r.world.layout.base ≤ pc
   from = follows.comes.from
 
-  -- The run comes to it with two instructions, and the entry is asked next.
-  pub opens : Leads r.world 2 (start_state story typed) (state_at (state (with_cell (memory_of story) 0 asked) [] typed 0 []) (c code true story is dice typed) pc)
+  -- The run comes to it with three instructions, and the entry is asked next.
+  pub opens : Leads r.world 3 (start_state story typed) (state_at behind (c program code true story is dice typed) pc)
   opens =
-      leads_step r.world 1 (start_state story typed) (at_first code true story is dice typed) (state_at (state (with_cell (memory_of story) 0 asked) [] typed 0 []) (c code true story is dice typed) pc) (first_step code true story is dice typed) follows.comes.leads
+      leads_step r.world 2 (start_state story typed) (at_first program code true story is dice typed) (state_at behind (c program code true story is dice typed) pc) (first_step program code true story is dice typed) follows.comes.leads

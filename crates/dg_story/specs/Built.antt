@@ -1,5 +1,6 @@
--- What is built of a program: the story of its code.
-use Rattle.std.specs.Prelude.{◌≡◌, ℕ, ◌<◌, ◌+◌, ◌⊎◌, List, [], ◌∷◌, length, replicate, nat_le, Bool, true}
+-- What is built of a program: the story of its code. Hold it against dg_rt/specs/Areas.antt, which says where what lies in memory.
+use Rattle.std.specs.Prelude.{◌≡◌, ℕ, ◌<◌, ◌+◌, ◌-◌, ◌⊎◌, List, [], ◌∷◌, length, map, replicate, nat_le, Bool, true, false}
+use Rattle.dg_base.specs.declared.program.ClosureBody.{ClosureBody}
 use Rattle.dg_base.specs.declared.program.CoreProgram.{CoreProgram}
 use Rattle.dg_base.specs.declared.program.Pred.{Pred}
 use Rattle.dg_meaning.specs.Facts.{kinds_of, kept_size, start_facts}
@@ -12,35 +13,48 @@ use Rattle.z_asm.specs.Story as image
 use Rattle.z_story.specs.declared.building.Parts.{Parts}
 use Rattle.z_story.specs.Parts.{image_of}
 use Rattle.z_story.specs.Does.{StoryDoes}
+use Rattle.dg_rt.specs.Cells.{at_cell}
+use Rattle.dg_turn.specs.Rest.{aux_end}
+use Rattle.dg_emit.specs.Numbers.{number_behind}
+use Rattle.dg_emit.specs.Story.{first_number}
+use Rattle.dg_fits.specs.Laws.{parts_with}
 use Rattle.dg_story.specs.declared.building.Built.{Built}
-use Rattle.dg_story.specs.Numbers.{routine_count}
-use Rattle.dg_story.specs.Routines.{all_routines}
+use Rattle.dg_story.specs.declared.refusal.BuildFault.{BuildFault}
+use Rattle.dg_story.specs.declared.refusal.BuildFault.TheVariants.{Refused}
+use Rattle.dg_story.specs.declared.refusal.BuildRefusal.TheVariants.{StoryTooLarge}
 
 -- ## The parts
 
--- A table of so many bytes that may be written.
-abbrev pub table_of : ℕ → Table
-table_of size = record { bytes = replicate size 0; writable = true }
+-- A byte for each closure tells how many values it captures.
+abbrev pub captures_table : List ClosureBody → Table
+captures_table closures = record { bytes = map (λ (c : ClosureBody). length c.captured) closures; writable = false }
 
--- The heap has 10,000 words; a table begins at each of its first four, so that each word of a frame or a choice is read from its place.
-abbrev pub heap_tables : List Table
-heap_tables = table_of 2 ∷ table_of 2 ∷ table_of 2 ∷ table_of 19994 ∷ []
+-- The heap, the trail and what is gathered may be written, and begin with zeros. They stand first behind the registers and the object table.
+abbrev pub areas_table : Table
+areas_table = record { bytes = replicate (at_cell aux_end - image.tables_from) 0; writable = true }
 
--- The parts of the story of some code. What starts keep is within its limit, or the run ends at once.
-abbrev pub story_parts : Code → Bool → Parts
-story_parts code keeps = record { tables = heap_tables; strings = []; routines = all_routines code keeps }
+abbrev pub story_tables : List ClosureBody → List Table
+story_tables closures = captures_table closures ∷ areas_table ∷ []
+
+-- The parts of the story of a program's code. What starts keep is within its limit, or the run ends at once.
+abbrev pub story_parts : CoreProgram → Code → Bool → Parts
+story_parts program code keeps = parts_with (story_tables program.closures) program code keeps
 
 -- ## The story
 
--- The story of some code: its bytes are those of the parts, each routine stands in it and does what its acts mean, and the player takes it.
-pub record IsStoryOf (code : Code) (keeps : Bool) (story : List ℕ) : Type 0 where
-  pub bytes : story ≡ image.story_of (image_of (story_parts code keeps))
-  pub assembled : IsAssembled (image_of (story_parts code keeps)) story
-  pub does : StoryDoes (story_parts code keeps) story
+-- The story of parts: its bytes are theirs, each routine stands in it and does what its acts mean, and the player takes it.
+pub record IsStoryOf (parts : Parts) (story : List ℕ) : Type 0 where
+  pub bytes : story ≡ image.story_of (image_of parts)
+  pub assembled : IsAssembled (image_of parts) story
+  pub does : StoryDoes parts story
 
--- The code has no story: it has more routines than there are numbers, or more bytes than a story may have.
-abbrev pub HasNoStory : Code → Bool → Type 0
-HasNoStory code keeps = (65535 < routine_count code) ⊎ image.IsTooLarge (image_of (story_parts code keeps))
+-- The story is too large.
+abbrev pub too_large : BuildFault
+too_large = Refused StoryTooLarge
+
+-- Code has no story of these parts: it has more routines than there are numbers, or they take more bytes than a story may have.
+abbrev pub HasNoStory : Code → Parts → Type 0
+HasNoStory code parts = (65535 < number_behind first_number code) ⊎ image.IsTooLarge (image_of parts)
 
 -- What starts keep is within the limit of a story.
 abbrev pub keeps_within : CoreProgram → Bool
@@ -56,5 +70,5 @@ pub record IsBuilt (program : CoreProgram) (built : Built) : Type 0 where
   pub code : Code
   pub codes : Codes program code
   pub tidy : Tidy code
-  pub story : IsStoryOf code (keeps_within program) built.story.items
+  pub story : IsStoryOf (story_parts program code (keeps_within program)) built.story.items
   pub rules : built.rule_routines ≡ rule_count program.preds

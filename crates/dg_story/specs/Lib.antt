@@ -1,10 +1,3 @@
-pub mod Plain
-pub mod Sizes
 pub mod Refusals
-pub mod Texts
-pub mod Numbers
-pub mod Instructions
-pub mod Routines
 pub mod Built
-pub mod Agrees
 pub mod inside

@@ -1,8 +1,4 @@
 pub mod Counting
-pub mod Cells
-pub mod Tells
-pub mod PlainCode
-pub mod Ends
-pub mod From
-pub mod Represents
-pub mod Stepping
+pub mod Lacking
+pub mod Stories
+pub mod Left

@@ -1,18 +1,24 @@
 // The story of a program.
-ghost use Rattle.std.specs.Prelude.{◌≡◌, ◌≤◌, None, IfOk, IsErrOf};
+ghost use Rattle.std.specs.Prelude.{◌≡◌, ◌<◌, ◌≤◌, None, All, IfOk, IsErrOf, length};
 ghost use Rattle.dg_base.specs.Sound.{IsSound};
-ghost use Rattle.dg_story.specs.Agrees.{Agrees};
+ghost use Rattle.dg_base.specs.declared.program.ClosureBody.{ClosureBody as TheClosure};
+ghost use Rattle.dg_meaning.specs.Few.{AllHoldFew, HeadsAreFew};
+ghost use Rattle.dg_chain.specs.Agrees.{Agrees};
+ghost use Rattle.dg_emit.specs.Code.{CodeFits};
+ghost use Rattle.dg_emit.specs.Numbers.{number_behind};
+ghost use Rattle.dg_emit.specs.Story.{first_number, story_routines};
+ghost use Rattle.z_asm.specs.Story.{IsTooLarge};
+ghost use Rattle.z_story.specs.Parts.{AreParts, image_of};
 ghost use Rattle.dg_story.specs.Refusals.{build_refusal};
-ghost use Rattle.dg_story.specs.Numbers.{too_large};
 ghost use Rattle.dg_story.specs.Built as spec;
+ghost use Rattle.dg_story.specs.inside.Left.{IsLeftOf, parts_left};
 
-use crate::numbering::numbers_of;
+use crate::laws::{programs_have_stories, stories_agree};
 use crate::refusal::{BuildFault, BuildRefusal};
-use crate::routines::all_routines;
-use dg_base::{CoreProgram, Pred};
-use dg_mid::{Code, code_costs_its_work, code_moves_on, code_runs_as_searched, let_go, to_mid};
+use dg_base::{ClosureBody, CoreProgram, Items, Pred};
+use dg_emit::{NumberFault, captures_of, routines_alike};
+use dg_mid::{Code, let_go, to_mid};
 use dg_world::World;
-use sqlite_items::Items;
 use std::alloc::{AllocError, Global};
 use z_asm::{AsmFault, Table};
 use z_lang::Routine;
@@ -28,47 +34,67 @@ pub struct Built {
 /// The cells that what starts keep may have.
 const KEEP: u32 = 500;
 
-// A table that may be written.
-fn table_of(alloc: Global, size: usize) -> Result<Table, AllocError>
-    ensures { IfOk result (λ table. table ≡ spec.table_of size) }
+/// The bytes of the heap, the trail and what is gathered.
+const AREAS: usize = 28_024;
+
+// How many values each closure captures, a byte each.
+fn captures_table(alloc: Global, closures: &[ClosureBody]) -> Result<Table, AllocError>
+    requires { All (λ (c : TheClosure). length c.captured ≤ 255) closures.now }
+    ensures { IfOk result (λ table. table ≡ spec.captures_table closures.now) }
+{
+    let mut bytes = Items::new(alloc);
+    for closure in closures {
+        bytes.push(closure.captured.len() as u8)?;
+    }
+    Ok(Table {
+        bytes,
+        writable: false,
+    })
+}
+
+// What may be written behind the object table.
+fn areas_table(alloc: Global) -> Result<Table, AllocError>
+    ensures { IfOk result (λ table. table ≡ spec.areas_table) }
 {
     Ok(Table {
-        bytes: Items::from_vec(vec![in alloc; 0u8; size]?),
+        bytes: Items::from_vec(vec![in alloc; 0u8; AREAS]?),
         writable: true,
     })
 }
 
-// The heap, so that a table begins at each of its first four words.
-fn heap_tables(alloc: Global) -> Result<Items<Table>, AllocError>
-    ensures { IfOk result (λ tables. tables ≡ spec.heap_tables) }
+fn tables_of(alloc: Global, closures: &[ClosureBody]) -> Result<Items<Table>, AllocError>
+    requires { All (λ (c : TheClosure). length c.captured ≤ 255) closures.now }
+    ensures { IfOk result (λ tables. tables ≡ spec.story_tables closures.now) }
 {
     let mut tables = Items::new(alloc);
-    tables.push(table_of(alloc, 2)?)?;
-    tables.push(table_of(alloc, 2)?)?;
-    tables.push(table_of(alloc, 2)?)?;
-    tables.push(table_of(alloc, 19_994)?)?;
+    tables.push(captures_table(alloc, closures)?)?;
+    tables.push(areas_table(alloc)?)?;
     Ok(tables)
 }
 
-fn parts_of(alloc: Global, code: &Code, keeps: bool) -> Result<Parts, BuildFault>
-    ensures ok { IfOk result (λ parts. parts ≡ spec.story_parts code.now keeps) }
-    ensures large { IsErrOf result too_large → spec.HasNoStory code.now keeps }
+fn routines_of(
+    alloc: Global,
+    program: &CoreProgram,
+    code: &Code,
+    keeps: bool,
+) -> Result<Items<Routine>, BuildFault>
+    requires { CodeFits program.now code.now }
+    ensures ok { IfOk result (λ routines. routines ≡ story_routines program.now code.now keeps) }
+    ensures many { IsErrOf result spec.too_large → 65535 < number_behind first_number code.now }
 {
-    let numbers = numbers_of(alloc, code)?;
-    Ok(Parts {
-        tables: heap_tables(alloc)?,
-        strings: Items::new(alloc),
-        routines: all_routines(alloc, code, &numbers, keeps)?,
-    })
+    match dg_emit::story_routines(alloc, program, code, keeps) {
+        Ok(routines) => Ok(routines),
+        Err(NumberFault::TooMany) => Err(BuildFault::Refused(BuildRefusal::StoryTooLarge)),
+        Err(NumberFault::Memory) => Err(BuildFault::OutOfMemory),
+    }
 }
 
-// The story of some code.
-#[tactic(auto, using(crate::proofs::StoryFits::are_parts))]
-fn story_of(alloc: Global, code: &Code, keeps: bool) -> Result<Vec<u8>, BuildFault>
-    ensures ok { IfOk result (λ story. spec.IsStoryOf code.now keeps story.items) }
-    ensures large { IsErrOf result too_large → spec.HasNoStory code.now keeps }
+// The story of parts.
+fn story_of(alloc: Global, parts: Parts) -> Result<Vec<u8>, BuildFault>
+    requires { AreParts parts }
+    ensures ok { IfOk result (λ story. spec.IsStoryOf parts story.items) }
+    ensures large { IsErrOf result spec.too_large → IsTooLarge (image_of parts) }
 {
-    let parts = parts_of(alloc, code, keeps)?;
     match build(alloc, parts) {
         Ok(story) => Ok(story),
         Err(AsmFault::TooLarge) => Err(BuildFault::Refused(BuildRefusal::StoryTooLarge)),
@@ -82,6 +108,47 @@ fn keeps_within(alloc: Global, program: &CoreProgram) -> Result<bool, AllocError
 {
     let objects = program.objects.len() as u16;
     World::starts_within(alloc, program.places.as_slice(), objects, KEEP)
+}
+
+/// What a story takes of a program beside its code: its tables, what closures capture, and whether what starts keep is within its limit.
+#[derive(Drop)]
+pub struct Left {
+    pub tables: Items<Table>,
+    pub captures: CoreProgram,
+    pub keeps: bool,
+}
+
+fn left_of(alloc: Global, program: &CoreProgram) -> Result<Left, AllocError>
+    requires { IsSound program.now }
+    ensures { IfOk result (λ left. IsLeftOf program.now left) }
+{
+    Ok(Left {
+        tables: tables_of(alloc, program.closures.as_slice())?,
+        captures: captures_of(alloc, program)?,
+        keeps: keeps_within(alloc, program)?,
+    })
+}
+
+// The story of these tables and of the routines of some code.
+fn story_with(alloc: Global, left: Left, code: &Code) -> Result<Vec<u8>, BuildFault>
+    requires fits { CodeFits left.captures code.now }
+    requires parts { AreParts (parts_left left code.now) }
+    ensures ok { IfOk result (λ story. spec.IsStoryOf (parts_left left code.now) story.items) }
+    ensures large { IsErrOf result spec.too_large → spec.HasNoStory code.now (parts_left left code.now) }
+{
+    let Left {
+        tables,
+        captures,
+        keeps,
+    } = left;
+    let routines = routines_of(alloc, &captures, code, keeps)?;
+    let strings = Items::new(alloc);
+    let parts = Parts {
+        tables,
+        strings,
+        routines,
+    };
+    story_of(alloc, parts)
 }
 
 fn rule_count(preds: &[Pred]) -> u32
@@ -98,19 +165,21 @@ fn rule_count(preds: &[Pred]) -> u32
 /// The story of a program that isn't refused.
 pub fn build_story(alloc: Global, program: CoreProgram) -> Result<Built, BuildFault>
     requires sound { IsSound program }
+    requires goals { AllHoldFew 12 program }
+    requires heads { HeadsAreFew 12 program }
     requires fits { build_refusal program ≡ None }
     ensures built { IfOk result (λ built. spec.IsBuilt program built) }
     ensures agrees { IfOk result (λ built. Agrees built.story.items program) }
-    ensures fits { IsErrOf result too_large → ⊥ }
+    ensures fits { IsErrOf result spec.too_large → ⊥ }
 {
-    code_runs_as_searched();
-    code_costs_its_work();
-    code_moves_on();
-    let keeps = keeps_within(alloc, &program);
+    stories_agree();
+    programs_have_stories();
+    routines_alike();
+    let left = left_of(alloc, &program);
     let rule_routines = rule_count(program.preds.as_slice());
     let code = to_mid(program, alloc)?;
-    let story = match keeps {
-        Ok(keeps) => story_of(alloc, &code, keeps),
+    let story = match left {
+        Ok(left) => story_with(alloc, left, &code),
         Err(_) => Err(BuildFault::OutOfMemory),
     };
     let_go(alloc, code);

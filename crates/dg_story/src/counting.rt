@@ -4,7 +4,7 @@ ghost use Rattle.dg_base.specs.declared.program.Goal.{out-Goal};
 ghost use Rattle.dg_base.specs.Goals.{terms_held, option_terms};
 ghost use Rattle.dg_base.specs.Terms.{nodes};
 ghost use Rattle.dg_meaning.specs.Render.{characters};
-ghost use Rattle.dg_story.specs.Sizes as spec;
+ghost use Rattle.dg_fits.specs.Sizes as spec;
 ghost use Rattle.dg_story.specs.inside.Counting.{part_size, left_size, lists_size, whole_size, Counted, Lacks};
 ghost use Rattle.dg_story.specs.declared.refusal.Lack.TheVariants.{Room};
 

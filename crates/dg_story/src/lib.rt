@@ -3,14 +3,10 @@
 
 mod building;
 mod counting;
-mod instructions;
-mod numbering;
-mod plain;
+mod goals;
+mod laws;
 mod refusal;
 mod refused;
-mod routines;
-mod support;
-mod texts;
 
 pub use building::{Built, build_story};
 pub use refusal::{BuildFault, BuildRefusal};

@@ -7,7 +7,7 @@ use Rattle.dg_base.specs.Terms.{nodes}
 use Rattle.dg_story.specs.declared.counting.Left.{Left}
 use Rattle.dg_story.specs.declared.counting.Left.TheVariants as left
 use Rattle.dg_story.specs.declared.counting.Count.{Count}
-use Rattle.dg_story.specs.Sizes.{text_size, terms_size, lists_held, body_size}
+use Rattle.dg_fits.specs.Sizes.{text_size, terms_size, lists_held, body_size}
 
 abbrev pub part_size : Left → ℕ
 part_size (left.Goals goals) = body_size goals.now

@@ -1,5 +1,5 @@
 use Rattle.std.proofs.Common.{◌≡◌, ◌≤◌, ◌+◌, drop}
-use Rattle.dg_story.specs.Sizes.{words_size}
+use Rattle.dg_fits.specs.Sizes.{words_size}
 use Rattle.dg_story.proofs.counting.words_fit.Given as goal
 
 abbrev pub invariant-loop-word : goal.invariant-loop-word

@@ -1,5 +1,5 @@
 use Rattle.std.proofs.Common.{◌≡◌, ◌≤◌, ◌+◌, ◌*◌, drop}
-use Rattle.dg_story.specs.Sizes.{places_size}
+use Rattle.dg_fits.specs.Sizes.{places_size}
 use Rattle.dg_story.proofs.counting.world_fits.Given as goal
 
 abbrev pub invariant-loop-place : goal.invariant-loop-place

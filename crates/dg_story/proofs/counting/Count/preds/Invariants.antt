@@ -1,5 +1,5 @@
 use Rattle.std.proofs.Common.{drop}
-use Rattle.dg_story.specs.Sizes.{preds_size}
+use Rattle.dg_fits.specs.Sizes.{preds_size}
 use Rattle.dg_story.specs.inside.Counting.{GoesOn}
 use Rattle.dg_story.proofs.counting.Count.preds.Given as goal
 

@@ -1,5 +1,5 @@
 use Rattle.std.proofs.Common.{drop}
-use Rattle.dg_story.specs.Sizes.{starts_size}
+use Rattle.dg_fits.specs.Sizes.{starts_size}
 use Rattle.dg_story.specs.inside.Counting.{GoesOn}
 use Rattle.dg_story.proofs.counting.Count.starts.Given as goal
 

@@ -1,0 +1,152 @@
+-- A story is played, and comes to the start of its code.
+use Rattle.std.proofs.Common.{◌≡◌, ℕ, ◌+◌, ◌<◌, ◌≤◌, List, [], Bool, true, Option, Some, None, refl, arith}
+use Rattle.std.specs.List.{slice_get}
+use Rattle.dg_base.specs.declared.program.CoreProgram.{CoreProgram}
+use Rattle.dg_meaning.specs.Values.{Value}
+use Rattle.dg_meaning.specs.Cells.{captured_count}
+use Rattle.dg_meaning.specs.Render.{render}
+use Rattle.dg_meaning.specs.Transcript.{start_world}
+use Rattle.dg_mid.specs.declared.code.Code.{Code}
+use Rattle.dg_mid.specs.Code.{block_at}
+use Rattle.dg_mid.specs.State.{Mid}
+use Rattle.dg_mid.specs.Reads.{lasting_of}
+use Rattle.z_model.specs.Story.{start_state}
+use Rattle.z_lang.specs.Standing.{state_at}
+use Rattle.dg_rt.specs.Areas.{state}
+use Rattle.dg_rt.specs.Shapes.{Shape, IsShape}
+use Rattle.dg_turn.specs.Told.{Telling}
+use Rattle.dg_turn.specs.Lies.{MidIn, StateIn}
+use Rattle.dg_turn.specs.Plays.{Playing, Outside, Represented}
+use Rattle.dg_chain.specs.Steps.{Starts}
+use Rattle.dg_chain.specs.Routines.{BlocksAt}
+use Rattle.dg_chain.specs.Stands.{Printed, Stands}
+use Rattle.dg_chain.specs.Whole.{story_setting}
+use Rattle.dg_emit.specs.Numbers.{numbers_from, block_number}
+use Rattle.dg_emit.specs.Story.{first_number}
+use Rattle.dg_story.specs.Built.{story_parts, IsStoryOf}
+use Rattle.dg_story.proofs.Mapped.{p, has}
+use Rattle.dg_story.proofs.Opening as opening
+
+module _ (program : CoreProgram) (code : Code) (story : List ℕ) (is : IsStoryOf (story_parts program code true) story) (dice typed : List ℕ) (words : (k : ℕ) → (p program code true story is dice).names.routine k < 65536) where
+  -- What stays the same while the story is played.
+  abbrev pub t : Telling
+  t = record {
+    program = program;
+    p = p program code true story is dice;
+    at_block = λ b. (p program code true story is dice).names.routine (block_number (numbers_from first_number code) b);
+    story = story;
+    context = opening.c program code true story is dice typed;
+    pc = opening.pc program code story is dice typed words;
+  }
+
+  pub plays : Playing t
+  plays = record {
+    labels = opening.labels program code true story is dice typed;
+    stands = is.does.stands dice;
+    placed = opening.placed program code story is dice typed words;
+    from = opening.from program code story is dice typed words;
+    room = opening.room program code true story is dice typed;
+    has = has program code true story is dice;
+    words = words;
+  }
+
+  -- ## The start
+
+  -- nothing is taken yet
+  abbrev none : Shape
+  none = record { top = 0; vars = 0; place = λ n. 0; fixed = λ k. 0; box = λ k. None; captures = λ place. captured_count (slice_get program.closures place) }
+
+  no_box : (v : Value) → ◌≡◌ {A = Option Value} None (Some v) → ⊥
+  no_box v e = cc
+
+  none_is : IsShape none
+  none_is = record {
+    within = λ n lt. omega arith;
+    order = λ m n lt lt'. omega arith;
+    apart = λ j k v w e f lt. absurd (no_box v e);
+    ends = λ k v e. absurd (no_box v e);
+    room = omega arith;
+  }
+
+  abbrev machine : Mid
+  machine = record {
+    ops = block_at code 1;
+    frames = [];
+    inner = [];
+    choices = [];
+    stops = [];
+    stop = None;
+    gathered = [];
+    next_tag = 1;
+    state = record { vars = 0; subst = []; since = 0; heap = 0; trail = 0 };
+    lasting = lasting_of (start_world (story_setting t code dice).game typed);
+  }
+
+  abbrev cells : ℕ → ℕ
+  cells = opening.begun_words program code story is dice typed words
+
+  state_in : StateIn t none cells [] machine.state
+  state_in = record {
+    shape = none_is;
+    low = λ n lt. omega arith;
+    stands = record { sound = tt; fixed = λ k lt f. absurd (let l = f.0 in omega arith); unbound = λ n lt e. absurd (omega arith); bound = λ n v lt e. absurd (omega arith) };
+    known = λ n le. refl;
+    heap = refl;
+    vars = refl;
+    trail_len = refl;
+    few = omega arith;
+    few_trail = omega arith;
+    told = λ place. refl;
+  }
+
+  machine_in : MidIn t cells none cells [] machine
+  machine_in = record {
+    heap = refl;
+    height = refl;
+    state = state_in;
+    on_trail = tt;
+    frames = refl;
+    choices = refl;
+    hb = 0;
+    mark = refl;
+    marked = record { low = omega arith; high = omega arith; old = omega arith; older = λ n lt. absurd (omega arith) };
+    under = tt;
+    inner = refl;
+    stop = refl;
+    stops = tt;
+    stops_under = tt;
+    apart = tt;
+    rest = record { gather = refl; gatherings = tt; outside = record { registers = λ k a b c. refl; areas = λ k a. refl } };
+  }
+
+  abbrev out : Outside
+  out = record { output = []; typed = typed; drawn = 0; words = cells }
+
+  printed : Printed []
+  unfolding render
+  printed = record { out = out; written = refl; meets = record { last = refl; lines = refl; spaces = refl; asked = refl; upper = refl } }
+
+  represents : Represented t out (opening.asked program code story is dice typed words) machine (state_at (state (opening.begun program code story is dice typed words) [] typed 0 []) t.context t.pc)
+  represents = record {
+    memory = opening.begun program code story is dice typed words;
+    is = refl;
+    kept = (opening.follows program code story is dice typed words).kept;
+    cells = cells;
+    holds = opening.holding program code story is dice typed words;
+    next_is = refl;
+    sh = none;
+    trail = [];
+    mid = machine_in;
+  }
+
+  -- The story comes to the start of its code.
+  pub starts : BlocksAt t code → Starts t.p.world (story_setting t code dice) (Stands t code) typed (start_state story typed)
+  unfolding printed
+  starts blocks = record {
+    count = 3;
+    few = omega arith;
+    there = state_at (state (opening.begun program code story is dice typed words) [] typed 0 []) t.context t.pc;
+    leads = opening.opens program code story is dice typed words;
+    stands = record { printed = printed; at = record { x = opening.asked program code story is dice typed words; rep = represents; ops_are = blocks.each 1 } };
+    printed = refl;
+  }

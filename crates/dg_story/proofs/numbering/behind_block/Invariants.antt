@@ -1,6 +1,0 @@
-use Rattle.std.proofs.Common.{◌≡◌, ◌+◌, drop}
-use Rattle.dg_story.specs.Numbers.{routines_of_ops}
-use Rattle.dg_story.proofs.numbering.behind_block.Given as goal
-
-abbrev pub invariant-loop-op : goal.invariant-loop-op
-invariant-loop-op l = l.next + routines_of_ops (drop l.op-index l.ops) ≡ l.number + routines_of_ops l.ops

@@ -1,6 +1,0 @@
-use Rattle.std.proofs.Common.{◌≡◌, ◌+◌, drop}
-use Rattle.dg_story.specs.Numbers.{rules_count}
-use Rattle.dg_story.proofs.numbering.behind_rules.Given as goal
-
-abbrev pub invariant-loop-rules : goal.invariant-loop-rules
-invariant-loop-rules l = l.next + rules_count (drop l.rules-index l.preds) ≡ l.number + rules_count l.preds
