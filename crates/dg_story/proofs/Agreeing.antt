@@ -42,7 +42,7 @@ module _ (searched : RunsAsSearched) (costs : CostsItsWork) (looks : LooksItsWor
 
     fits_kept : (steps : ℕ) → Fits (record { program = program; dice = dice }) typed steps (zrun t.p.world steps (start_state story typed)).state.output (zrun t.p.world steps (start_state story typed)).end
     fits_kept =
-        whole searched costs looks moves heights trails cuts fits_calls never t code dice typed plays blocks written.codes written.tidy written.sound written.goals
+        whole searched costs looks moves heights trails cuts fits_calls never t code typed plays blocks written.codes written.tidy written.sound written.goals
         (start_state story typed) (starting.starts program code story is dice typed words blocks)
 
   by_kept : (b : Bool) → keeps_within program ≡ b → (story : List ℕ) → IsStoryOf (story_parts program code b) story → Agrees story program

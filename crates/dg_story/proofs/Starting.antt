@@ -79,7 +79,7 @@ module _ (program : CoreProgram) (code : Code) (story : List ℕ) (is : IsStoryO
     gathered = [];
     next_tag = 1;
     state = record { vars = 0; subst = []; since = 0; heap = 0; trail = 0 };
-    lasting = lasting_of (start_world (story_setting t code dice).game typed);
+    lasting = lasting_of (start_world (story_setting t code t.p.world.dice).game typed);
   }
 
   abbrev cells : ℕ → ℕ
@@ -122,9 +122,9 @@ module _ (program : CoreProgram) (code : Code) (story : List ℕ) (is : IsStoryO
   abbrev out : Outside
   out = record { output = []; typed = typed; drawn = 0; words = cells }
 
-  printed : Printed []
+  printed : Printed t [] machine.lasting
   unfolding render
-  printed = record { out = out; written = refl; meets = record { last = refl; lines = refl; spaces = refl; asked = refl; upper = refl } }
+  printed = record { out = out; written = refl; meets = record { last = refl; lines = refl; spaces = refl; asked = refl; upper = refl }; drawn = sym (zero-mod (length dice)) }
 
   represents : Represented t out (opening.asked program code story is dice typed words) machine (state_at (state (opening.begun program code story is dice typed words) [] typed 0 []) t.context t.pc)
   represents = record {
@@ -140,7 +140,7 @@ module _ (program : CoreProgram) (code : Code) (story : List ℕ) (is : IsStoryO
   }
 
   -- The story comes to the start of its code.
-  pub starts : BlocksAt t code → Starts t.p.world (story_setting t code dice) (Stands t code) typed (start_state story typed)
+  pub starts : BlocksAt t code → Starts t.p.world (story_setting t code t.p.world.dice) (Stands t code) typed (start_state story typed)
   unfolding printed
   starts blocks = record {
     count = 3;

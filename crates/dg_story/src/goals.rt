@@ -19,7 +19,9 @@ fn has_routines(goal: &Goal) -> bool
 {
     match goal {
         Goal::Text(_) | Goal::Gap(_) | Goal::GapN(_) => true,
-        Goal::Equal(_, _) | Goal::Ask(_, _, _) | Goal::Query(_, _, _) => true,
+        Goal::Equal(_, _) | Goal::Test(_, _) | Goal::Compare(_, _, _) => true,
+        Goal::Arith(_, _, _, _) | Goal::Random(_, _, _) => true,
+        Goal::Ask(_, _, _) | Goal::Query(_, _, _) => true,
         Goal::Just | Goal::Fail | Goal::Stop | Goal::Quit | Goal::Forever => true,
         Goal::Either(_) | Goal::Once(_) | Goal::Not(_) | Goal::If(_, _, _) => true,
         Goal::Exhaust(_) | Goal::Stoppable(_) => true,

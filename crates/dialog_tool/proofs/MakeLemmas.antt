@@ -17,7 +17,7 @@ use Rattle.dg_meaning.specs.Transcript.{run, text_of, ending_line, line_of, tran
 use Rattle.dg_meaning.specs.World.{Game, prints as all_prints}
 use Rattle.dg_meaning.proofs.Limits.{later_run}
 use Rattle.dg_meaning.proofs.Search.{run_within}
-use Rattle.dg_story.proofs.Happened.{text_grows}
+use Rattle.dg_chain.proofs.Happened.{text_grows}
 use Rattle.dialog_tool.specs.Promise
 use Rattle.dialog_tool.specs.Promise.{Makes, reports, overflows, refuses}
 use Rattle.dialog_tool.specs.Call.{Call, Outside}

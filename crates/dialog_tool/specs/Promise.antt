@@ -16,7 +16,7 @@ use Rattle.dg_meaning.specs.Transcript.{no_memory_line, input_fault_line}
 use Rattle.dg_meaning.specs.World.{Game}
 use Rattle.dg_meaning.specs.Engines.{game}
 use Rattle.dg_single.specs.Singles.{AreSingles}
-use Rattle.dg_story.specs.Agrees.{Agrees}
+use Rattle.dg_chain.specs.Agrees.{Agrees}
 use Rattle.dg_story.specs.Refusals as build
 use Rattle.dg_story.specs.declared.refusal.BuildRefusal.{BuildRefusal}
 use Rattle.z_model.specs.Closing.{played_text}

@@ -4,6 +4,7 @@ ghost use Rattle.dg_base.specs.Shelves.{ShelfView};
 ghost use Rattle.dg_base.specs.Sound.{IsSound};
 ghost use Rattle.dg_base.specs.Streams.{SourceView};
 ghost use Rattle.dg_base.specs.declared.program.CoreProgram.{CoreProgram as Core};
+ghost use Rattle.dg_meaning.specs.Few.{AllHoldFew, HeadsAreFew};
 ghost use Rattle.dg_story.specs.Refusals.{build_refusal};
 ghost use Rattle.dialog_tool.specs.Promise.{Answers, HasStory};
 ghost use Rattle.dialog_tool.specs.inside.Building.{HasNoStory};
@@ -30,6 +31,8 @@ fn built<K: Sink>(
     out: &mut K,
 ) -> Result<Vec<u8>, u8>
     requires sound { IsSound program }
+    requires goals { AllHoldFew 12 program }
+    requires heads { HeadsAreFew 12 program }
     requires fits { build_refusal program ≡ None }
     ensures story { IfOk result (λ bytes. HasStory program bytes.items) }
     ensures silent { OnOk result (K.view out.new ≡ K.view out.old) }
@@ -48,7 +51,9 @@ fn story_of<K: Sink>(
     program: CoreProgram,
     out: &mut K,
 ) -> Result<Vec<u8>, u8>
-    requires { IsSound program }
+    requires sound { IsSound program }
+    requires goals { AllHoldFew 12 program }
+    requires heads { HeadsAreFew 12 program }
     ensures story { IfOk result (λ bytes. HasStory program bytes.items) }
     ensures silent { OnOk result (K.view out.new ≡ K.view out.old) }
     ensures none { IfErr result (HasNoStory program name.now (K.view out.old) (K.view out.new)) }

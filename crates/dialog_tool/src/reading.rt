@@ -3,6 +3,7 @@ ghost use Rattle.std.specs.Prelude.{◌≡◌, ℕ, List, Option, Some, Ok, IfOk
 ghost use Rattle.dg_base.specs.Shelves.{CalledOnce};
 ghost use Rattle.dg_base.specs.Sound.{IsSound};
 ghost use Rattle.dg_base.specs.Streams.{SourceView};
+ghost use Rattle.dg_meaning.specs.Few.{AllHoldFew, HeadsAreFew};
 ghost use Rattle.dialog_tool.specs.Promise.{Answers};
 ghost use Rattle.dialog_tool.specs.inside.Calls.{call, IsFetched};
 ghost use Rattle.dialog_tool.specs.Command.{Command};
@@ -35,6 +36,8 @@ pub fn program_in<F: Shelf, K: Sink>(
     ensures program { IfOk result (λ p.
         (file : List ℕ) × IsFetched (F.view shelf.old) (F.view shelf.new) name.now file × Compiles file (Ok p)) }
     ensures sound { IfOk result IsSound }
+    ensures goals { IfOk result (AllHoldFew 12) }
+    ensures heads { IfOk result (HeadsAreFew 12) }
     ensures calls { CalledOnce (F.view shelf.old).calls (F.view shelf.new).calls }
     ensures silent { OnOk result (K.view out.new ≡ K.view out.old) }
     ensures ends { IfErr result (λ status. (command : Option Command) → (dice : List ℕ) → (input : SourceView) →
