@@ -66,14 +66,7 @@ fn put_inner<'p>(left: &mut Items<&'p [Goal]>, goal: &'p Goal) -> Result<(), All
 }
 
 // Whether the last goal of a list has routines; then what it holds is left to look at, and so are the others.
-#[tactic(
-    auto,
-    using(
-        crate::proofs::LackingLemmas::last_lacks,
-        crate::proofs::LackingLemmas::lacks_none,
-        crate::proofs::LackingLemmas::lacks_one
-    )
-)]
+#[tactic(auto, using(crate::proofs::LackingLemmas::last_lacks, crate::proofs::LackingLemmas::lacks_none, crate::proofs::LackingLemmas::lacks_one))]
 fn look_at_last<'p>(left: &mut Items<&'p [Goal]>, goals: &'p [Goal]) -> Result<bool, AllocError>
     ensures has { IfOk result (λ has. has ≡ true → lacking_left left.new ≡ lacking_of goals.now + lacking_left left.old) }
     ensures lacks { IfOk result (λ has. has ≡ false → 1 ≤ lacking_of goals.now) }
@@ -90,14 +83,7 @@ fn look_at_last<'p>(left: &mut Items<&'p [Goal]>, goals: &'p [Goal]) -> Result<b
 }
 
 // Whether all goals of a body have routines, at every depth.
-#[tactic(
-    auto,
-    using(
-        crate::proofs::LackingLemmas::left_append,
-        crate::proofs::LackingLemmas::have_all,
-        crate::proofs::LackingLemmas::have_not
-    )
-)]
+#[tactic(auto, using(crate::proofs::LackingLemmas::left_append, crate::proofs::LackingLemmas::have_all, crate::proofs::LackingLemmas::have_not))]
 fn body_has(alloc: Global, body: &[Goal]) -> Result<bool, AllocError>
     ensures { IfOk result (λ has. has ≡ spec.all_have (all_goals_of body.now)) }
 {
