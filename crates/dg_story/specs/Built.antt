@@ -29,9 +29,13 @@ use Rattle.dg_story.specs.declared.refusal.BuildRefusal.TheVariants.{StoryTooLar
 abbrev pub captures_table : List ClosureBody → Table
 captures_table closures = record { bytes = map (λ (c : ClosureBody). length c.captured) closures; writable = false }
 
--- The heap, the trail and what is gathered may be written, and begin with zeros. They stand first behind the registers and the object table.
+-- So many zeros may be written.
+abbrev pub zeros_table : ℕ → Table
+zeros_table size = record { bytes = replicate size 0; writable = true }
+
+-- The heap, the trail and what is gathered stand first behind the registers and the object table.
 abbrev pub areas_table : Table
-areas_table = record { bytes = replicate (at_cell aux_end - image.tables_from) 0; writable = true }
+areas_table = zeros_table (at_cell aux_end - image.tables_from)
 
 abbrev pub story_tables : List ClosureBody → List Table
 story_tables closures = captures_table closures ∷ areas_table ∷ []

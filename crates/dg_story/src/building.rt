@@ -52,14 +52,21 @@ fn captures_table(alloc: Global, closures: &[ClosureBody]) -> Result<Table, Allo
     })
 }
 
+// So many zeros that may be written.
+fn zeros_table(alloc: Global, size: usize) -> Result<Table, AllocError>
+    ensures { IfOk result (λ table. table ≡ spec.zeros_table size) }
+{
+    Ok(Table {
+        bytes: Items::from_vec(vec![in alloc; 0u8; size]?),
+        writable: true,
+    })
+}
+
 // What may be written behind the object table.
 fn areas_table(alloc: Global) -> Result<Table, AllocError>
     ensures { IfOk result (λ table. table ≡ spec.areas_table) }
 {
-    Ok(Table {
-        bytes: Items::from_vec(vec![in alloc; 0u8; AREAS]?),
-        writable: true,
-    })
+    zeros_table(alloc, AREAS)
 }
 
 fn tables_of(alloc: Global, closures: &[ClosureBody]) -> Result<Items<Table>, AllocError>
@@ -129,6 +136,19 @@ fn left_of(alloc: Global, program: &CoreProgram) -> Result<Left, AllocError>
     })
 }
 
+fn parts_of(alloc: Global, left: Left, code: &Code) -> Result<Parts, BuildFault>
+    requires { CodeFits left.captures code.now }
+    ensures ok { IfOk result (λ parts. parts ≡ parts_left left code.now) }
+    ensures many { IsErrOf result spec.too_large → 65535 < number_behind first_number code.now }
+{
+    let routines = routines_of(alloc, &left.captures, code, left.keeps)?;
+    Ok(Parts {
+        tables: left.tables,
+        strings: Items::new(alloc),
+        routines,
+    })
+}
+
 // The story of these tables and of the routines of some code.
 fn story_with(alloc: Global, left: Left, code: &Code) -> Result<Vec<u8>, BuildFault>
     requires fits { CodeFits left.captures code.now }
@@ -136,19 +156,10 @@ fn story_with(alloc: Global, left: Left, code: &Code) -> Result<Vec<u8>, BuildFa
     ensures ok { IfOk result (λ story. spec.IsStoryOf (parts_left left code.now) story.items) }
     ensures large { IsErrOf result spec.too_large → spec.HasNoStory code.now (parts_left left code.now) }
 {
-    let Left {
-        tables,
-        captures,
-        keeps,
-    } = left;
-    let routines = routines_of(alloc, &captures, code, keeps)?;
-    let strings = Items::new(alloc);
-    let parts = Parts {
-        tables,
-        strings,
-        routines,
-    };
-    story_of(alloc, parts)
+    match parts_of(alloc, left, code) {
+        Ok(parts) => story_of(alloc, parts),
+        Err(fault) => Err(fault),
+    }
 }
 
 fn rule_count(preds: &[Pred]) -> u32

@@ -3,6 +3,7 @@ use Rattle.dg_story.specs.Built.{story_parts, keeps_within, IsStoryOf, rule_coun
 use Rattle.dg_story.specs.declared.building.Built.{Built}
 use Rattle.dg_story.specs.declared.refusal.BuildFault.{BuildFault}
 use Rattle.dg_story.specs.declared.refusal.BuildFault.TheVariants.{OutOfMemory}
+use Rattle.dg_story.specs.inside.Left.{parts_left}
 use Rattle.dg_story.specs.inside.Stories.{IsWritten, HasStory}
 use Rattle.dg_story.proofs.Alone.{code_fits, parts_fit, none_large, story_is}
 use Rattle.dg_story.proofs.RefusalLemmas.{rules_few}
@@ -26,3 +27,50 @@ never story fault e = cc
 
 pub rule_count-rule_routines-requires : goal.rule_count-rule_routines-requires
 rule_count-rule_routines-requires c = omega (arith, ap rule_count c.as_slice.ensures, rules_few c.args.program c.requires.fits)
+
+pub story_with-story-requires-clause-fits : goal.story_with-story-requires-clause-fits
+story_with-story-requires-clause-fits c =
+    let written : IsWritten c.args.program c.in_ok-code.code = record { sound = c.requires.sound; goals = c.requires.goals; heads = c.requires.heads; fits = c.requires.fits; codes = c.in_ok-code.ensures.codes; tidy = c.in_ok-code.ensures.tidy; light = c.in_ok-code.ensures.light } in
+    code_fits c.routines_alike.ensures c.args.program c.in_ok-code.code c.in-Ok.left c.in-Ok.ensures (c.programs_have_stories.ensures c.args.program c.in_ok-code.code written)
+
+pub story_with-story-requires-clause-parts : goal.story_with-story-requires-clause-parts
+story_with-story-requires-clause-parts c =
+    let written : IsWritten c.args.program c.in_ok-code.code = record { sound = c.requires.sound; goals = c.requires.goals; heads = c.requires.heads; fits = c.requires.fits; codes = c.in_ok-code.ensures.codes; tidy = c.in_ok-code.ensures.tidy; light = c.in_ok-code.ensures.light } in
+    parts_fit c.routines_alike.ensures c.args.program c.in_ok-code.code c.in-Ok.left c.in-Ok.ensures (c.programs_have_stories.ensures c.args.program c.in_ok-code.code written)
+
+pub returns-in-Ok-story-clause-built : goal.returns-in-Ok-story-clause-built
+returns-in-Ok-story-clause-built c =
+    elim c.match-left-2.branch [
+      | in-Ok w ↦ record {
+          code = c.in_ok-code.code;
+          codes = c.in_ok-code.ensures.codes;
+          tidy = c.in_ok-code.ensures.tidy;
+          story =
+              story_is c.routines_alike.ensures c.args.program c.in_ok-code.code w.in-Ok.left w.in-Ok.ensures c.in-Ok-story.story.items
+              (subst (λ (r : Result (Vec ℕ Global) BuildFault). IfOk r (λ story. IsStoryOf (parts_left w.in-Ok.left c.in_ok-code.code) story.items)) (sym w.story-is ∙ c.in-Ok-story.is) w.story_with-story.ensures.ok);
+          rules = c.rule_count-rule_routines.ensures ∙ ap rule_count c.as_slice.ensures;
+        }
+      | in-Err w ↦ absurd (never c.in-Ok-story.story OutOfMemory (sym c.in-Ok-story.is ∙ w.story-is))
+    ]
+
+pub returns-in-Ok-story-clause-agrees : goal.returns-in-Ok-story-clause-agrees
+returns-in-Ok-story-clause-agrees c =
+    let written : IsWritten c.args.program c.in_ok-code.code = record { sound = c.requires.sound; goals = c.requires.goals; heads = c.requires.heads; fits = c.requires.fits; codes = c.in_ok-code.ensures.codes; tidy = c.in_ok-code.ensures.tidy; light = c.in_ok-code.ensures.light } in
+    elim c.match-left-2.branch [
+      | in-Ok w ↦
+          c.stories_agree.ensures c.args.program c.in_ok-code.code written c.in-Ok-story.story.items
+          (story_is c.routines_alike.ensures c.args.program c.in_ok-code.code w.in-Ok.left w.in-Ok.ensures c.in-Ok-story.story.items
+          (subst (λ (r : Result (Vec ℕ Global) BuildFault). IfOk r (λ story. IsStoryOf (parts_left w.in-Ok.left c.in_ok-code.code) story.items)) (sym w.story-is ∙ c.in-Ok-story.is) w.story_with-story.ensures.ok))
+      | in-Err w ↦ absurd (never c.in-Ok-story.story OutOfMemory (sym c.in-Ok-story.is ∙ w.story-is))
+    ]
+
+pub returns-in-Err-story-clause-fits : goal.returns-in-Err-story-clause-fits
+returns-in-Err-story-clause-fits c e =
+    let written : IsWritten c.args.program c.in_ok-code.code = record { sound = c.requires.sound; goals = c.requires.goals; heads = c.requires.heads; fits = c.requires.fits; codes = c.in_ok-code.ensures.codes; tidy = c.in_ok-code.ensures.tidy; light = c.in_ok-code.ensures.light } in
+    let f = same_fault c.in-Err-story.fault e in
+    elim c.match-left-2.branch [
+      | in-Ok w ↦
+          none_large c.routines_alike.ensures c.args.program c.in_ok-code.code w.in-Ok.left w.in-Ok.ensures (c.programs_have_stories.ensures c.args.program c.in_ok-code.code written)
+          (w.story_with-story.ensures.large (sym w.story-is ∙ c.in-Err-story.is ∙ ap failed f))
+      | in-Err w ↦ other_fault c.in-Err-story.fault (sym c.in-Err-story.is ∙ w.story-is) f
+    ]
