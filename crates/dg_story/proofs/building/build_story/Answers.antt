@@ -42,14 +42,14 @@ pub returns-in-Ok-story-clause-built : goal.returns-in-Ok-story-clause-built
 returns-in-Ok-story-clause-built c =
     elim c.match-left-2.branch [
       | in-Ok w ↦ record {
-          code = c.in_ok-code.code;
-          codes = c.in_ok-code.ensures.codes;
-          tidy = c.in_ok-code.ensures.tidy;
-          story =
-              story_is c.routines_alike.ensures c.args.program c.in_ok-code.code w.in-Ok.left w.in-Ok.ensures c.in-Ok-story.story.items
-              (subst (λ (r : Result (Vec ℕ Global) BuildFault). IfOk r (λ story. IsStoryOf (parts_left w.in-Ok.left c.in_ok-code.code) story.items)) (sym w.story-is ∙ c.in-Ok-story.is) w.story_with-story.ensures.ok);
-          rules = c.rule_count-rule_routines.ensures ∙ ap rule_count c.as_slice.ensures;
-        }
+        code = c.in_ok-code.code;
+        codes = c.in_ok-code.ensures.codes;
+        tidy = c.in_ok-code.ensures.tidy;
+        story =
+            story_is c.routines_alike.ensures c.args.program c.in_ok-code.code w.in-Ok.left w.in-Ok.ensures c.in-Ok-story.story.items
+            (subst (λ (r : Result (Vec ℕ Global) BuildFault). IfOk r (λ story. IsStoryOf (parts_left w.in-Ok.left c.in_ok-code.code) story.items)) (sym w.story-is ∙ c.in-Ok-story.is) w.story_with-story.ensures.ok);
+        rules = c.rule_count-rule_routines.ensures ∙ ap rule_count c.as_slice.ensures;
+      }
       | in-Err w ↦ absurd (never c.in-Ok-story.story OutOfMemory (sym c.in-Ok-story.is ∙ w.story-is))
     ]
 
