@@ -19,7 +19,7 @@ use Rattle.z_list.proofs.OneStory.{lined, follows, count_same}
 use Rattle.z_list.proofs.GoesOn.{read_onward}
 use Rattle.z_list.proofs.Clear.{story_is_line, line_is_line, next_line, next_lines, HasLine, first_one, lines_same_text, line_some}
 
-fit_small : (ls : List Line) → AreFit ls → Small (bytes_of ls)
+pub fit_small : (ls : List Line) → AreFit ls → Small (bytes_of ls)
 fit_small [] f = small_nil
 fit_small (l ∷ ls) f = small_append (bytes_in l) (bytes_of ls) f.0.bytes (fit_small ls f.1)
 

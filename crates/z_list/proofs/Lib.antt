@@ -13,3 +13,9 @@ mod OneStory
 mod Clear
 mod GoesOn
 mod Bad
+mod Numbers
+mod FormLemmas
+mod Steps
+mod More
+mod Decoded
+mod Lines

@@ -1,7 +1,12 @@
 //! A story as a listing in text, and which texts are listings.
 #![tactic(auto)]
 
+mod forms;
+mod fronts;
 mod mark;
+mod place;
+mod reading;
+mod rest;
 mod texts;
 mod writing;
 
@@ -12,6 +17,7 @@ ghost use Rattle.z_list.specs.inside.Lines.{Where};
 ghost use Rattle.z_list.specs.inside.Read.{Stands, Decides};
 
 pub use mark::Mark;
+pub use reading::{ListFault, read_listing};
 pub use writing::listing;
 
 /// No text has two stories.
