@@ -22,6 +22,8 @@ mod instructions;
 #[cfg(test)]
 mod lasting;
 #[cfg(test)]
+mod listings;
+#[cfg(test)]
 mod playing;
 #[cfg(test)]
 mod prompts;
