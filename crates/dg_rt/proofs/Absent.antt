@@ -23,7 +23,7 @@ module _ (n : ℕ) where
     filled_absent : {sh : Shape} {k header : ℕ} {v : Value} → sh.vars ≤ n → Filled sh k header v → contains n v ≡ false
     filled_absent le (pair_in {h = h} {t = t} k x y one two s q) = or_from (contains n h) (any_contains n (More t NoMore)) (shows_absent le s) (or_from (contains n t) false (shows_absent le q) refl)
     filled_absent le (closure_in k place small told few one all) = all_absent le all
-    filled_absent le (word_in k all) = refl
+    filled_absent le (word_in k fine all) = refl
 
     all_absent : {sh : Shape} {k : ℕ} {vs : Values} → sh.vars ≤ n → AllShow sh k vs → any_contains n vs ≡ false
     all_absent le (no_more k) = refl

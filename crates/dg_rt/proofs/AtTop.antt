@@ -147,7 +147,7 @@ module _ (p : Program) (f w : ℕ) (memory typed output : List ℕ) (drawn : ℕ
     fits (variable n lt) = tt
     fits (boxed k header lt box cell (pair_in _ a b one two head tail)) = tt
     fits (boxed k header lt box cell (closure_in _ place small told few count all)) = small
-    fits (boxed k header lt box cell (word_in _ all)) = tt
+    fits (boxed k header lt box cell (word_in _ fine all)) = tt
 
     number_of : (x : ℕ) (v : Value) → Shows sh x v → Answers NUMBER_ACTS (drop 1 NUMBER_ACTS) x (number_word v) (limit v)
     number_of x v (number n lt) = number_low n lt
@@ -157,7 +157,7 @@ module _ (p : Program) (f w : ℕ) (memory typed output : List ℕ) (drawn : ℕ
     number_of x v (variable n lt) = let low = is.within n lt in number_high (32768 + sh.place n) 2 (omega arith) (omega arith) (omega arith)
     number_of x v (boxed k header lt box cell (pair_in _ a b one two head tail)) = number_high (49152 + k) 4 (omega arith) (omega arith) (omega arith)
     number_of x v (boxed k header lt box cell (closure_in _ place small told few count all)) = number_high (49152 + k) 4 (omega arith) (omega arith) (omega arith)
-    number_of x v (boxed k header lt box cell (word_in _ all)) = number_high (49152 + k) 4 (omega arith) (omega arith) (omega arith)
+    number_of x v (boxed k header lt box cell (word_in _ fine all)) = number_high (49152 + k) 4 (omega arith) (omega arith) (omega arith)
 
     object_of : (x : ℕ) (v : Value) → Shows sh x v → Answers OBJECT_ACTS (drop 1 OBJECT_ACTS) x (object_word v) (limit v)
     object_of x v (number n lt) = object_low n (omega arith)
@@ -167,7 +167,7 @@ module _ (p : Program) (f w : ℕ) (memory typed output : List ℕ) (drawn : ℕ
     object_of x v (variable n lt) = let low = is.within n lt in object_high (32768 + sh.place n) 2 (omega arith) (omega arith) (omega arith)
     object_of x v (boxed k header lt box cell (pair_in _ a b one two head tail)) = object_high (49152 + k) 4 (omega arith) (omega arith) (omega arith)
     object_of x v (boxed k header lt box cell (closure_in _ place small told few count all)) = object_high (49152 + k) 4 (omega arith) (omega arith) (omega arith)
-    object_of x v (boxed k header lt box cell (word_in _ all)) = object_high (49152 + k) 4 (omega arith) (omega arith) (omega arith)
+    object_of x v (boxed k header lt box cell (word_in _ fine all)) = object_high (49152 + k) 4 (omega arith) (omega arith) (omega arith)
 
     simple_of : (x : ℕ) (v : Value) → Shows sh x v → Answers SIMPLE_ACTS (drop 1 SIMPLE_ACTS) x (simple_word v) (limit v)
     simple_of x v (number n lt) = simple_low n (omega arith)
@@ -177,7 +177,7 @@ module _ (p : Program) (f w : ℕ) (memory typed output : List ℕ) (drawn : ℕ
     simple_of x v (variable n lt) = let low = is.within n lt in simple_high (32768 + sh.place n) 2 (omega arith) (omega arith) (omega arith)
     simple_of x v (boxed k header lt box cell (pair_in _ a b one two head tail)) = simple_high (49152 + k) 4 (omega arith) (omega arith) (omega arith)
     simple_of x v (boxed k header lt box cell (closure_in _ place small told few count all)) = simple_high (49152 + k) 4 (omega arith) (omega arith) (omega arith)
-    simple_of x v (boxed k header lt box cell (word_in _ all)) = simple_high (49152 + k) 4 (omega arith) (omega arith) (omega arith)
+    simple_of x v (boxed k header lt box cell (word_in _ fine all)) = simple_high (49152 + k) 4 (omega arith) (omega arith) (omega arith)
 
     -- A routine looks its local up first.
     abbrev walks_first : List Act → List Act

@@ -210,7 +210,7 @@ module _ (io : CopyingOut) where
           of_closure f m k j y z place spent most vs lt few_places c many all absent
           (λ m' i x'' a' low' le' s' less absent'. heads m' i x'' a' (k ∷ ks) low' le' s' (under ks a' k (Node (Closure place) vs) lt box less below) (omega arith) (less []) absent')
           low le (omega arith)
-      filled f m j y z spent most ks (word_in {letters = xs} k all) lt box c below few absent heads tails low le cheap =
+      filled f m j y z spent most ks (word_in {letters = xs} k fine all) lt box c below few absent heads tails low le cheap =
           let is_row : words_of (leaf (Unknown xs)) ≡ (32769 + length xs) ∷ xs = ap (λ (l : List ℕ). (32769 + length xs) ∷ l) (ap (map cell_word) (append-nil (map cell.Char xs)) ∙ chars_are xs) in
           subst (λ (r : List ℕ). (Out io) f (drop 7 COPY_OUT_ACTS) m (49152 + k) j y z r spent most) (sym is_row) (of_word f m k j y z spent most xs lt c all low le (omega arith))
 

@@ -23,7 +23,7 @@ mutual
   filled_formed : {sh : Shape} {k header : ℕ} {v : Value} → Filled sh k header v → Formed sh.captures v
   filled_formed (pair_in k x y one two s q) = (tt, (shows_formed s, (shows_formed q, tt)))
   filled_formed (closure_in k place small told few one all) = ((small, told, few), all_formed all)
-  filled_formed (word_in k all) = (tt, tt)
+  filled_formed (word_in k fine all) = (fine, tt)
 
   all_formed : {sh : Shape} {k : ℕ} {vs : Values} → AllShow sh k vs → AllFormed sh.captures vs
   all_formed (no_more k) = tt

@@ -51,7 +51,7 @@ module _ (io : LookingThrough) where
   box f b c ks (closure_in {vs = vs} k place small told captured many all) lt at cell below few absent heads tails =
       (closure io) f k b c place vs lt small cell many all
       ((loops io) f k (1 + place) (k + 3) vs (Node (Closure place) vs) refl all (parts_smaller S (Closure place) vs) absent (λ x a sa smaller absent'. heads x a (k ∷ ks) sa (under ks a k (Node (Closure place) vs) lt at smaller below) (omega arith) (smaller []) absent'))
-  box f b c ks (word_in {letters = xs} k all) lt at cell below few absent heads tails = let low = letters_low is (k + 3) xs (omega arith) all in (unknown io) (suc f) k b c (length xs) lt (omega arith) cell
+  box f b c ks (word_in {letters = xs} k fine all) lt at cell below few absent heads tails = let low = letters_low is (k + 3) xs (omega arith) all in (unknown io) (suc f) k b c (length xs) lt (omega arith) cell
 
   node : {u : ℕ} (f b c : ℕ) (g : Label) (vs : Values) (ks : List ℕ) → Shows sh u (Node g vs) → Below sh S ks (Node g vs) → 3335 ≤ suc f + length ks → (AllAbsent io) vs → Heads f (Node g vs) → Tails (suc f) ks (Node g vs) → (Goes io) (suc f) u b c ((all_full io) vs) ((seen_all io) vs).1
   node f b c g vs ks (number m lt) below few absent heads tails = (simple io) (suc f) m b c (omega arith)

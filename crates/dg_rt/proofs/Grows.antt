@@ -23,7 +23,7 @@ mutual
   grown_filled : {sh sh' : Shape} → Grown sh sh' → {k header : ℕ} {v : Value} → Filled sh k header v → Filled sh' k header v
   grown_filled g (pair_in k x y one two s q) = pair_in k x y (grown_cell g one) (grown_cell g two) (grown_shows g s) (grown_shows g q)
   grown_filled g (closure_in k place small told captured one all) = let e = g.told place in closure_in k place small (told ∙ sym e) (omega arith) (grown_cell g one) (grown_all g all)
-  grown_filled g (word_in {letters = xs} k all) = word_in k (grown_letters g (k + 3) xs all)
+  grown_filled g (word_in {letters = xs} k fine all) = word_in k fine (grown_letters g (k + 3) xs all)
 
   pub grown_all : {sh sh' : Shape} → Grown sh sh' → {k : ℕ} {vs : Values} → AllShow sh k vs → AllShow sh' k vs
   grown_all g (no_more k) = no_more k

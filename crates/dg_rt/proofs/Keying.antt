@@ -98,7 +98,7 @@ module _ (p : Program) (f w : ℕ) (memory typed output : List ℕ) (drawn : ℕ
             (done (computes p (two y top) (two y key) 2 functions.Add (atoms.Var 2) (atoms.Num 49151) top 49151 key (get_2 p memory y top 0 0 typed drawn output) refl (added p memory top 49151 key (omega arith)) (set_2 p memory y top 0 0 key typed drawn output))
             (returns (get_2 p memory y key 0 0 typed drawn output)))));
       }
-  by_inside k header v lt cell (word_in {letters = xs} _ all) =
+  by_inside k header v lt cell (word_in {letters = xs} _ fine all) =
       let y = 49152 + k in
       let top = 32768 + length xs in
       let low = letters_low is (k + 3) xs (omega arith) all in

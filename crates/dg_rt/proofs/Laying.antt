@@ -356,7 +356,7 @@ module _ (sh : Shape) (is : IsShape sh) (low : (x : ℕ) → x < sh.vars → sh.
       let k = lo + all_copy_cells NoMore in
       let b = q.below in
       boxed k (32768 + length xs) (omega arith) (q.boxes_are k (omega arith) (omega arith) ∙ own_box lo n (Unknown xs) NoMore k refl) (subst (Cell copied k) l.0 (box_cell lo n (Unknown xs) NoMore q k (omega arith) (omega arith)))
-      (word_in k (letters_show (k + 3) xs (λ j from to. box_cell lo n (Unknown xs) NoMore q j (omega arith) (omega arith)) l.1))
+      (word_in k lt (letters_show (k + 3) xs (λ j from to. box_cell lo n (Unknown xs) NoMore q j (omega arith) (omega arith)) l.1))
   node_shown f us lo n q lt l rows = absurd lt
 
   mutual

@@ -25,9 +25,9 @@ use Rattle.dg_rt.specs.declared.pieces.TheConstants.{LETTER_ACTS, PRINT_LETTERS_
 use Rattle.dg_rt.specs.Cells.{compared, with_cell, replaced, Holds}
 use Rattle.dg_rt.specs.Areas.{heap_at, state, IsMapped}
 use Rattle.dg_rt.specs.RunTime.{HasRunTime}
-use Rattle.dg_rt.specs.Shapes.{Shape, IsShape, Cell, Letters, Shows, boxed, Filled, word_in, Stands}
+use Rattle.dg_rt.specs.Shapes.{Shape, IsShape, Cell, Letters, ArePrinted, Shows, boxed, Filled, word_in, Stands}
 use Rattle.dg_rt.specs.Gaps.{last_word, Meets, Separates, PrintsFirst}
-use Rattle.dg_rt.specs.Pieces.{PrintsPiece, ArePrinted, LettersWork}
+use Rattle.dg_rt.specs.Pieces.{PrintsPiece, LettersWork}
 use Rattle.dg_rt.proofs.Cells.{reads_cell, other_cell, same_cell}
 use Rattle.dg_rt.proofs.Encoding.{EndsAs, encoded, last_in, AllSmall, text_ends, capital_on}
 use Rattle.dg_rt.proofs.First.{printed, first_works, calls_first}
@@ -376,7 +376,7 @@ module _ (p : Program) (has : HasRunTime p) (f w : ℕ) (some : 1 ≤ f) (enough
     prints_word (c ∷ cs) e lie fine = prints_some c cs e lie fine
 
 pub letters_work : LettersWork
-letters_work p has f w some enough memory typed output drawn sh is cells h S st x letters (boxed k header lt box cell (word_in _ all)) fine m meets =
+letters_work p has f w some enough memory typed output drawn sh is cells h S st x letters (boxed k header lt box cell (word_in _ fine all)) m meets =
     let top = is.room in
     let low = letters_low is (k + 3) letters (omega arith) all in
     prints_word p has f w some enough typed drawn memory output cells h m meets k (length letters) (st.fixed k (omega arith) cell.fixed ∙ cell.is) low letters refl (lie_at sh is cells S st (k + 3) k letters refl all) fine

@@ -287,7 +287,7 @@ module _ (p : Program) (has : HasRunTime p) (sh : Shape) (is : IsShape sh) (memo
       box f c d ks (closure_in {vs = vs} k place small told captured many all) lt at cell below few heads tails =
           closure f k c d place vs lt small cell many all
           (loops f k (1 + place) (k + 3) vs (Node (Closure place) vs) refl all (parts_smaller S (Closure place) vs) (λ x a sa less. heads x a (k ∷ ks) sa (under ks a k (Node (Closure place) vs) lt at less below) (omega arith) (less [])))
-      box f c d ks (word_in {letters = xs} k all) lt at cell below few heads tails = let low = letters_low is (k + 3) xs (omega arith) all in unknown (suc f) k c d (length xs) lt (omega arith) cell
+      box f c d ks (word_in {letters = xs} k fine all) lt at cell below few heads tails = let low = letters_low is (k + 3) xs (omega arith) all in unknown (suc f) k c d (length xs) lt (omega arith) cell
 
   -- a value that isn't walked
   unwalked : {u : ℕ} (f c d : ℕ) (g : Label) (vs : Values) → Shows sh u (Node g vs) → Goes (suc f) u c d (look_all vs) → Occurs p (suc f) (drop 1 OCCURS_ACTS) memory typed output drawn ref u c d (look (Node g vs))

@@ -37,17 +37,17 @@ module _ (g : Setting) (f : ℕ) where
           | inl e ↦ closures g f S m a b k k' x y z place place' vs us ks ls same deep small e c c' one one' all all' inside inside' ea eb heads (as_many vs us) refl
           | inr ne ↦ other_headers g f S m a b k k' (1 + place) (1 + place') x y z inside.small inside'.small c c' (λ (e : 1 + place ≡ 1 + place'). ne (omega arith)) (rw (ea, eb, ne_eqb place place' ne) refl)
         ]
-    boxes x y z ks ls same deep (word_in {letters = xs} k all) (word_in {letters = ys} k' all') c c' inside inside' ea eb heads tails =
+    boxes x y z ks ls same deep (word_in {letters = xs} k fine all) (word_in {letters = ys} k' fine' all') c c' inside inside' ea eb heads tails =
         elim (cases_eq (length xs) (length ys)) [
           | inl e ↦ words g f S m a b k k' x y z xs ys inside.small inside'.small e c c' all all' ea eb (same_spelling xs ys) refl
           | inr ne ↦ other_headers g f S m a b k k' (32768 + length xs) (32768 + length ys) x y z inside.small inside'.small c c' (λ (e : 32768 + length xs ≡ 32768 + length ys). ne (omega arith)) (rw (ea, eb, other_length xs ys ne) refl)
         ]
     boxes x y z ks ls same deep (pair_in k hd tl one two s q) (closure_in k' place' small' count' few_captured' one' all') c c' inside inside' ea eb heads tails = other_headers g f S m a b k k' 0 (1 + place') x y z inside.small inside'.small c c' (λ (e : 0 ≡ 1 + place'). (omega arith)) (rw (ea, eb) refl)
-    boxes x y z ks ls same deep (pair_in k hd tl one two s q) (word_in {letters = ys} k' all') c c' inside inside' ea eb heads tails = other_headers g f S m a b k k' 0 (32768 + length ys) x y z inside.small inside'.small c c' (λ (e : 0 ≡ 32768 + length ys). (omega arith)) (rw (ea, eb) refl)
+    boxes x y z ks ls same deep (pair_in k hd tl one two s q) (word_in {letters = ys} k' fine' all') c c' inside inside' ea eb heads tails = other_headers g f S m a b k k' 0 (32768 + length ys) x y z inside.small inside'.small c c' (λ (e : 0 ≡ 32768 + length ys). (omega arith)) (rw (ea, eb) refl)
     boxes x y z ks ls same deep (closure_in k place small count few_captured one all) (pair_in k' hd' tl' one' two' s' q') c c' inside inside' ea eb heads tails = other_headers g f S m a b k k' (1 + place) 0 x y z inside.small inside'.small c c' (λ (e : 1 + place ≡ 0). (omega arith)) (rw (ea, eb) refl)
-    boxes x y z ks ls same deep (closure_in k place small count few_captured one all) (word_in {letters = ys} k' all') c c' inside inside' ea eb heads tails = other_headers g f S m a b k k' (1 + place) (32768 + length ys) x y z inside.small inside'.small c c' (λ (e : 1 + place ≡ 32768 + length ys). (omega arith)) (rw (ea, eb) refl)
-    boxes x y z ks ls same deep (word_in {letters = xs} k all) (pair_in k' hd' tl' one' two' s' q') c c' inside inside' ea eb heads tails = other_headers g f S m a b k k' (32768 + length xs) 0 x y z inside.small inside'.small c c' (λ (e : 32768 + length xs ≡ 0). (omega arith)) (rw (ea, eb) refl)
-    boxes x y z ks ls same deep (word_in {letters = xs} k all) (closure_in k' place' small' count' few_captured' one' all') c c' inside inside' ea eb heads tails = other_headers g f S m a b k k' (32768 + length xs) (1 + place') x y z inside.small inside'.small c c' (λ (e : 32768 + length xs ≡ 1 + place'). (omega arith)) (rw (ea, eb) refl)
+    boxes x y z ks ls same deep (closure_in k place small count few_captured one all) (word_in {letters = ys} k' fine' all') c c' inside inside' ea eb heads tails = other_headers g f S m a b k k' (1 + place) (32768 + length ys) x y z inside.small inside'.small c c' (λ (e : 1 + place ≡ 32768 + length ys). (omega arith)) (rw (ea, eb) refl)
+    boxes x y z ks ls same deep (word_in {letters = xs} k fine all) (pair_in k' hd' tl' one' two' s' q') c c' inside inside' ea eb heads tails = other_headers g f S m a b k k' (32768 + length xs) 0 x y z inside.small inside'.small c c' (λ (e : 32768 + length xs ≡ 0). (omega arith)) (rw (ea, eb) refl)
+    boxes x y z ks ls same deep (word_in {letters = xs} k fine all) (closure_in k' place' small' count' few_captured' one' all') c c' inside inside' ea eb heads tails = other_headers g f S m a b k k' (32768 + length xs) (1 + place') x y z inside.small inside'.small c c' (λ (e : 32768 + length xs ≡ 1 + place'). (omega arith)) (rw (ea, eb) refl)
 
     -- ---- one level
 

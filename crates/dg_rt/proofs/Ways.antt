@@ -84,16 +84,16 @@ same_words a_nil a_nil = refl
 pub simple_no_box : {sh : Shape} {u k header : ℕ} {g f : Label} {vs : Values} → Simple u g → Filled sh k header (Node f vs) → (same_label g f ≡ false) × (same_label f g ≡ false)
 simple_no_box (a_number n lt) (pair_in k x y a b c d) = (refl, refl)
 simple_no_box (a_number n lt) (closure_in k place a t u b c) = (refl, refl)
-simple_no_box (a_number n lt) (word_in k a) = (refl, refl)
+simple_no_box (a_number n lt) (word_in k fine a) = (refl, refl)
 simple_no_box (a_word n lt) (pair_in k x y a b c d) = (refl, refl)
 simple_no_box (a_word n lt) (closure_in k place a t u b c) = (refl, refl)
-simple_no_box (a_word n lt) (word_in k a) = (refl, refl)
+simple_no_box (a_word n lt) (word_in k fine a) = (refl, refl)
 simple_no_box (an_object n lt) (pair_in k x y a b c d) = (refl, refl)
 simple_no_box (an_object n lt) (closure_in k place a t u b c) = (refl, refl)
-simple_no_box (an_object n lt) (word_in k a) = (refl, refl)
+simple_no_box (an_object n lt) (word_in k fine a) = (refl, refl)
 simple_no_box a_nil (pair_in k x y a b c d) = (refl, refl)
 simple_no_box a_nil (closure_in k place a t u b c) = (refl, refl)
-simple_no_box a_nil (word_in k a) = (refl, refl)
+simple_no_box a_nil (word_in k fine a) = (refl, refl)
 
 -- ---- spellings and numbers of parts
 

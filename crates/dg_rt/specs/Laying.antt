@@ -4,17 +4,18 @@ use Rattle.std.specs.Prelude.{◌≡◌, ℕ, suc, ◌+◌, ◌<◌, List, [], �
 use Rattle.dg_meaning.specs.Values.{Label, Num, Word, Unknown, Object, Nil, Pair, Closure, Value, Var, Node, Values, NoMore, More}
 use Rattle.dg_meaning.specs.ValueCells.{count_of}
 use Rattle.dg_meaning.specs.Copies.{vars_in_all, copies_from, all_copy_cells}
+use Rattle.dg_rt.specs.Shapes.{ArePrinted}
 
 -- ## Which values have a word
 
--- A label with such parts, where it is told how many values the closure of each place captures: a number, word, object or empty list without any, a
--- head and a tail, or what a closure captures.
+-- A label with such parts, where it is told how many values the closure of each place captures: a number, word, object or empty list without any, an
+-- unknown word of letters that a story prints, a head and a tail, or what a closure captures.
 abbrev pub FormedAs : (ℕ → ℕ) → Label → Values → Type 0
 FormedAs captures (Num n) NoMore = n < 16384
 FormedAs captures (Word n) NoMore = n < 8192
 FormedAs captures (Object n) NoMore = n < 4096
 FormedAs captures Nil NoMore = Unit {0}
-FormedAs captures (Unknown letters) NoMore = Unit {0}
+FormedAs captures (Unknown letters) NoMore = ArePrinted letters
 FormedAs captures Pair (More h (More t NoMore)) = Unit {0}
 FormedAs captures (Closure place) vs = (place < 16384) × (count_of vs ≡ captures place) × (captures place < 256)
 FormedAs captures f vs = ⊥

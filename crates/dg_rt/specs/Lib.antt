@@ -21,6 +21,7 @@ pub mod Arithmetic
 pub mod Tables
 pub mod Gaps
 pub mod Pieces
+pub mod Prints
 pub mod Spaces
 pub mod Moves
 pub mod Fits

@@ -5,9 +5,8 @@ use Rattle.std.specs.Fmt.{decimal}
 use Rattle.dg_meaning.specs.Values.{Unknown, leaf}
 use Rattle.dg_meaning.specs.Substitutions.{Substitution}
 use Rattle.dg_meaning.specs.World.{Piece}
-use Rattle.dg_meaning.specs.Pieces.{shown_letter, word_text}
+use Rattle.dg_meaning.specs.Pieces.{word_text}
 use Rattle.dg_meaning.specs.Render.{spaces_from, upper, Met, met_behind, written}
-use Rattle.z_model.specs.Zscii.{is_character}
 use Rattle.z_lang.specs.declared.act.Act.{Act}
 use Rattle.z_lang.specs.State.{Program}
 use Rattle.z_lang.specs.Runs.{ActsRun as Runs, Returns}
@@ -46,16 +45,11 @@ NumberWorks = (p : Program) → HasRunTime p → (f w : ℕ) → 1 ≤ f → 1 �
 
 -- ## Letters
 
--- Each letter of an unknown word is shown as a character that a story prints.
-abbrev pub ArePrinted : List ℕ → Type 0
-ArePrinted [] = Unit {0}
-ArePrinted (c ∷ cs) = ((c < 65536) × (is_character (shown_letter c) ≡ true)) × ArePrinted cs
-
 -- So it is with the letters of an unknown word, in 8 instructions each.
 abbrev pub LettersWork : Type 0
 LettersWork = (p : Program) → HasRunTime p → (f w : ℕ) → 1 ≤ f → 1 ≤ w → (memory typed output : List ℕ) (drawn : ℕ) (sh : Shape) →
     IsShape sh → (cells : ℕ → ℕ) → Holds p.world.layout memory cells → (S : Substitution) → Stands sh cells S → (x : ℕ)
-    (letters : List ℕ) → Shows sh x (leaf (Unknown letters)) → ArePrinted letters → (m : Met) → Meets cells m →
+    (letters : List ℕ) → Shows sh x (leaf (Unknown letters)) → (m : Met) → Meets cells m →
     PrintsPiece p f w PRINT_LETTERS_ACTS memory (x ∷ 0 ∷ 0 ∷ []) typed output drawn cells m (word_text letters) (8 * length letters + 31)
 
 -- The routines of pieces do so.

@@ -16,6 +16,7 @@ use Rattle.dg_rt.specs.declared.operands.TheConstants.{NUMBER_ACTS, OBJECT_ACTS,
 use Rattle.dg_rt.specs.declared.world.TheConstants.{VALUE_ACTS, SET_ACTS, CLEAR_ACTS, CLEAR_ALL_ACTS, FLAG_ACTS, SET_FLAG_ACTS, CLEAR_FLAGS_ACTS}
 use Rattle.dg_rt.specs.declared.gaps.TheConstants.{SEPARATE_ACTS, FIRST_ACTS, ASK_SPACES_ACTS}
 use Rattle.dg_rt.specs.declared.pieces.TheConstants.{PRINT_MARK_ACTS, PRINT_NUMBER_ACTS, LETTER_ACTS, PRINT_LETTERS_ACTS}
+use Rattle.dg_rt.specs.declared.printing.TheConstants.{LIST_KIND_ACTS, PRINT_PIECE_ACTS, PRINT_VALUE_ACTS}
 use Rattle.dg_rt.specs.declared.keeping.TheConstants.{MOVE_ACTS, CELLS_ACTS}
 use Rattle.dg_rt.specs.declared.conditions.TheConstants.{IF_NUMBER_ACTS, IF_WORD_ACTS, IF_UNKNOWN_ACTS, IF_LIST_ACTS, IF_EMPTY_ACTS, IF_NON_EMPTY_ACTS, IF_BOUND_ACTS, IF_FULL_ACTS, IF_UNBOUND_ACTS, IF_LESS_ACTS}
 use Rattle.dg_rt.specs.declared.arithmetic.TheConstants.{PLUS_ACTS, MINUS_ACTS, TIMES_ACTS, DIVIDE_ACTS, MODULO_ACTS, THROW_ACTS}
@@ -95,12 +96,16 @@ arithmetic_routines =
     routine_of 3 PLUS_ACTS ∷ routine_of 3 MINUS_ACTS ∷ routine_of 3 TIMES_ACTS ∷ routine_of 3 DIVIDE_ACTS ∷ routine_of 3 MODULO_ACTS
     ∷ routine_of 3 THROW_ACTS ∷ []
 
+-- Those that print values.
+abbrev pub value_printing_routines : List Routine
+value_printing_routines = routine_of 1 LIST_KIND_ACTS ∷ routine_of 4 PRINT_PIECE_ACTS ∷ routine_of 4 PRINT_VALUE_ACTS ∷ []
+
 -- All of them. The first has number 1, since a story begins with routine 0.
 abbrev pub runtime : List Routine
 runtime =
     value_routines ++ (closing_routines ++ (frame_routines ++ (rule_routines ++ (query_routines ++ (operand_routines
     ++ (world_routines ++ (printing_routines ++ (keeping_routines ++ (letter_routines ++ (space_routines
-    ++ (condition_routines ++ arithmetic_routines)))))))))))
+    ++ (condition_routines ++ (arithmetic_routines ++ value_printing_routines))))))))))))
 
 -- The run-time stands in a program: its areas may be written, and each routine has its number.
 pub record HasRunTime (p : Program) : Type 0 where

@@ -1,11 +1,13 @@
 -- What words of memory stand for: values, and a substitution. Hold it against docs/LANGUAGE.md, where it says what a value is, and the Dialog manual,
 -- chapter "Choice points" (on unification).
-use Rattle.std.specs.Prelude.{◌≡◌, ◌≢◌, ℕ, suc, ◌+◌, ◌<◌, ◌≤◌, List, [], ◌∷◌, length, Option, Some, None}
+use Rattle.std.specs.Prelude.{◌≡◌, ◌≢◌, ℕ, suc, ◌+◌, ◌<◌, ◌≤◌, List, [], ◌∷◌, length, Option, Some, None, true}
 use Rattle.dg_meaning.specs.Values.{Num, Word, Unknown, Object, Nil, Closure, Value, Var, Node, Values, NoMore, More, leaf, pair}
 use Rattle.dg_meaning.specs.ValueCells.{count_of}
+use Rattle.dg_meaning.specs.Pieces.{shown_letter}
 use Rattle.dg_meaning.specs.Substitutions.{Substitution}
 use Rattle.dg_meaning.specs.inside.Substitutions.{IsSubstitution}
 use Rattle.dg_meaning.specs.inside.Unifiers.{binding_of}
+use Rattle.z_model.specs.Zscii.{is_character}
 use Rattle.dg_rt.specs.Areas.{heap_at}
 
 -- ## Shapes
@@ -42,6 +44,11 @@ abbrev pub Letters : Shape → ℕ → List ℕ → Type 0
 Letters sh k [] = Unit {0}
 Letters sh k (x ∷ xs) = Cell sh k x × Letters sh (suc k) xs
 
+-- Each letter of an unknown word is shown as a character that a story prints.
+abbrev pub ArePrinted : List ℕ → Type 0
+ArePrinted [] = Unit {0}
+ArePrinted (c ∷ cs) = ((c < 65536) × (is_character (shown_letter c) ≡ true)) × ArePrinted cs
+
 -- ## Values
 
 mutual
@@ -61,7 +68,7 @@ mutual
     pair_in : {h t : Value} (k x y : ℕ) → Cell sh (k + 1) x → Cell sh (k + 2) y → Shows sh x h → Shows sh y t → Filled sh k 0 (pair h t)
     closure_in : {vs : Values} (k place : ℕ) → place < 16384 → count_of vs ≡ sh.captures place → sh.captures place < 256 →
         Cell sh (k + 1) (count_of vs) → AllShow sh (k + 3) vs → Filled sh k (1 + place) (Node (Closure place) vs)
-    word_in : {letters : List ℕ} (k : ℕ) → Letters sh (k + 3) letters → Filled sh k (32768 + length letters) (leaf (Unknown letters))
+    word_in : {letters : List ℕ} (k : ℕ) → ArePrinted letters → Letters sh (k + 3) letters → Filled sh k (32768 + length letters) (leaf (Unknown letters))
 
   -- Cells from a place on stand for values.
   pub data AllShow (sh : Shape) : ℕ → Values → Type 0 where

@@ -13,6 +13,7 @@ ghost use Rattle.dg_rt.specs.Spaces.{SpacesWork};
 ghost use Rattle.dg_rt.specs.Moves.{CellsWorks, MoveWorks};
 ghost use Rattle.dg_rt.specs.Operands.{FullWorks, OperandsWork};
 ghost use Rattle.dg_rt.specs.Pieces.{PiecesWork};
+ghost use Rattle.dg_rt.specs.Prints.{PrintWorks};
 ghost use Rattle.dg_rt.specs.Queries.{AskWorks, BodyWorks, LeaveWorks, TailCallWorks};
 ghost use Rattle.dg_rt.specs.Rules.{FoundWorks, KeyWorks, MatchWorks, MatchedWorks, NoneWorks};
 ghost use Rattle.dg_rt.specs.Tables.{WorldWorks};
@@ -212,4 +213,9 @@ pub fn runtime_fits()
 /// The routine that asks for so many spaces does so, or fails.
 pub fn spaces_work()
     ensures { SpacesWork }
+{}
+
+/// The routine that prints a value does so.
+pub fn print_works()
+    ensures { PrintWorks }
 {}

@@ -209,3 +209,12 @@ pub const MODULO: u16 = 69;
 
 /// A number that is thrown, from one to another.
 pub const THROW: u16 = 70;
+
+/// What of a list a value is.
+pub const LIST_KIND: u16 = 71;
+
+/// Prints a value that is no list.
+pub const PRINT_PIECE: u16 = 72;
+
+/// Prints a value.
+pub const PRINT_VALUE: u16 = 73;

@@ -19,6 +19,7 @@ use crate::heap::CHARGE_ACTS;
 use crate::keeping::{CELLS_ACTS, MOVE_ACTS};
 use crate::operands::{FULL_ACTS, NUMBER_ACTS, OBJECT_ACTS, SIMPLE_ACTS};
 use crate::pieces::{LETTER_ACTS, PRINT_LETTERS_ACTS, PRINT_MARK_ACTS, PRINT_NUMBER_ACTS};
+use crate::printing::{LIST_KIND_ACTS, PRINT_PIECE_ACTS, PRINT_VALUE_ACTS};
 use crate::queries::{ASK_ACTS, BODY_ACTS, LEAVE_ACTS, TAIL_CALL_ACTS};
 use crate::rules::{FOUND_ACTS, KEY_OF_ACTS, MATCH_ACTS, MATCHED_ACTS, NONE_ACTS};
 use crate::unify::{BIND_ACTS, OCCURS_ACTS, UNDO_ACTS, UNIFY_ACTS, WALK_ACTS};
@@ -205,6 +206,16 @@ impl Writer {
         self.put(3, &THROW_ACTS)?;
         Ok(())
     }
+
+    // Those of values that are printed.
+    fn put_values_printed(&mut self) -> Result<(), AllocError>
+        ensures { OnOk result (self.new.all ≡ self.old.all ++ spec.value_printing_routines) }
+    {
+        self.put(1, &LIST_KIND_ACTS)?;
+        self.put(4, &PRINT_PIECE_ACTS)?;
+        self.put(4, &PRINT_VALUE_ACTS)?;
+        Ok(())
+    }
 }
 
 /// All of them, in the order of their numbers, the first of which is 1: a story begins with routine 0.
@@ -228,5 +239,6 @@ pub fn runtime(alloc: Global) -> Result<Items<Routine>, AllocError>
     writer.put_spaces()?;
     writer.put_conditions()?;
     writer.put_arithmetic()?;
+    writer.put_values_printed()?;
     Ok(writer.all)
 }
