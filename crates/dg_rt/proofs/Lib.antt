@@ -68,3 +68,9 @@ pub mod NoNumbers
 pub mod Deciding
 pub mod TwoNumbers
 pub mod Calculating
+pub mod Counted
+pub mod Points
+pub mod ListKind
+pub mod PiecePrinted
+pub mod PrintSteps
+pub mod PrintBound

@@ -1,7 +1,7 @@
 -- Where the routines of the run-time stand.
 use Rattle.std.proofs.Common.{◌≡◌, Some, refl}
 use Rattle.z_lang.specs.State.{Program}
-use Rattle.dg_rt.specs.declared.numbers.TheConstants.{WALK, BIND, OCCURS, UNIFY, UNDO, COPY_OUT, COPY_IN, NEWLINE, HEAP_LIMIT, TRAIL_LIMIT, CUT, KEY_OF, NUMBER, FULL, FLAG, SET_FLAG, SEPARATE, FIRST, LETTER}
+use Rattle.dg_rt.specs.declared.numbers.TheConstants.{WALK, BIND, OCCURS, UNIFY, UNDO, COPY_OUT, COPY_IN, NEWLINE, HEAP_LIMIT, TRAIL_LIMIT, CUT, KEY_OF, NUMBER, FULL, FLAG, SET_FLAG, SEPARATE, FIRST, PRINT_MARK, PRINT_NUMBER, LETTER, PRINT_LETTERS, LIST_KIND, PRINT_PIECE, PRINT_VALUE}
 use Rattle.dg_rt.specs.declared.unify.TheConstants.{WALK_ACTS, BIND_ACTS, OCCURS_ACTS, UNIFY_ACTS, UNDO_ACTS}
 use Rattle.dg_rt.specs.declared.copies.TheConstants.{COPY_OUT_ACTS, COPY_IN_ACTS}
 use Rattle.dg_rt.specs.declared.closings.TheConstants.{NEWLINE_ACTS, HEAP_LIMIT_ACTS, TRAIL_LIMIT_ACTS}
@@ -10,7 +10,8 @@ use Rattle.dg_rt.specs.declared.rules.TheConstants.{KEY_OF_ACTS}
 use Rattle.dg_rt.specs.declared.operands.TheConstants.{NUMBER_ACTS, FULL_ACTS}
 use Rattle.dg_rt.specs.declared.world.TheConstants.{FLAG_ACTS, SET_FLAG_ACTS}
 use Rattle.dg_rt.specs.declared.gaps.TheConstants.{SEPARATE_ACTS, FIRST_ACTS}
-use Rattle.dg_rt.specs.declared.pieces.TheConstants.{LETTER_ACTS}
+use Rattle.dg_rt.specs.declared.pieces.TheConstants.{PRINT_MARK_ACTS, PRINT_NUMBER_ACTS, LETTER_ACTS, PRINT_LETTERS_ACTS}
+use Rattle.dg_rt.specs.declared.printing.TheConstants.{LIST_KIND_ACTS, PRINT_PIECE_ACTS, PRINT_VALUE_ACTS}
 use Rattle.dg_rt.specs.RunTime.{routine_of, HasRunTime}
 
 module _ (p : Program) (has : HasRunTime p) where
@@ -70,3 +71,21 @@ module _ (p : Program) (has : HasRunTime p) where
 
   pub letter_at : p.routine_at (p.names.routine LETTER) ≡ Some (routine_of 1 LETTER_ACTS)
   letter_at = has.each 51 (routine_of 1 LETTER_ACTS) refl
+
+  pub print_mark_at : p.routine_at (p.names.routine PRINT_MARK) ≡ Some (routine_of 1 PRINT_MARK_ACTS)
+  print_mark_at = has.each 47 (routine_of 1 PRINT_MARK_ACTS) refl
+
+  pub print_number_at : p.routine_at (p.names.routine PRINT_NUMBER) ≡ Some (routine_of 1 PRINT_NUMBER_ACTS)
+  print_number_at = has.each 48 (routine_of 1 PRINT_NUMBER_ACTS) refl
+
+  pub print_letters_at : p.routine_at (p.names.routine PRINT_LETTERS) ≡ Some (routine_of 3 PRINT_LETTERS_ACTS)
+  print_letters_at = has.each 52 (routine_of 3 PRINT_LETTERS_ACTS) refl
+
+  pub list_kind_at : p.routine_at (p.names.routine LIST_KIND) ≡ Some (routine_of 1 LIST_KIND_ACTS)
+  list_kind_at = has.each 70 (routine_of 1 LIST_KIND_ACTS) refl
+
+  pub print_piece_at : p.routine_at (p.names.routine PRINT_PIECE) ≡ Some (routine_of 4 PRINT_PIECE_ACTS)
+  print_piece_at = has.each 71 (routine_of 4 PRINT_PIECE_ACTS) refl
+
+  pub print_value_at : p.routine_at (p.names.routine PRINT_VALUE) ≡ Some (routine_of 4 PRINT_VALUE_ACTS)
+  print_value_at = has.each 72 (routine_of 4 PRINT_VALUE_ACTS) refl

@@ -1,0 +1,1 @@
+-- The routine that prints a value does so.

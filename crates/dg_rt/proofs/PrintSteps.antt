@@ -1,0 +1,1 @@
+-- The routine that prints a value: parts one after another.
