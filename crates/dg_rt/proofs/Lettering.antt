@@ -136,7 +136,7 @@ lie_still : (cells cells' : ℕ → ℕ) → ((k : ℕ) → 303 ≤ k → cells'
 lie_still cells cells' same j [] l = tt
 lie_still cells cells' same j (x ∷ xs) l = ((same (heap_at + (j + 3)) (omega arith) ∙ l.0.0, l.0.1), lie_still cells cells' same (suc j) xs l.1)
 
-shown_all_small : (cs : List ℕ) → ArePrinted cs → AllSmall (map shown_letter cs)
+pub shown_all_small : (cs : List ℕ) → ArePrinted cs → AllSmall (map shown_letter cs)
 shown_all_small [] h = tt
 shown_all_small (c ∷ cs) h = (shown_small c h.0.0, shown_all_small cs h.1)
 

@@ -74,7 +74,7 @@ module _ (g : Story) (has : HasRunTime g.p) (is : IsShape g.sh) (program : CoreP
   a_number : (n b : ℕ) → n < 16384 → Piecewise n b (decimal n)
   unfolding behind_label
   a_number n b lt =
-      prints_behind g (drop 7 PRINT_PIECE_ACTS) (loc n b) (decimal n ∷ []) (λ k. suc (suc k)) 2 24 110 (λ k. (omega arith)) (omega arith)
+      prints_behind g q (drop 7 PRINT_PIECE_ACTS) (loc n b) (decimal n ∷ []) (λ k. suc (suc k)) 2 24 110 (λ k. (omega arith)) (omega arith)
       (λ o s' k rest. passed (less n b 0 false (simple_is_positive n (omega arith))) (taken (less n b 16384 true (less_by n 16384 (omega arith) (omega arith) lt)) refl rest))
       (prints_last g {f' = 1} {w' = 1} (drop 9 PRINT_PIECE_ACTS) q (loc n b) (atoms.Routine PRINT_NUMBER) (args.One (atoms.Var 1)) (g.p.names.routine PRINT_NUMBER) (n, 0, 0) (routine_of 1 PRINT_NUMBER_ACTS) (decimal n) 19 24 refl
       (rw (get_1 g.p q.memory n words objects b g.typed g.drawn q.output) refl) (print_number_at g.p has) (omega arith) (omega arith) (omega arith)
@@ -89,7 +89,7 @@ module _ (g : Story) (has : HasRunTime g.p) (is : IsShape g.sh) (program : CoreP
   a_word n b lt =
       let x = 16384 + n in
       let text : ℕ → List ℕ = λ i. label_piece program (Word i) in
-      prints_behind g (drop 11 PRINT_PIECE_ACTS) (loc n b) (text n ∷ []) (λ k. suc (suc (suc (suc k)))) 4 103 110 (λ k. (omega arith)) (omega arith)
+      prints_behind g q (drop 11 PRINT_PIECE_ACTS) (loc n b) (text n ∷ []) (λ k. suc (suc (suc (suc k)))) 4 103 110 (λ k. (omega arith)) (omega arith)
       (λ o s' k rest. passed (less x b 0 false (simple_is_positive x (omega arith)))
       (passed (less x b 16384 false (not_less_by x 16384 (omega arith) (omega arith) (omega arith)))
       (taken (less x b 24576 true (less_by x 24576 (omega arith) (omega arith) (omega arith))) refl
@@ -102,7 +102,7 @@ module _ (g : Story) (has : HasRunTime g.p) (is : IsShape g.sh) (program : CoreP
   an_object n b lt =
       let x = 24576 + n in
       let text : ℕ → List ℕ = λ i. label_piece program (Object i) in
-      prints_behind g (drop 4 PRINT_PIECE_ACTS) (loc n b) (text n ∷ []) (λ k. suc (suc (suc (suc k)))) 4 103 110 (λ k. (omega arith)) (omega arith)
+      prints_behind g q (drop 4 PRINT_PIECE_ACTS) (loc n b) (text n ∷ []) (λ k. suc (suc (suc (suc k)))) 4 103 110 (λ k. (omega arith)) (omega arith)
       (λ o s' k rest. passed (less x b 0 false (simple_is_positive x (omega arith)))
       (passed (less x b 16384 false (not_less_by x 16384 (omega arith) (omega arith) (omega arith)))
       (passed (less x b 24576 false (not_less_by x 24576 (omega arith) (omega arith) (omega arith)))
@@ -115,7 +115,7 @@ module _ (g : Story) (has : HasRunTime g.p) (is : IsShape g.sh) (program : CoreP
   unfolding behind_label
   a_variable k b lt =
       let x = 32768 + k in
-      prints_behind g (drop 22 PRINT_PIECE_ACTS) (loc x b) ((36 ∷ []) ∷ []) (λ i. suc (suc i)) 2 24 110 (λ i. (omega arith)) (omega arith)
+      prints_behind g q (drop 22 PRINT_PIECE_ACTS) (loc x b) ((36 ∷ []) ∷ []) (λ i. suc (suc i)) 2 24 110 (λ i. (omega arith)) (omega arith)
       (λ o s' i rest. taken (less x b 0 true (reference_is_negative k (omega arith))) refl (taken (less x b 49152 true (reference k (omega arith))) refl rest))
       (mark_then g has f w (omega arith) (omega arith) PRINT_PIECE_ACTS (drop 23 PRINT_PIECE_ACTS) q (loc x b) 36 (omega arith) (omega arith) refl [] 1 24 (omega arith)
       (ends g f w PRINT_PIECE_ACTS (drop 24 PRINT_PIECE_ACTS) (behind g q (mark_prints g has q 36 (omega arith) (omega arith) refl)) (loc x b)))
@@ -138,8 +138,8 @@ module _ (g : Story) (has : HasRunTime g.p) (is : IsShape g.sh) (program : CoreP
       let x = 49152 + k in
       let header = 32768 + length letters in
       let many = text_counted (map shown_letter letters) (shown_all_small letters fine) in
-      let same = length-map shown_letter letters in
-      prints_behind g (drop 25 PRINT_PIECE_ACTS) (loc x header) (word_text letters ∷ []) (λ i. suc (suc (suc (suc i)))) 4 33 110 (λ i. (omega arith)) (omega arith)
+      let same = length-map letters shown_letter in
+      prints_behind g q (drop 25 PRINT_PIECE_ACTS) (loc x header) (word_text letters ∷ []) (λ i. suc (suc (suc (suc i)))) 4 33 110 (λ i. (omega arith)) (omega arith)
       (λ o s' i rest. to_header k header b (suc i) o s' lt c (taken (last_less x header true (high_is_negative (length letters) few)) refl rest))
       (prints_last g {f' = 1} {w' = 1} (drop 27 PRINT_PIECE_ACTS) q (loc x header) (atoms.Routine PRINT_LETTERS) (args.One (atoms.Var 1)) (g.p.names.routine PRINT_LETTERS) (x, 0, 0) (routine_of 3 PRINT_LETTERS_ACTS) (word_text letters) 31 33 refl
       (rw (get_1 g.p q.memory x words objects header g.typed g.drawn q.output) refl) (print_letters_at g.p has) (omega arith) (omega arith) (omega arith)

@@ -108,6 +108,7 @@ module _ (g : Story) where
       value g.p (at q locals) atom ≡ Some x → arguments g.p (at q locals) given ≡ Some xs → g.p.routine_at x ≡ Some r → f' < f → r.locals + w' ≤ w → most + most' + 1 ≤ total →
       (k : Prints f' w' r.body r.body q (routine_entered (at q locals) r.locals xs).locals ps most) → Prints f w body rest (behind q k) locals qs most' →
       Prints f w body (acts.Call None atom given ∷ rest) q locals (ps ++ qs) total
+  unfolding behind
   prints_then {f} {w} {f'} {w'} {body} rest q locals atom given x xs r ps qs most most' total e1 e2 e3 lt le enough k later =
       let few = k.few in
       let few' = later.few in
@@ -132,10 +133,10 @@ module _ (g : Story) where
       }
 
   -- Acts in front of them print nothing.
-  pub prints_behind : {f w : ℕ} {body acts' : List Act} {q : Point g} {locals' : List ℕ} (acts : List Act) (locals : List ℕ) (ps : List (List ℕ)) (total : ℕ → ℕ) (n most most' : ℕ) →
+  pub prints_behind : {f w : ℕ} {body acts' : List Act} {locals' : List ℕ} (q : Point g) (acts : List Act) (locals : List ℕ) (ps : List (List ℕ)) (total : ℕ → ℕ) (n most most' : ℕ) →
       ((k : ℕ) → total k ≤ n + k) → n + most ≤ most' → ((o : Outcome) (s' : State) (k : ℕ) → Runs g.p f w body acts (at q locals) o s' k → Runs g.p f w body acts' (at q locals') o s' (total k)) →
       Prints f w body acts q locals ps most → Prints f w body acts' q locals' ps most'
-  prints_behind {q = q} acts locals ps total n most most' bound le front r =
+  prints_behind q acts locals ps total n most most' bound le front r =
       let few = r.few in
       let more = bound r.count in
       record {
