@@ -45,13 +45,21 @@ pub const PRINT_PIECE_ACTS: [Act; 27] = [
     read!(4, HEADER, 1),
     when!(4, Less, Atom::Num(0), true, 4),
     // a closure
-    Act::Call(None, Atom::Routine(PRINT_MARK), Args::One(Atom::Num(b'{' as u16))),
+    Act::Call(
+        None,
+        Atom::Routine(PRINT_MARK),
+        Args::One(Atom::Num(b'{' as u16)),
+    ),
     say!(b'}'),
     Act::Copy(LAST, Atom::Num(2)),
     Act::Return(Atom::Num(0)),
     // a variable
     Act::Label(3),
-    Act::Call(None, Atom::Routine(PRINT_MARK), Args::One(Atom::Num(b'$' as u16))),
+    Act::Call(
+        None,
+        Atom::Routine(PRINT_MARK),
+        Args::One(Atom::Num(b'$' as u16)),
+    ),
     Act::Return(Atom::Num(0)),
     // an unknown word
     Act::Label(4),
@@ -64,23 +72,47 @@ pub const PRINT_VALUE_ACTS: [Act; 20] = [
     call!(1, WALK, 1),
     call!(4, LIST_KIND, 1),
     when!(4, Equal, Atom::Num(0), false, 0),
-    Act::Call(None, Atom::Routine(PRINT_PIECE), Args::Three(Atom::Var(1), Atom::Var(2), Atom::Var(3))),
+    Act::Call(
+        None,
+        Atom::Routine(PRINT_PIECE),
+        Args::Three(Atom::Var(1), Atom::Var(2), Atom::Var(3)),
+    ),
     Act::Return(Atom::Num(0)),
     // a list: its elements one after another
     Act::Label(0),
-    Act::Call(None, Atom::Routine(PRINT_MARK), Args::One(Atom::Num(b'[' as u16))),
+    Act::Call(
+        None,
+        Atom::Routine(PRINT_MARK),
+        Args::One(Atom::Num(b'[' as u16)),
+    ),
     Act::Label(1),
     when!(4, Equal, Atom::Num(1), true, 2),
     read!(4, HEAD, 1),
-    Act::Call(None, Atom::Routine(PRINT_VALUE), Args::Three(Atom::Var(4), Atom::Var(2), Atom::Var(3))),
+    Act::Call(
+        None,
+        Atom::Routine(PRINT_VALUE),
+        Args::Three(Atom::Var(4), Atom::Var(2), Atom::Var(3)),
+    ),
     read!(1, TAIL, 1),
     call!(1, WALK, 1),
     call!(4, LIST_KIND, 1),
     when!(4, Equal, Atom::Num(0), false, 1),
     // the end is no list
-    Act::Call(None, Atom::Routine(PRINT_MARK), Args::One(Atom::Num(b'|' as u16))),
-    Act::Call(None, Atom::Routine(PRINT_PIECE), Args::Three(Atom::Var(1), Atom::Var(2), Atom::Var(3))),
+    Act::Call(
+        None,
+        Atom::Routine(PRINT_MARK),
+        Args::One(Atom::Num(b'|' as u16)),
+    ),
+    Act::Call(
+        None,
+        Atom::Routine(PRINT_PIECE),
+        Args::Three(Atom::Var(1), Atom::Var(2), Atom::Var(3)),
+    ),
     Act::Label(2),
-    Act::Call(None, Atom::Routine(PRINT_MARK), Args::One(Atom::Num(b']' as u16))),
+    Act::Call(
+        None,
+        Atom::Routine(PRINT_MARK),
+        Args::One(Atom::Num(b']' as u16)),
+    ),
     Act::Return(Atom::Num(0)),
 ];
