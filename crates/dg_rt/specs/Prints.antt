@@ -45,8 +45,8 @@ pub record PrintsPieces (p : Program) (f w : ℕ) (body acts : List Act) (memory
 pub record SpellsBy (p : Program) (x many : ℕ) (text : ℕ → List ℕ) : Type 0 where
   pub body : List Act
   pub there : p.routine_at x ≡ Some (routine_of 1 body)
-  pub prints : (memory typed output : List ℕ) (drawn n : ℕ) (cells : ℕ → ℕ) → Holds p.world.layout memory cells → n < many → (m : Met) → Meets cells m →
-      PrintsPiece p 20 80 body memory (n ∷ []) typed output drawn cells m (text n) (characters (text n) + 100)
+  pub prints : (memory typed output : List ℕ) (drawn n : ℕ) (cells : ℕ → ℕ) → Holds p.world.layout memory cells → n < many → (m : Met) →
+      Meets cells m → PrintsPiece p 20 80 body memory (n ∷ []) typed output drawn cells m (text n) (characters (text n) + 100)
 
 -- One prints the words of a program by their spelling, and one its objects by their names.
 pub record Spells (p : Program) (program : CoreProgram) (words objects : ℕ) : Type 0 where

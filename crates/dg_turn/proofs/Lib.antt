@@ -51,6 +51,7 @@ pub mod GapLaws
 pub mod TextTurn
 pub mod GapTurn
 pub mod SpacesTurn
+pub mod PrintTurn
 pub mod PaidTexts
 pub mod DecidingTurn
 pub mod MakingTurn

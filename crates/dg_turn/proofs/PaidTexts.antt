@@ -1,17 +1,17 @@
 -- What text costs is paid for.
-use Rattle.std.proofs.Common.{◌≡◌, ℕ, zero, suc, ◌+◌, ◌-◌, ◌*◌, ◌/◌, ◌<◌, ◌≤◌, inl, inr, Bool, true, false, List, [], ◌∷◌, ◌++◌, length, replicate, Option, Some, None, refl, sym, ap, ◌∙◌, subst, arith}
-use Rattle.std.specs.Prelude.{All, encode_utf8_all, nat_lt, nat_le, ◌||◌, if◌then◌else◌}
-use Rattle.std.specs.List.{list_any}
-use Rattle.std.proofs.lemmas.Bool.{lt-ltb, le-ltb, le-leb, ltb-false, cases_lt}
-use Rattle.std.proofs.Math.Utf8.{encode}
+use Rattle.std.proofs.Common.{◌≡◌, ℕ, ◌+◌, ◌*◌, ◌≤◌, List, [], ◌∷◌, ◌++◌, length, refl, sym, ap, ◌∙◌, arith}
+use Rattle.std.specs.Prelude.{All, encode_utf8_all}
 use Rattle.dg_base.specs.declared.program.Term.{Term}
 use Rattle.dg_base.specs.Sound.{IsPrintable}
 use Rattle.dg_meaning.specs.Cells.{nodes_of, cells as cells_of}
-use Rattle.dg_meaning.specs.Moves.{looked_up, spaces}
-use Rattle.dg_meaning.specs.Render.{is_line, is_par, is_upper, spaces_from, spaces_of, last_asked, space_for, upper, capital, separator, first_of, nothing_met, met_from, growth, characters}
-use Rattle.dg_meaning.specs.Substitutions.{walk}
+use Rattle.dg_meaning.specs.Moves.{looked_up, spaces, all_printed, printed}
+use Rattle.dg_meaning.specs.Pieces.{pieces}
+use Rattle.dg_meaning.specs.Render.{spaces_from, nothing_met, met_from, met_behind, render_from, written, growth, characters}
+use Rattle.dg_meaning.specs.Substitutions.{walk, resolved}
+use Rattle.dg_meaning.specs.Unify.{looks}
 use Rattle.dg_meaning.specs.Values.{Num, Word, Unknown, Object, Nil, Pair, Closure, Value, Var, Node, value_of}
-use Rattle.dg_meaning.specs.World.{World, Print, Piece, worked}
+use Rattle.dg_meaning.specs.World.{World, Print, Piece, Prints, prints, worked}
+use Rattle.dg_meaning.proofs.Dropping.{prints_append}
 use Rattle.dg_mid.specs.declared.code.Action.TheVariants as action
 use Rattle.dg_mid.specs.declared.code.Op.{Op}
 use Rattle.dg_mid.specs.declared.code.Op.TheVariants as op
@@ -20,10 +20,12 @@ use Rattle.dg_mid.specs.State.{Mid, Runs, vars_of}
 use Rattle.dg_mid.specs.Step.{Setting, more}
 use Rattle.dg_mid.specs.Units.{act_work, units_of}
 use Rattle.dg_mid.proofs.Acts.{nothing_first}
-use Rattle.dg_rt.proofs.Encoding.{AllSmall}
-use Rattle.dg_rt.proofs.First.{upper_low, upper_high, upper_letter}
+use Rattle.dg_rt.specs.Prints.{all_pieces}
+use Rattle.dg_rt.proofs.Counted.{characters_on, text_counted, written_counted, met_on}
 use Rattle.dg_turn.specs.Terms.{AreNodes}
 use Rattle.dg_turn.specs.Texts.{gap_n_most}
+use Rattle.dg_turn.specs.Operating.{term_value}
+use Rattle.dg_turn.specs.Prints.{term_pieces, print_most}
 use Rattle.dg_turn.specs.Paid.{paid, TextsArePaid}
 use Rattle.dg_turn.proofs.Paid.{all_few, step_is_paid}
 use Rattle.dg_turn.proofs.TextTurn.{all_small}
@@ -58,9 +60,35 @@ gap_n_is_paid g ps m a ops e nodes =
     let w = spaces_work (walk m.state.subst v) (worked (looked_up (registers_of m') v) (world_of ps m')) in
     omega arith
 
+-- ## Values
+
+-- The characters that appear with pieces are work.
+pieces_work : (ps : List (List ℕ)) (w : World) → (all_printed ps w).meters.work ≡ w.meters.work + characters (render_from (met_from nothing_met (prints w.events)) (all_pieces ps))
+pieces_work [] w = omega arith
+pieces_work (b ∷ ps) w =
+    let e = Piece b in
+    let m = met_from nothing_met (prints w.events) in
+    let later = pieces_work ps (printed e w) in
+    let more_is : met_from nothing_met (prints (w.events ++ Prints e ∷ [])) ≡ met_behind m e = ap (met_from nothing_met) (prints_append w.events (Prints e ∷ [])) ∙ met_on nothing_met (prints w.events) (e ∷ []) in
+    let same = ap (λ m'. characters (render_from m' (all_pieces ps))) more_is in
+    let both = characters_on (written m e) (render_from (met_behind m e) (all_pieces ps)) in
+    omega arith
+
+print_is_paid : (g : Setting) (ps : List Print) (m : Mid) (a : Term) (ops : List Op) → m.ops ≡ op.Do (action.Print a) ∷ ops → AreNodes g.game.program (nodes_of (a ∷ [])) → print_most g.game.program (met_from nothing_met ps) a m ≤ paid g ps (Runs m)
+print_is_paid g ps m a ops e nodes =
+    let k = ap (λ (l : List Op). units_of g ps l m) e in
+    let c = all_few g.game.program (nodes_of (a ∷ [])) nodes in
+    let m' = more (cells_of g.game.program (a ∷ [])) m in
+    let v = term_value g.game.program m a in
+    let bytes = pieces g.game.program (resolved m.state.subst v) in
+    let w = pieces_work bytes (worked (looks m.state.subst m.state.vars v) (world_of ps m')) in
+    let first = ap (λ (l : List Print). characters (render_from (met_from nothing_met l) (all_pieces bytes))) (nothing_first ps) in
+    omega arith
+
 pub texts_are_paid : TextsArePaid
 texts_are_paid = record {
   text = λ g ps m cs ops e all. text_is_paid g ps m cs ops e all;
   gap = λ g ps m kind ops e. (let k = step_is_paid g ps m (op.Do (action.Gap kind)) ops e in omega arith);
   gap_n = λ g ps m a ops e nodes. gap_n_is_paid g ps m a ops e nodes;
+  print = λ g ps m a ops e nodes. print_is_paid g ps m a ops e nodes;
 }

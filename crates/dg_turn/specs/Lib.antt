@@ -12,6 +12,6 @@ pub mod LastQueries
 pub mod Stopping
 pub mod Bodies
 pub mod Texts
-pub mod Prints
 pub mod Operating
+pub mod Prints
 pub mod Paid

@@ -24,6 +24,7 @@ use Rattle.dg_mid.specs.Step.{Setting, values, asked_by}
 use Rattle.dg_mid.specs.Units.{units, selects, dropped, dropped_once, undone, unwound}
 use Rattle.dg_turn.specs.Terms.{AreNodes}
 use Rattle.dg_turn.specs.Turns.{entering_most, equal_most}
+use Rattle.dg_turn.specs.Prints.{print_most}
 use Rattle.dg_turn.specs.Operating.{test_most, compare_most, made_of, making_paid}
 use Rattle.dg_turn.specs.Rules.{keyed}
 use Rattle.dg_turn.specs.Queries.{asking_most}
@@ -83,7 +84,7 @@ pub record TurnsArePaid : Type 0 where
       m.ops ≡ op.LastQuery a b many ∷ ops → AreNodes g.game.program (nodes_of (a ∷ option_terms b)) → depth ≤ 14 →
       querying_most g.game.program a b m + 4 * depth + 30 ≤ paid g ps (Runs m)
 
--- So are those of a text behind what was printed, of a gap, and of as many spaces as a term says.
+-- So are those of a text behind what was printed, of a gap, of as many spaces as a term says, and of a value behind what was printed.
 pub record TextsArePaid : Type 0 where
   pub text : (g : Setting) (ps : List Print) (m : Mid) (cs : List ℕ) (ops : List Op) → m.ops ≡ op.Do (action.Text (encode_utf8_all cs)) ∷ ops →
       All IsPrintable cs → 3 * spaces_from 0 (met_from nothing_met ps).gap + length cs + 30 ≤ paid g ps (Runs m)
@@ -91,6 +92,8 @@ pub record TextsArePaid : Type 0 where
       6 ≤ paid g ps (Runs m)
   pub gap_n : (g : Setting) (ps : List Print) (m : Mid) (a : Term) (ops : List Op) → m.ops ≡ op.Do (action.GapN a) ∷ ops →
       AreNodes g.game.program (nodes_of (a ∷ [])) → gap_n_most g.game.program a m ≤ paid g ps (Runs m)
+  pub print : (g : Setting) (ps : List Print) (m : Mid) (a : Term) (ops : List Op) → m.ops ≡ op.Do (action.Print a) ∷ ops →
+      AreNodes g.game.program (nodes_of (a ∷ [])) → print_most g.game.program (met_from nothing_met ps) a m ≤ paid g ps (Runs m)
 
 -- So are those of a test, a comparison, arithmetic and a throw.
 pub record OperationsArePaid : Type 0 where

@@ -5,6 +5,7 @@ ghost use Rattle.dg_turn.specs.LastQueries.{LastTurns};
 ghost use Rattle.dg_turn.specs.Leaving.{JustTurns, ReturnTurns};
 ghost use Rattle.dg_turn.specs.Operating.{ArithTurns, CompareTurns, RandomTurns, TestTurns};
 ghost use Rattle.dg_turn.specs.Paid.{OperationsArePaid, TextsArePaid, TurnsArePaid};
+ghost use Rattle.dg_turn.specs.Prints.{PrintTurns};
 ghost use Rattle.dg_turn.specs.Queries.{AskBegins, AskTurns, FailBegins, FailEnds, FailTurns};
 ghost use Rattle.dg_turn.specs.Stopping.{DoneTurns, LeaveTurns, NoRuleTurns, RefuseTurns, ShieldTurns, StopTurns};
 ghost use Rattle.dg_turn.specs.Rules.{BeginTurns, FoundTurns, NoneTurns, SelectTurns};
@@ -215,4 +216,9 @@ pub fn turns_are_paid()
 /// What texts and gaps cost is paid for.
 pub fn texts_are_paid()
     ensures { TextsArePaid }
+{}
+
+/// Printing a value is a turn, or the heap's limit is met.
+pub fn print_turns()
+    ensures { PrintTurns }
 {}
