@@ -14,6 +14,7 @@ use Rattle.dg_chain.proofs.Leading.{at_op}
 use Rattle.dg_chain.proofs.Choosing.{branch_leads, try_leads, shield_leads, once_leads, commit_leads, refuse_leads, leave_leads}
 use Rattle.dg_chain.proofs.Jumping.{take_leads, goto_leads, back_leads, fail_leads, stop_leads, done_leads}
 use Rattle.dg_chain.proofs.Printing.{text_leads, gap_leads, gap_n_leads, quit_leads}
+use Rattle.dg_chain.proofs.PrintingValues.{print_leads}
 use Rattle.dg_chain.proofs.Answering.{just_leads, return_leads}
 use Rattle.dg_chain.proofs.Asking.{ask_leads, last_leads}
 use Rattle.dg_chain.proofs.Unifying.{equal_leads, enters_lead}
@@ -32,7 +33,7 @@ module _ (t : Telling) (plays : Playing t) (code : Code) (blocks : BlocksAt t co
 
   act_leads : (a : Action) → OpLeads t code dice (op.Do a)
   act_leads (action.Text name) = text_leads t plays code dice name
-  act_leads (action.Print x) = none_leads (op.Do (action.Print x)) (λ b y h. h)
+  act_leads (action.Print x) = print_leads t plays code dice x
   act_leads (action.Gap kind) = gap_leads t plays code dice kind
   act_leads (action.GapN x) = gap_n_leads t plays code dice x
   act_leads (action.Equal a b) = equal_leads t plays code dice a b

@@ -1,11 +1,11 @@
 -- What a machine has printed was printed in each run that comes from there.
-use Rattle.std.proofs.Common.{◌≡◌, ℕ, ◌<◌, ◌≤◌, List, [], ◌∷◌, ◌++◌, length, ⊎_elim, refl, sym, ap, ◌∙◌, subst, arith, length-append, append_assoc}
+use Rattle.std.proofs.Common.{◌≡◌, ℕ, ◌<◌, ◌≤◌, List, [], ◌∷◌, ◌++◌, length, ⊎_elim, refl, sym, ap, ◌∙◌, subst, arith, length-append}
 use Rattle.std.proofs.lemmas.Bool.{cases_lt}
 use Rattle.std.proofs.lemmas.List.{append-nil}
 use Rattle.dg_meaning.specs.World.{Game, World, Event, Print, prints}
 use Rattle.dg_meaning.specs.Path.{ChoiceKind, Branch, Moves, FailsAt}
 use Rattle.dg_meaning.specs.Moves.{begins, exhausted}
-use Rattle.dg_meaning.specs.Render.{Met, written, met_behind, nothing_met, met_from, render, render_from}
+use Rattle.dg_meaning.specs.Render.{nothing_met, met_from, render, render_from}
 use Rattle.dg_meaning.specs.Transcript.{Run, text_of}
 use Rattle.dg_meaning.specs.inside.OneRun.{Grows}
 use Rattle.dg_base.specs.Begins.{Begins}
@@ -15,6 +15,7 @@ use Rattle.dg_meaning.proofs.OneRun.{begins_same, grows_on, exhausted_grows}
 use Rattle.dg_meaning.proofs.Search.{beginning_grows}
 use Rattle.dg_meaning.proofs.Keeps.{stands_happened, has_happened}
 use Rattle.dg_meaning.proofs.Dropping.{prints_append}
+use Rattle.dg_rt.proofs.Counted.{render_on}
 use Rattle.dg_mid.specs.State.{Status, Runs, Enters, Resumes, Fails, Ended}
 use Rattle.dg_mid.specs.Step.{Setting}
 use Rattle.dg_mid.specs.Potential.{IsOver}
@@ -22,16 +23,12 @@ use Rattle.dg_mid.specs.Reads.{At}
 
 -- ## Texts
 
-pub render_more : (m : Met) (xs ys : List Print) → render_from m (xs ++ ys) ≡ render_from m xs ++ render_from (met_from m xs) ys
-render_more m [] ys = refl
-render_more m (x ∷ xs) ys = ap (λ (l : List ℕ). written m x ++ l) (render_more (met_behind m x) xs ys) ∙ sym (append_assoc (written m x) (render_from (met_behind m x) xs) (render_from (met_from (met_behind m x) xs) ys))
-
 -- more events have a longer text
 pub text_grows : (xs ys : List Event) → Begins xs ys → Begins (text_of xs) (text_of ys)
 unfolding render
 text_grows xs ys h = record {
   behind = render_from (met_from nothing_met (prints xs)) (prints h.behind);
-  is = ap text_of h.is ∙ ap render (prints_append xs h.behind) ∙ render_more nothing_met (prints xs) (prints h.behind);
+  is = ap text_of h.is ∙ ap render (prints_append xs h.behind) ∙ render_on nothing_met (prints xs) (prints h.behind);
 }
 
 -- ## Runs

@@ -17,6 +17,7 @@ pub mod Unifying
 pub mod Operating
 pub mod Querying
 pub mod Printing
+pub mod PrintingValues
 pub mod Going
 pub mod Coded
 pub mod Whole

@@ -1,4 +1,4 @@
--- What was printed, with one thing more, and how it is closed.
+-- What was printed, with something more, and how it is closed.
 use Rattle.std.proofs.Common.{◌≡◌, ℕ, Bool, true, false, ◌%◌, List, [], ◌∷◌, ◌++◌, length, Option, Some, None, refl, sym, ap, ◌∙◌, subst}
 use Rattle.std.specs.Prelude.{◌==◌, if◌then◌else◌}
 use Rattle.std.proofs.lemmas.List.{append-nil}
@@ -12,11 +12,12 @@ use Rattle.dg_mid.specs.declared.code.Op.{Op}
 use Rattle.dg_rt.specs.Areas.{last_reg}
 use Rattle.dg_rt.specs.Closings.{closing}
 use Rattle.dg_rt.specs.Gaps.{last_word, Meets}
+use Rattle.dg_rt.proofs.Counted.{met_on, render_on}
 use Rattle.dg_turn.specs.Told.{Telling}
 use Rattle.dg_turn.specs.Texts.{met_words, printed}
+use Rattle.dg_turn.specs.Prints.{all_printed}
 use Rattle.dg_turn.proofs.Meeting.{met_meets}
 use Rattle.dg_chain.specs.Stands.{Printed}
-use Rattle.dg_chain.proofs.Happened.{render_more}
 
 -- ## Closings
 
@@ -38,15 +39,15 @@ closed_is ps w e =
     let last = (met_from nothing_met ps).last in
     ap (λ (l : List ℕ). render ps ++ (l ++ line_of e)) (newline_is last) ∙ ap (λ (i : ℕ). render ps ++ closing i e) (sym w.meets.last)
 
--- ## One thing more
+-- ## More
 
-pub met_more : (m : Met) (xs : List Print) (e : Print) → met_from m (xs ++ e ∷ []) ≡ met_behind (met_from m xs) e
-met_more m [] e = refl
-met_more m (x ∷ xs) e = met_more (met_behind m x) xs e
+-- The text behind some things more.
+pub render_all : (ps es : List Print) → render (ps ++ es) ≡ render ps ++ render_from (met_from nothing_met ps) es
+unfolding render
+render_all ps es = render_on nothing_met ps es
 
 pub render_one : (ps : List Print) (e : Print) → render (ps ++ e ∷ []) ≡ render ps ++ written (met_from nothing_met ps) e
-unfolding render
-render_one ps e = render_more nothing_met ps (e ∷ []) ∙ ap (λ (l : List ℕ). render_from nothing_met ps ++ l) (append-nil (written (met_from nothing_met ps) e))
+render_one ps e = render_all ps (e ∷ []) ∙ ap (λ (l : List ℕ). render ps ++ l) (append-nil (written (met_from nothing_met ps) e))
 
 -- What is outside behind it.
 abbrev pub printed_more : {t : Telling} {l : Lasting} (ps : List Print) (w : Printed t ps l) (e : Print) → Printed t (ps ++ e ∷ []) l
@@ -56,7 +57,18 @@ printed_more ps w e =
       out = printed m e w.out;
       written = ap (λ (l : List ℕ). l ++ written m e) w.written ∙ sym (render_one ps e);
       drawn = w.drawn;
-      meets = subst (Meets (met_words (met_behind m e) w.out.words)) (sym (met_more nothing_met ps e)) (met_meets (met_behind m e) w.out.words);
+      meets = subst (Meets (met_words (met_behind m e) w.out.words)) (sym (met_on nothing_met ps (e ∷ []))) (met_meets (met_behind m e) w.out.words);
+    }
+
+-- What is outside behind some things more.
+abbrev pub printed_all : {t : Telling} {l : Lasting} (ps : List Print) (w : Printed t ps l) (es : List Print) → Printed t (ps ++ es) l
+printed_all ps w es =
+    let m = met_from nothing_met ps in
+    record {
+      out = all_printed m es w.out;
+      written = ap (λ (l : List ℕ). l ++ render_from m es) w.written ∙ sym (render_all ps es);
+      drawn = w.drawn;
+      meets = subst (Meets (met_words (met_from m es) w.out.words)) (sym (met_on nothing_met ps es)) (met_meets (met_from m es) w.out.words);
     }
 
 -- The same where this lasts too.
@@ -78,3 +90,8 @@ said_by_op set ps m x rest e = ap (λ (l : List Op). followed ps (said_to (said_
 pub said_at_end : (l : List Print) (e : Ending) → said_to l (Ended e) ≡ []
 said_at_end [] e = refl
 said_at_end (p ∷ l) e = refl
+
+-- A step that goes on prints all that it says.
+pub said_on : (ps es : List Print) (m : Mid) → followed ps (said_to es (Runs m)) ≡ ps ++ es
+said_on ps [] m = sym (append-nil ps)
+said_on ps (e ∷ es) m = refl

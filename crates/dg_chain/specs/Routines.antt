@@ -12,6 +12,7 @@ use Rattle.dg_mid.specs.declared.code.Op.TheVariants as op
 use Rattle.dg_mid.specs.Code.{block_at, rules_at}
 use Rattle.z_lang.specs.declared.act.Routine.{Routine}
 use Rattle.dg_rt.specs.declared.numbers.TheConstants.{DONE, FAIL, LEAVE, UNSTOP}
+use Rattle.dg_rt.specs.Prints.{Spells}
 use Rattle.dg_turn.specs.Told.{Telling, RulesAt}
 use Rattle.dg_turn.specs.Terms.{AreNodes}
 use Rattle.dg_turn.specs.Turns.{enter_routine, equal_routine, goto_routine, commit_routine}
@@ -20,6 +21,7 @@ use Rattle.dg_turn.specs.LastQueries.{last_routine}
 use Rattle.dg_turn.specs.Choices.{branch_routine, try_routine, once_routine}
 use Rattle.dg_turn.specs.Leaving.{just_routine}
 use Rattle.dg_turn.specs.Operating.{test_routine, compare_routine, arith_routine, random_routine}
+use Rattle.dg_turn.specs.Prints.{print_routine}
 use Rattle.dg_turn.specs.Rules.{keyed}
 use Rattle.dg_turn.specs.Bodies.{query_routine, last_query_routine, FindsBodies}
 use Rattle.dg_turn.specs.Texts.{text_routine, gap_routine, gap_n_routine, quit_routine}
@@ -58,6 +60,14 @@ pub record AsksSpaces (behind_is : ℕ → Type 0) (t : Telling) (x : ℕ) (a : 
 pub record Writes (behind_is : ℕ → Type 0) (t : Telling) (x : ℕ) (ts : List Term) (routine : ℕ → Routine) : Type 0 where
   pub goes : GoesOn behind_is t x routine
   pub nodes : AreNodes t.program (nodes_of ts)
+
+-- So does that of a value that is printed, whose term is one of a story; two routines print the words and the objects of the program.
+pub record Prints (behind_is : ℕ → Type 0) (t : Telling) (x : ℕ) (a : Term) : Type 0 where
+  pub words : ℕ
+  pub objects : ℕ
+  pub goes : GoesOn behind_is t x (print_routine t.program a words objects)
+  pub nodes : AreNodes t.program (nodes_of (a ∷ []))
+  pub spells : Spells t.p t.program (t.p.names.routine words) (t.p.names.routine objects)
 
 -- So does the first of a rule, of no more than 300 variables and 12 terms in its head.
 pub record Enters (behind_is : ℕ → Type 0) (t : Telling) (x vars : ℕ) (head : List Term) : Type 0 where
@@ -128,6 +138,7 @@ FailsAt t x = t.p.routine_at x ≡ Some (goto_routine FAIL)
 -- The routine of an instruction stands at an address, and what is said of the one behind it. The other instructions have no routines yet.
 abbrev pub OpAt : (ℕ → Type 0) → Telling → Code → ℕ → Op → Type 0
 OpAt behind_is t code x (op.Do (action.Text text)) = Says behind_is t x text
+OpAt behind_is t code x (op.Do (action.Print a)) = Prints behind_is t x a
 OpAt behind_is t code x (op.Do (action.Gap kind)) = GoesOn behind_is t x (gap_routine kind)
 OpAt behind_is t code x (op.Do (action.GapN a)) = AsksSpaces behind_is t x a
 OpAt behind_is t code x (op.Do action.Quit) = t.p.routine_at x ≡ Some quit_routine
