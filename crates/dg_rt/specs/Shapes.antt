@@ -68,7 +68,8 @@ mutual
     pair_in : {h t : Value} (k x y : ℕ) → Cell sh (k + 1) x → Cell sh (k + 2) y → Shows sh x h → Shows sh y t → Filled sh k 0 (pair h t)
     closure_in : {vs : Values} (k place : ℕ) → place < 16384 → count_of vs ≡ sh.captures place → sh.captures place < 256 →
         Cell sh (k + 1) (count_of vs) → AllShow sh (k + 3) vs → Filled sh k (1 + place) (Node (Closure place) vs)
-    word_in : {letters : List ℕ} (k : ℕ) → ArePrinted letters → Letters sh (k + 3) letters → Filled sh k (32768 + length letters) (leaf (Unknown letters))
+    word_in : {letters : List ℕ} (k : ℕ) → ArePrinted letters → Letters sh (k + 3) letters →
+        Filled sh k (32768 + length letters) (leaf (Unknown letters))
 
   -- Cells from a place on stand for values.
   pub data AllShow (sh : Shape) : ℕ → Values → Type 0 where

@@ -48,6 +48,7 @@ pub mod Begun
 pub mod Paid
 pub mod Meeting
 pub mod GapLaws
+pub mod TextPrinted
 pub mod TextTurn
 pub mod GapTurn
 pub mod SpacesTurn

@@ -28,7 +28,7 @@ use Rattle.dg_turn.specs.Operating.{term_value}
 use Rattle.dg_turn.specs.Prints.{term_pieces, print_most}
 use Rattle.dg_turn.specs.Paid.{paid, TextsArePaid}
 use Rattle.dg_turn.proofs.Paid.{all_few, step_is_paid}
-use Rattle.dg_turn.proofs.TextTurn.{all_small}
+use Rattle.dg_turn.proofs.TextPrinted.{all_small}
 
 -- ## Costs
 

@@ -1,163 +1,44 @@
 -- A text is printed: one turn of the story.
-use Rattle.std.proofs.Common.{◌≡◌, ◌≢◌, ℕ, suc, ◌+◌, ◌*◌, ◌<◌, ◌≤◌, ⊎_elim, Bool, true, false, List, [], ◌∷◌, ◌++◌, length, map, Option, Some, None, refl, sym, ap, ◌∙◌, subst, arith, append_assoc}
-use Rattle.std.specs.Prelude.{All, encode_utf8_all, if◌then◌else◌}
-use Rattle.std.proofs.lemmas.Bool.{lt-ltb, le-ltb, ne_eqb}
-use Rattle.std.proofs.lemmas.List.{append-nil}
-use Rattle.std.proofs.lemmas.List.Elements.{All-head, All-tail}
-use Rattle.std.proofs.Math.Utf8.{encode, scalar_cases}
+use Rattle.std.proofs.Common.{◌≡◌, ℕ, ◌+◌, ◌*◌, ◌<◌, ◌≤◌, List, [], ◌∷◌, ◌++◌, length, Some, None, refl, arith}
+use Rattle.std.specs.Prelude.{All, encode_utf8_all}
 use Rattle.dg_base.specs.Sound.{IsPrintable}
 use Rattle.dg_meaning.specs.World.{Piece}
-use Rattle.dg_meaning.specs.Render.{opens, capital, separator, first_of, last_of, spaces_from, Met, met_behind, written}
+use Rattle.dg_meaning.specs.Render.{spaces_from, Met, met_behind, written}
 use Rattle.dg_mid.specs.State.{Mid}
 use Rattle.z_model.specs.Run.{ZState}
-use Rattle.z_model.specs.Zscii.{is_character}
 use Rattle.z_lang.specs.declared.act.Act.{Act}
 use Rattle.z_lang.specs.declared.act.Act.TheVariants as acts
-use Rattle.z_lang.specs.declared.act.Args.TheVariants as args
 use Rattle.z_lang.specs.declared.act.Atom.TheVariants as atoms
-use Rattle.z_lang.specs.declared.act.Print.TheVariants as prints
-use Rattle.z_lang.specs.State.{State, Program}
-use Rattle.z_lang.specs.Acts.{with_output}
-use Rattle.z_lang.specs.Runs.{ActsRun, ActsOutcome, Returns, done, returns}
-use Rattle.dg_rt.specs.declared.numbers.TheConstants.{FIRST}
-use Rattle.dg_rt.specs.Cells.{with_cell, replaced}
+use Rattle.z_lang.specs.Runs.{Returns, returns}
 use Rattle.dg_rt.specs.Areas.{state}
-use Rattle.dg_rt.specs.Gaps.{last_word, Meets, Separates, PrintsFirst}
-use Rattle.dg_rt.proofs.Cells.{other_cell, same_cell}
-use Rattle.dg_rt.proofs.Encoding.{encoded, last_in, AllSmall, text_ends, capital_on}
-use Rattle.dg_rt.proofs.First.{printed as is_printed, first_works, calls_first}
-use Rattle.dg_rt.proofs.Following.{copies, says, puts}
-use Rattle.dg_rt.proofs.Marks.{separator_same}
-use Rattle.dg_rt.proofs.Separating.{separate_works, calls_separate}
+use Rattle.dg_rt.specs.Gaps.{Meets}
 use Rattle.dg_turn.specs.Told.{Telling}
 use Rattle.dg_turn.specs.Plays.{Playing, Outside, Represented, Comes}
-use Rattle.dg_turn.specs.Texts.{say, text_routine, printed, TextTurns}
+use Rattle.dg_turn.specs.Texts.{text_routine, printed, TextTurns}
 use Rattle.dg_turn.proofs.Meeting.{meets_here, mid_met}
 use Rattle.dg_turn.proofs.Moving.{moves_to}
-
--- ## Characters
-
-character : (c : ℕ) → IsPrintable c → is_character c ≡ true
-character c is = ⊎_elim below above (scalar_cases c is.scalar)
-  where
-    below : c < 55296 → is_character c ≡ true
-    below l = let from = is.from in rw (lt-ltb 31 c (omega arith), ne_eqb c 127 is.no_delete, le-ltb 55295 c (omega arith)) refl
-
-    above : ((57344 ≤ c) × (c < 1114112)) → is_character c ≡ true
-    above h = let from = is.from in let a = h.0 in rw (lt-ltb 31 c (omega arith), ne_eqb c 127 is.no_delete, lt-ltb 55295 c (omega arith), le-ltb c 57344 a) refl
-
-pub all_small : (cs : List ℕ) → All IsPrintable cs → AllSmall cs
-all_small [] all = tt
-all_small (c ∷ cs) all = let is = (All-head IsPrintable c cs all).to in (is, all_small cs (All-tail IsPrintable c cs all))
-
--- Characters are printed one by one, and then more.
-pub prints_all : (p : Program) (f w : ℕ) (body more : List Act) (o : ActsOutcome) (s' : State) (n : ℕ) (cs : List ℕ) (s : State) → All IsPrintable cs → ActsRun p f w body more (with_output s (encode_utf8_all cs)) o s' n → ActsRun p f w body (map say cs ++ more) s o s' (length cs + n)
-prints_all p f w body more o s' n [] s all rest =
-    let e : n ≡ length {A = ℕ} [] + n = omega arith in
-    subst (λ (k : ℕ). ActsRun p f w body more s o s' k) e (subst (λ (out : List ℕ). ActsRun p f w body more (record s { output = out }) o s' n) (append-nil s.output) rest)
-prints_all p f w body more o s' n (c ∷ cs) s all rest =
-    let is = All-head IsPrintable c cs all in
-    let next : State = with_output s (encode c) in
-    let moved = subst (λ (out : List ℕ). ActsRun p f w body more (record s { output = out }) o s' n) (sym (append_assoc s.output (encode c) (encode_utf8_all cs))) rest in
-    let later = prints_all p f w body more o s' n cs next (All-tail IsPrintable c cs all) moved in
-    subst (λ (k : ℕ). ActsRun p f w body (map say (c ∷ cs) ++ more) s o s' k) (let e : suc (length cs + n) ≡ length (c ∷ cs) + n = omega arith in e)
-    (done (says p s prints.Unicode (atoms.Num c) c (encode c) refl (is_printed s.memory c (character c is))) later)
-
--- the last of some characters
-last_is : (c : ℕ) (cs : List ℕ) → last_of (Some c) cs ≡ Some (last_in c cs)
-last_is c [] = refl
-last_is c (d ∷ cs) = last_is d cs
-
-word_small : (o : Option ℕ) → last_word o < 65536
-word_small None = omega arith
-word_small (Some b) = by_open (opens b)
-  where
-    by_open : (t : Bool) → (if t then 1 else 2) < 65536
-    by_open true = omega arith
-    by_open false = omega arith
-
--- ## The turn
+use Rattle.dg_turn.proofs.TextPrinted.{TextSaid, text_said}
 
 module _ (t : Telling) (plays : Playing t) (out : Outside) (x behind : ℕ) (m : Mid) (z : ZState) (met : Met) (c : ℕ) (cs : List ℕ) (there : t.p.routine_at x ≡ Some (text_routine (c ∷ cs) behind)) (all : All IsPrintable (c ∷ cs)) (meets : Meets out.words met) (r : Represented t out x m z) where
   abbrev text : List ℕ
   text = encode_utf8_all (c ∷ cs)
 
-  abbrev out1 : List ℕ
-  out1 = out.output ++ separator met.gap met.last c
-
-  abbrev out2 : List ℕ
-  out2 = out1 ++ capital met.gap (encode c)
-
-  abbrev out3 : List ℕ
-  out3 = out2 ++ encode_utf8_all cs
-
-  abbrev ending : ℕ
-  ending = last_word (last_of None (c ∷ cs))
-
   abbrev body : List Act
   body = (text_routine (c ∷ cs) behind).body
 
-  abbrev ends : List Act
-  ends = acts.Copy 44 (atoms.Num ending) ∷ acts.Return (atoms.Routine behind) ∷ []
+  abbrev rest : List Act
+  rest = acts.Return (atoms.Routine behind) ∷ []
 
-  small : c < 65536
-  small = (All-head IsPrintable c cs all).to
-
-  here : Meets r.cells met
-  here = meets_here out.words r.cells met r.mid.rest.outside meets
-
-  -- what is written
-  final : out3 ≡ out.output ++ written met (Piece text)
-  final =
-      let enc = encoded c small in
-      let sep = separator met.gap met.last c in
-      let cap = capital met.gap (encode c) in
-      let rest = encode_utf8_all cs in
-      let first_is : first_of text ≡ enc.b = ap (λ (l : List ℕ). first_of (l ++ rest)) enc.is in
-      let same : sep ≡ separator met.gap met.last (first_of text) = separator_same met.gap met.last c enc.b enc.closing ∙ ap (separator met.gap met.last) (sym first_is) in
-      append_assoc out1 cap rest ∙ append_assoc out.output sep (cap ++ rest) ∙ ap (λ (l : List ℕ). out.output ++ l) (ap (λ (l : List ℕ). l ++ (cap ++ rest)) same ∙ ap (λ (l : List ℕ). separator met.gap met.last (first_of text) ++ l) (sym (capital_on met.gap c rest small)))
-
-  -- how it ends
-  ending_is : ending ≡ last_word (last_of met.last (capital met.gap text))
-  ending_is =
-      let te = text_ends met.gap met.last c cs small (all_small cs (All-tail IsPrintable c cs all)) in
-      let rest = encode_utf8_all cs in
-      let whole : last_of met.last (capital met.gap text) ≡ Some te.x = ap (last_of met.last) (capital_on met.gap c rest small) ∙ te.is in
-      ap last_word (last_is c cs) ∙ ap (λ (q : Bool). if q then 1 else 2) (sym te.opening) ∙ sym (ap last_word whole)
-
-  turn : (s : Separates t.p 0 0 r.memory out.typed out.output out.drawn c r.cells met) (k : PrintsFirst t.p 0 0 s.memory' out.typed out1 out.drawn c s.cells' met.gap) → Comes t (printed met (Piece text) out) (t.p.names.routine behind) m (3 * spaces_from 0 met.gap + length (c ∷ cs) + 30) z
-  turn s k =
-      let high = plays.has.mapped.room in
-      let few = s.few in
-      let few' = k.few in
-      let put = puts t.p (state k.memory' [] out.typed out.drawn out3) k.cells' 44 ending k.holds (omega arith) (omega arith) (omega arith) (word_small (last_of None (c ∷ cs))) in
-      let m4 = with_cell k.memory' 28 ending in
-      let c4 = replaced k.cells' 28 ending in
-      let far : (i : ℕ) → i ≢ 28 → c4 i ≡ k.cells' i = λ i ne. other_cell k.cells' 28 ending i ne in
-      let end_state : State = state m4 [] out.typed out.drawn out3 in
-      let now_meets : Meets c4 (met_behind met (Piece text)) = record {
-        last = same_cell k.cells' 28 ending ∙ ending_is;
-        lines = far 30 (λ e. (omega arith)) ∙ k.others 30 (λ e. (omega arith)) ∙ s.lines;
-        spaces = far 31 (λ e. (omega arith)) ∙ k.others 31 (λ e. (omega arith)) ∙ s.spaces;
-        asked = far 32 (λ e. (omega arith)) ∙ k.others 32 (λ e. (omega arith)) ∙ s.asked;
-        upper = far 33 (λ e. (omega arith)) ∙ k.upper;
-      } in
-      let mid = mid_met t r.sh r.cells c4 r.trail m (met_behind met (Piece text)) (λ i n0 n28 n30 n31 n32 n33 kept. far i n28 ∙ k.others i n33 ∙ s.others i n30 n31 n32) now_meets r.mid in
-      let last_runs : ActsRun t.p 3500 19000 body ends (state k.memory' [] out.typed out.drawn out3) (Returns (t.p.names.routine behind)) end_state 2 =
-      done (copies t.p (state k.memory' [] out.typed out.drawn out3) end_state 44 (atoms.Num ending) ending refl put.put_is) (returns refl) in
-      let says_runs = prints_all t.p 3500 19000 body ends (Returns (t.p.names.routine behind)) end_state 2 cs (state k.memory' [] out.typed out.drawn out2) (All-tail IsPrintable c cs all) last_runs in
-      let all_runs =
-      calls_separate t.p plays.has 3500 19000 (omega arith) (omega arith) body (acts.Call None (atoms.Routine FIRST) (args.One (atoms.Num c)) ∷ (map say cs ++ ends)) (atoms.Num c) r.memory [] out.typed out.output out.drawn c r.cells met s refl (Returns (t.p.names.routine behind)) end_state (suc k.count + (length cs + 2))
-      (calls_first t.p plays.has 3500 19000 (omega arith) (omega arith) body (map say cs ++ ends) (atoms.Num c) s.memory' [] out.typed out1 out.drawn c s.cells' met.gap k refl (Returns (t.p.names.routine behind)) end_state (length cs + 2) says_runs) in
-      moves_to t plays out x m z r (text_routine (c ∷ cs) behind) there (omega arith) (printed met (Piece text) out) (t.p.names.routine behind) (suc s.count + (suc k.count + (length cs + 2))) (3 * spaces_from 0 met.gap + length (c ∷ cs) + 30) m4 [] c4 r.sh r.trail m
-      (subst (λ (o : List ℕ). ActsRun t.p 3500 19000 body body (state r.memory [] out.typed out.drawn out.output) (Returns (t.p.names.routine behind)) (state m4 [] out.typed out.drawn o) (suc s.count + (suc k.count + (length cs + 2)))) final all_runs)
-      put.holds (plays.words behind) mid (omega arith)
+  comes_by : TextSaid t.p 3500 19000 body rest r.memory [] out.typed out.output out.drawn r.cells met (c ∷ cs) → Comes t (printed met (Piece text) out) (t.p.names.routine behind) m (3 * spaces_from 0 met.gap + length (c ∷ cs) + 30) z
+  comes_by k =
+      let few = k.few 1 in
+      let mid = mid_met t r.sh r.cells k.cells' r.trail m (met_behind met (Piece text)) (λ i n0 n28 n30 n31 n32 n33 kept. k.others i n28 n30 n31 n32 n33) k.meets r.mid in
+      moves_to t plays out x m z r (text_routine (c ∷ cs) behind) there (omega arith) (printed met (Piece text) out) (t.p.names.routine behind) (k.total 1) (3 * spaces_from 0 met.gap + length (c ∷ cs) + 30) k.memory' [] k.cells' r.sh r.trail m
+      (k.runs (Returns (t.p.names.routine behind)) (state k.memory' [] out.typed out.drawn (out.output ++ written met (Piece text))) 1 (returns refl))
+      k.holds (plays.words behind) mid (omega arith)
 
   comes : Comes t (printed met (Piece text) out) (t.p.names.routine behind) m (3 * spaces_from 0 met.gap + length (c ∷ cs) + 30) z
-  comes =
-      let s = separate_works t.p plays.has 0 0 r.memory out.typed out.output out.drawn c r.cells r.holds met here in
-      let k = first_works t.p plays.has 0 0 s.memory' out.typed out1 out.drawn c s.cells' s.holds small (character c (All-head IsPrintable c cs all)) met.gap (s.others 33 (λ e. (omega arith)) (λ e. (omega arith)) (λ e. (omega arith)) ∙ here.upper) in
-      turn s k
+  comes = comes_by (text_said t.p plays.has 3500 19000 (omega arith) (omega arith) body rest r.memory [] out.typed out.output out.drawn r.cells r.holds met (meets_here out.words r.cells met r.mid.rest.outside meets) c cs all)
 
 pub text_turns : TextTurns
 text_turns t plays out x behind m z met [] there some all meets r = absurd (some refl)

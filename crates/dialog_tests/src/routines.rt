@@ -7,7 +7,7 @@ ghost use Rattle.z_story.specs.Parts.{AreParts};
 
 use crate::checks::same;
 use dg_base::{SureSink, SureSource};
-use dg_rt::numbers::{CHARGE, DONE, FAIL, OPEN, UNIFY, WALK};
+use dg_rt::numbers::{CHARGE, DONE, FAIL, OPEN, PRINT_VALUE, UNIFY, WALK};
 use dg_rt::registers::{CHOICE, HEAP, LAST, TRAIL};
 use dg_rt::{runtime, runtime_fits};
 use sqlite_items::Items;
@@ -29,9 +29,9 @@ fn routine_of(alloc: Global, body: &[Act]) -> Result<Routine, AllocError>
 
 // The heap and the trail in front of the routines: one to begin with, those of the run-time, and one to go on with.
 fn parts_of(alloc: Global, main: &[Act], next: &[Act]) -> Result<Parts, AllocError>
-    requires main { AreFit (record { routines = 72; tables = 1; texts = 0 }) (ops_of_acts main.now) main.now }
+    requires main { AreFit (record { routines = 75; tables = 1; texts = 0 }) (ops_of_acts main.now) main.now }
     requires main_short { body_bytes main.now < 8000 }
-    requires next { AreFit (record { routines = 72; tables = 1; texts = 0 }) (ops_of_acts next.now) next.now }
+    requires next { AreFit (record { routines = 75; tables = 1; texts = 0 }) (ops_of_acts next.now) next.now }
     requires next_short { body_bytes next.now < 8000 }
     ensures { IfOk result (λ parts. AreParts parts) }
 {
@@ -62,9 +62,9 @@ fn printed(
     next: &[Act],
     text: &str,
 ) -> Result<(), Fail>
-    requires main { AreFit (record { routines = 72; tables = 1; texts = 0 }) (ops_of_acts main.now) main.now }
+    requires main { AreFit (record { routines = 75; tables = 1; texts = 0 }) (ops_of_acts main.now) main.now }
     requires main_short { body_bytes main.now < 8000 }
-    requires next { AreFit (record { routines = 72; tables = 1; texts = 0 }) (ops_of_acts next.now) next.now }
+    requires next { AreFit (record { routines = 75; tables = 1; texts = 0 }) (ops_of_acts next.now) next.now }
     requires next_short { body_bytes next.now < 8000 }
 {
     let parts = parts_of(alloc, main, next)?;
@@ -101,7 +101,7 @@ macro_rules! unify {
 }
 
 // The routine behind those of the run-time.
-const NEXT: u16 = 71;
+const NEXT: u16 = 74;
 
 const A: u16 = 16_384;
 
@@ -207,6 +207,36 @@ const FILLS_THE_HEAP: [Act; 6] = [
     Act::Call(None, Atom::Routine(CHARGE), Args::One(Atom::Num(1))),
     Act::Quit,
 ];
+
+// [1 [] $X | 2] is printed, and the text goes on.
+const PRINTS: [Act; 13] = [
+    cell!(0, X),
+    cell!(1, 0),
+    cell!(2, 1),
+    cell!(3, 49_156),
+    cell!(4, 0),
+    cell!(5, NIL),
+    cell!(6, 49_159),
+    cell!(7, 0),
+    cell!(8, X),
+    cell!(9, 2),
+    Act::Call(
+        None,
+        Atom::Routine(PRINT_VALUE),
+        Args::Three(Atom::Num(49_153), Atom::Routine(NEXT), Atom::Routine(NEXT)),
+    ),
+    Act::Call(
+        None,
+        Atom::Routine(PRINT_VALUE),
+        Args::Three(Atom::Num(3), Atom::Routine(NEXT), Atom::Routine(NEXT)),
+    ),
+    Act::Quit,
+];
+
+#[test]
+fn values_are_printed(rt: HostRuntime) -> Result<(), Fail> {
+    printed(rt.alloc(), &rt, &PRINTS, &GOES_ON, "[1 [] $ | 2] 3")
+}
 
 #[test]
 fn lists_are_unified_and_undone(rt: HostRuntime) -> Result<(), Fail> {
