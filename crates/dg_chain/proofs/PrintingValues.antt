@@ -19,7 +19,7 @@ use Rattle.dg_mid.specs.declared.code.Op.{Op}
 use Rattle.dg_mid.specs.declared.code.Op.TheVariants as op
 use Rattle.dg_mid.specs.Actions.{act_at, registers_of, said_by, world_of, lasting_in}
 use Rattle.dg_mid.specs.State.{Mid, Status, Runs, Ended}
-use Rattle.dg_mid.specs.Step.{Setting, charged, done, more, said_in, said_to, followed}
+use Rattle.dg_mid.specs.Step.{Setting, charged, done, keeps_within, more, said_in, said_to, followed}
 use Rattle.z_model.specs.Run.{ZState}
 use Rattle.dg_rt.specs.Closings.{closing_most}
 use Rattle.dg_rt.specs.Prints.{all_pieces}
@@ -46,6 +46,10 @@ pieces_said (b ∷ bs) w =
 pieces_last : (bs : List (List ℕ)) (w : World) (m : Mid) → lasting_in (all_printed_in bs w) m ≡ lasting_in w m
 pieces_last [] w m = refl
 pieces_last (b ∷ bs) w m = pieces_last bs (printed_in (Piece b) w) m
+
+pieces_keep : (bs : List (List ℕ)) (w : World) → (all_printed_in bs w).meters.keep ≡ w.meters.keep
+pieces_keep [] w = refl
+pieces_keep (b ∷ bs) w = pieces_keep bs (printed_in (Piece b) w)
 
 module _ (t : Telling) (plays : Playing t) (code : Code) (dice : List ℕ) where
   abbrev set : Setting
@@ -100,9 +104,10 @@ module _ (t : Telling) (plays : Playing t) (code : Code) (dice : List ℕ) where
         let es = all_pieces bs in
         let h : Alike m.lasting (more n m) (lasting_in w' m') = pieces_last bs w m' in
         let said : followed ps (said_to (prints w'.events) (Runs (lasting_in w' m'))) ≡ ps ++ es = said_on ps (prints w'.events) (lasting_in w' m') ∙ ap (λ (l : List Print). ps ++ l) (pieces_said bs w) in
-        subst (λ (l : List Print). Lead t code dice 1 l (Runs (lasting_in w' m')) (cost ps m) z) (sym said)
+        let there : Leads (Runs (lasting_in w' m')) = subst (λ (l : List Print). Lead t code dice 1 l (Runs (lasting_in w' m')) (cost ps m) z) (sym said)
         (led_runs t code dice 1 (omega arith) (ps ++ es) (printed_all ps s.printed es) (t.p.names.routine o.goes.behind) (more n m) (lasting_in w' m') most (cost ps m) z h o.goes.next fits
-        (print_turns.prints t plays s.printed.out a o.words o.objects o.goes.behind m z (met_from nothing_met ps) o.spells at room s.printed.meets))
+        (print_turns.prints t plays s.printed.out a o.words o.objects o.goes.behind m z (met_from nothing_met ps) o.spells at room s.printed.meets)) in
+        subst (λ (k : ℕ). Leads (keeps_within set k (Runs (lasting_in w' m')))) (sym (pieces_keep bs w)) there
 
     over_leads : 10000 < m.state.heap + n → Leads (Ended ending.HeapLimit)
     over_leads over =
