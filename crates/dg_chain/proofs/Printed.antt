@@ -3,7 +3,7 @@ use Rattle.std.proofs.Common.{◌≡◌, ℕ, Bool, true, false, ◌%◌, List, 
 use Rattle.std.specs.Prelude.{◌==◌, if◌then◌else◌}
 use Rattle.std.proofs.lemmas.List.{append-nil}
 use Rattle.dg_base.specs.declared.run.Ending.{Ending}
-use Rattle.dg_meaning.specs.Render.{opens, Met, nothing_met, met_from, met_behind, render_from, render, written}
+use Rattle.dg_meaning.specs.Render.{opens, nothing_met, met_from, met_behind, render_from, render, written}
 use Rattle.dg_meaning.specs.Transcript.{line_of, newline_behind, closed_text}
 use Rattle.dg_meaning.specs.World.{Print}
 use Rattle.dg_mid.specs.State.{Lasting, Mid, Runs, Ended}

@@ -4,7 +4,7 @@ use Rattle.std.proofs.lemmas.Bool.{cases_lt}
 use Rattle.std.proofs.lemmas.List.{append-nil}
 use Rattle.dg_base.specs.declared.program.Term.{Term}
 use Rattle.dg_base.specs.declared.run.Ending.TheVariants as ending
-use Rattle.dg_meaning.specs.Cells.{cells, nodes_of}
+use Rattle.dg_meaning.specs.Cells.{cells}
 use Rattle.dg_meaning.specs.Moves.{all_printed as all_printed_in, printed as printed_in}
 use Rattle.dg_meaning.specs.Pieces.{pieces}
 use Rattle.dg_meaning.specs.Render.{nothing_met, met_from}
@@ -17,7 +17,7 @@ use Rattle.dg_mid.specs.declared.code.Action.TheVariants as action
 use Rattle.dg_mid.specs.declared.code.Code.{Code}
 use Rattle.dg_mid.specs.declared.code.Op.{Op}
 use Rattle.dg_mid.specs.declared.code.Op.TheVariants as op
-use Rattle.dg_mid.specs.Actions.{act_at, registers_of, said_by, world_of, lasting_in}
+use Rattle.dg_mid.specs.Actions.{act_at, world_of, lasting_in}
 use Rattle.dg_mid.specs.State.{Mid, Status, Runs, Ended}
 use Rattle.dg_mid.specs.Step.{Setting, charged, done, keeps_within, more, said_in, said_to, followed}
 use Rattle.z_model.specs.Run.{ZState}

@@ -2,7 +2,6 @@
 use Rattle.std.proofs.Common.{◌≡◌, ℕ, suc, ◌+◌, ◌<◌, ◌≤◌, Bool, true, false, List, [], ◌∷◌, drop, length, Some, refl, ap, ◌∙◌, arith}
 use Rattle.std.specs.Prelude.{◌==◌}
 use Rattle.std.proofs.lemmas.Bool.{ne_eqb}
-use Rattle.z_lang.specs.declared.act.Act.TheVariants as acts
 use Rattle.z_lang.specs.declared.act.Atom.TheVariants as atoms
 use Rattle.z_lang.specs.declared.act.Comparison.TheVariants as comparisons
 use Rattle.z_lang.specs.declared.act.Function.TheVariants as functions
@@ -14,11 +13,10 @@ use Rattle.dg_meaning.specs.Substitutions.{Substitution}
 use Rattle.dg_rt.specs.declared.printing.TheConstants.{LIST_KIND_ACTS}
 use Rattle.dg_rt.specs.Cells.{compared, Holds}
 use Rattle.dg_rt.specs.Areas.{heap_at, state, IsMapped}
-use Rattle.dg_rt.specs.Shapes.{Shape, IsShape, Cell, Shows, number, dict, object, nil, variable, boxed, Filled, pair_in, closure_in, word_in, Stands}
+use Rattle.dg_rt.specs.Shapes.{Shape, IsShape, Cell, Shows, number, dict, object, nil, variable, boxed, pair_in, closure_in, word_in, Stands}
 use Rattle.dg_rt.proofs.Cells.{reads_cell}
 use Rattle.dg_rt.proofs.Following.{word, tested, computes, local_1, put_1}
 use Rattle.dg_rt.proofs.Locals.{simple_is_positive, boxed_is_negative, reference_is_negative, reference, boxed_no_reference}
-use Rattle.dg_rt.proofs.Showing.{letters_low}
 
 -- What of a list a value is: 2 a pair, 1 the empty list, 0 no list.
 abbrev pub list_kind : Value → ℕ

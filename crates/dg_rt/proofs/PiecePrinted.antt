@@ -1,12 +1,12 @@
 -- The routine that prints a value which is no list does so.
-use Rattle.std.proofs.Common.{◌≡◌, ◌≢◌, ℕ, suc, ◌+◌, ◌*◌, ◌<◌, ◌≤◌, Bool, true, false, List, [], ◌∷◌, ◌++◌, drop, length, map, Some, None, refl, sym, ap, ◌∙◌, subst, arith, append_assoc}
+use Rattle.std.proofs.Common.{◌≡◌, ◌≢◌, ℕ, suc, ◌+◌, ◌<◌, ◌≤◌, Bool, true, false, List, [], ◌∷◌, ◌++◌, drop, length, map, Some, None, refl, ap, ◌∙◌, subst, arith, append_assoc}
 use Rattle.std.specs.Fmt.{decimal}
-use Rattle.std.proofs.lemmas.List.{append-nil, length-map}
+use Rattle.std.proofs.lemmas.List.{length-map}
 use Rattle.dg_base.specs.declared.program.CoreProgram.{CoreProgram}
-use Rattle.dg_meaning.specs.Values.{Word, Unknown, Object, Nil, Pair, Closure, Value, Var, Node, leaf}
+use Rattle.dg_meaning.specs.Values.{Word, Unknown, Object, Value, Var, leaf}
 use Rattle.dg_meaning.specs.World.{Piece}
 use Rattle.dg_meaning.specs.Pieces.{shown_letter, word_text, label_piece, first_piece}
-use Rattle.dg_meaning.specs.Render.{Met, met_behind, written, capital, separator, upper, spaces_from, characters}
+use Rattle.dg_meaning.specs.Render.{written, capital, separator, upper}
 use Rattle.z_lang.specs.declared.act.Act.{Act}
 use Rattle.z_lang.specs.declared.act.Act.TheVariants as acts
 use Rattle.z_lang.specs.declared.act.Args.TheVariants as args
@@ -16,15 +16,14 @@ use Rattle.z_lang.specs.declared.act.Function.TheVariants as functions
 use Rattle.z_lang.specs.declared.act.Print.TheVariants as prints
 use Rattle.z_lang.specs.State.{State}
 use Rattle.z_lang.specs.Acts.{answer_of}
-use Rattle.z_lang.specs.Runs.{ActsRun as Runs, ActsOutcome as Outcome, Returns, at_label, taken, passed, done, calls, returns, behind_label}
+use Rattle.z_lang.specs.Runs.{ActsRun as Runs, ActsOutcome as Outcome, Returns, taken, passed, done, calls, returns, behind_label}
 use Rattle.dg_rt.specs.declared.numbers.TheConstants.{PRINT_MARK, PRINT_NUMBER, PRINT_LETTERS}
 use Rattle.dg_rt.specs.declared.printing.TheConstants.{PRINT_PIECE_ACTS}
 use Rattle.dg_rt.specs.declared.pieces.TheConstants.{PRINT_MARK_ACTS, PRINT_NUMBER_ACTS, PRINT_LETTERS_ACTS}
 use Rattle.dg_rt.specs.Cells.{compared, with_cell, replaced}
 use Rattle.dg_rt.specs.Areas.{heap_at, state}
-use Rattle.dg_rt.specs.Shapes.{IsShape, Cell, Shows, number, dict, object, nil, variable, boxed, ArePrinted, Filled, pair_in, closure_in, word_in}
+use Rattle.dg_rt.specs.Shapes.{IsShape, Cell, Shows, number, dict, object, nil, variable, boxed, ArePrinted, pair_in, closure_in, word_in}
 use Rattle.dg_rt.specs.RunTime.{routine_of, HasRunTime}
-use Rattle.dg_rt.specs.Gaps.{Meets}
 use Rattle.dg_rt.specs.Pieces.{PrintsPiece}
 use Rattle.dg_rt.specs.Prints.{SpellsBy, Spells, PrintsPieces}
 use Rattle.dg_rt.proofs.Cells.{reads_cell, other_cell, same_cell}
@@ -34,7 +33,7 @@ use Rattle.dg_rt.proofs.Following.{word, tested, computes, copies, says, puts}
 use Rattle.dg_rt.proofs.Lettering.{shown_all_small, letters_work}
 use Rattle.dg_rt.proofs.ListKind.{list_kind}
 use Rattle.dg_rt.proofs.Locals.{get_1, get_2, get_3, get_4, set_1, set_4, simple_is_positive, less_by, not_less_by, boxed_is_negative, boxed_no_reference, reference_is_negative, reference, high_is_negative, subtracts}
-use Rattle.dg_rt.proofs.Marks.{unchanged, mark_works, number_works}
+use Rattle.dg_rt.proofs.Marks.{mark_works, number_works}
 use Rattle.dg_rt.proofs.Points.{one_piece, Story, Point, at, Prints, behind, ends, prints_then, prints_behind, prints_last}
 use Rattle.dg_rt.proofs.Showing.{letters_low}
 use Rattle.dg_rt.proofs.Standing.{print_mark_at, print_number_at, print_letters_at}

@@ -1,9 +1,9 @@
 -- Pieces that are printed one after another, from one point of a routine to the next.
-use Rattle.std.proofs.Common.{◌≡◌, ℕ, suc, ◌+◌, ◌*◌, ◌<◌, ◌≤◌, List, [], ◌∷◌, ◌++◌, map, Option, Some, None, refl, sym, ap, ◌∙◌, subst, arith, append_assoc}
+use Rattle.std.proofs.Common.{◌≡◌, ℕ, suc, ◌+◌, ◌*◌, ◌<◌, ◌≤◌, List, [], ◌∷◌, ◌++◌, Some, None, refl, sym, ap, ◌∙◌, subst, arith, append_assoc}
 use Rattle.std.proofs.lemmas.List.{append-nil, map-append}
 use Rattle.dg_meaning.specs.Substitutions.{Substitution}
-use Rattle.dg_meaning.specs.World.{Print, Piece}
-use Rattle.dg_meaning.specs.Render.{Met, met_behind, met_from, render_from, written, spaces_from, characters}
+use Rattle.dg_meaning.specs.World.{Piece}
+use Rattle.dg_meaning.specs.Render.{Met, met_from, render_from, written, characters}
 use Rattle.z_lang.specs.declared.act.Act.{Act}
 use Rattle.z_lang.specs.declared.act.Act.TheVariants as acts
 use Rattle.z_lang.specs.declared.act.Args.{Args}

@@ -1,18 +1,17 @@
 -- The routine that prints a value does so.
-use Rattle.std.proofs.Common.{◌≡◌, ℕ, zero, suc, ◌+◌, ◌*◌, ◌<◌, ◌≤◌, inl, inr, ◌⊎◌, false, List, [], ◌∷◌, length, Some, refl, sym, ap, ◌∙◌, subst, arith}
+use Rattle.std.proofs.Common.{◌≡◌, ℕ, zero, suc, ◌+◌, ◌<◌, ◌≤◌, List, [], ◌∷◌, length, refl, sym, ap, ◌∙◌, subst, arith}
 use Rattle.dg_base.specs.declared.program.CoreProgram.{CoreProgram}
 use Rattle.dg_meaning.specs.Values.{Label, Num, Word, Unknown, Object, Nil, Pair, Closure, Value, Var, Node, Values, NoMore, More, pair}
-use Rattle.dg_meaning.specs.Substitutions.{Substitution, walk, resolved, contains}
+use Rattle.dg_meaning.specs.Substitutions.{walk, resolved, contains}
 use Rattle.dg_meaning.specs.Unify.{size}
-use Rattle.dg_rt.specs.Shapes.{Cell, Shows, number, dict, object, nil, boxed, Filled, pair_in, closure_in, word_in}
+use Rattle.dg_rt.specs.Shapes.{Shows, number, dict, object, nil, boxed, pair_in, closure_in, word_in}
 use Rattle.dg_rt.specs.Prints.{Spells, PrintWorks}
-use Rattle.dg_rt.specs.inside.Walks.{Walks}
 use Rattle.dg_rt.specs.inside.Depth.{Below, on_top, under}
 use Rattle.dg_rt.proofs.Depth.{below_smaller, below_walk, parts_smaller, levels}
 use Rattle.dg_rt.proofs.FullSteps.{LookingThrough, Absent, AllAbsent, first_absent, others_absent, resolved_walked, resolved_as}
 use Rattle.dg_rt.proofs.ListKind.{list_kind}
 use Rattle.dg_rt.proofs.Points.{Point, behind}
-use Rattle.dg_rt.proofs.PrintSteps.{g, Whole, Tail, Rest, RestAt, looked_at, nil_rest, pair_rest, whole_leaf, tail_other, whole_list, tail_list}
+use Rattle.dg_rt.proofs.PrintSteps.{g, Whole, Tail, Rest, RestAt, nil_rest, pair_rest, whole_leaf, tail_other, whole_list, tail_list}
 
 -- A value that was looked up is a list or none.
 by_list : {A : Type 0} (w : Value) → (list_kind w ≡ 0 → A) → ((lab : Label) (vs : Values) → w ≡ Node lab vs → 1 ≤ list_kind (Node lab vs) → A) → A

@@ -1,12 +1,12 @@
 -- The routine that prints a value: parts one after another.
-use Rattle.std.proofs.Common.{◌≡◌, ℕ, suc, ◌+◌, ◌*◌, ◌<◌, ◌≤◌, Bool, true, false, List, [], ◌∷◌, ◌++◌, drop, length, Some, None, refl, sym, ap, ◌∙◌, subst, arith}
+use Rattle.std.proofs.Common.{◌≡◌, ℕ, suc, ◌+◌, ◌*◌, ◌<◌, ◌≤◌, Bool, true, false, List, [], ◌∷◌, ◌++◌, drop, Some, None, refl, sym, ap, ◌∙◌, subst, arith}
 use Rattle.std.specs.Prelude.{◌==◌}
 use Rattle.std.proofs.lemmas.Bool.{eq-eqb, ne_eqb}
 use Rattle.dg_base.specs.declared.program.CoreProgram.{CoreProgram}
 use Rattle.dg_meaning.specs.Values.{Label, Num, Word, Unknown, Object, Nil, Pair, Closure, Value, Var, Node, Values, NoMore, More}
-use Rattle.dg_meaning.specs.Substitutions.{Substitution, walk, links, resolved}
+use Rattle.dg_meaning.specs.Substitutions.{walk, links, resolved}
 use Rattle.dg_meaning.specs.inside.Substitutions.{all_resolved}
-use Rattle.dg_meaning.specs.Pieces.{first_piece, pieces, list_pieces, tail_pieces}
+use Rattle.dg_meaning.specs.Pieces.{first_piece, pieces, tail_pieces}
 use Rattle.dg_meaning.proofs.Walks.{walked, resolved_node, resolved_unbound}
 use Rattle.z_lang.specs.declared.act.Act.{Act}
 use Rattle.z_lang.specs.declared.act.Act.TheVariants as acts
@@ -16,7 +16,7 @@ use Rattle.z_lang.specs.declared.act.Comparison.TheVariants as comparisons
 use Rattle.z_lang.specs.declared.act.Function.TheVariants as functions
 use Rattle.z_lang.specs.State.{State}
 use Rattle.z_lang.specs.Acts.{answer_of, computed}
-use Rattle.z_lang.specs.Runs.{ActsRun as Runs, ActsOutcome as Outcome, Returns, at_label, taken, passed, done, calls, behind_label}
+use Rattle.z_lang.specs.Runs.{ActsRun as Runs, ActsOutcome as Outcome, at_label, taken, passed, done, calls, behind_label}
 use Rattle.dg_rt.specs.declared.numbers.TheConstants.{WALK, LIST_KIND, PRINT_PIECE, PRINT_VALUE}
 use Rattle.dg_rt.specs.declared.unify.TheConstants.{WALK_ACTS}
 use Rattle.dg_rt.specs.declared.printing.TheConstants.{PRINT_PIECE_ACTS, PRINT_VALUE_ACTS}
@@ -24,7 +24,7 @@ use Rattle.dg_rt.specs.Cells.{at_cell}
 use Rattle.dg_rt.specs.Areas.{heap_at, state}
 use Rattle.dg_rt.specs.Shapes.{Cell, Shows}
 use Rattle.dg_rt.specs.RunTime.{routine_of}
-use Rattle.dg_rt.specs.Prints.{Spells, PrintsPieces}
+use Rattle.dg_rt.specs.Prints.{Spells}
 use Rattle.dg_rt.specs.inside.Walks.{ending, Walks}
 use Rattle.dg_rt.proofs.Cells.{reads_cell}
 use Rattle.dg_rt.proofs.Following.{word, tested, computes}

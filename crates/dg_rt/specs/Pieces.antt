@@ -1,6 +1,6 @@
 -- What the routines do that print a piece of a value. Hold it against docs/LANGUAGE.md, where it says how a value is printed, and
 -- dg_meaning/specs/Render.antt.
-use Rattle.std.specs.Prelude.{◌≡◌, ◌≢◌, ℕ, ◌+◌, ◌*◌, ◌<◌, ◌≤◌, List, [], ◌∷◌, ◌++◌, length, true}
+use Rattle.std.specs.Prelude.{◌≡◌, ◌≢◌, ℕ, ◌+◌, ◌*◌, ◌<◌, ◌≤◌, List, [], ◌∷◌, ◌++◌, length}
 use Rattle.std.specs.Fmt.{decimal}
 use Rattle.dg_meaning.specs.Values.{Unknown, leaf}
 use Rattle.dg_meaning.specs.Substitutions.{Substitution}

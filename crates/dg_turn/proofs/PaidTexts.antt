@@ -1,5 +1,5 @@
 -- What text costs is paid for.
-use Rattle.std.proofs.Common.{◌≡◌, ℕ, ◌+◌, ◌*◌, ◌≤◌, List, [], ◌∷◌, ◌++◌, length, refl, sym, ap, ◌∙◌, arith}
+use Rattle.std.proofs.Common.{◌≡◌, ℕ, ◌+◌, ◌*◌, ◌≤◌, List, [], ◌∷◌, ◌++◌, length, ap, ◌∙◌, arith}
 use Rattle.std.specs.Prelude.{All, encode_utf8_all}
 use Rattle.dg_base.specs.declared.program.Term.{Term}
 use Rattle.dg_base.specs.Sound.{IsPrintable}
@@ -25,7 +25,7 @@ use Rattle.dg_rt.proofs.Counted.{characters_on, text_counted, written_counted, m
 use Rattle.dg_turn.specs.Terms.{AreNodes}
 use Rattle.dg_turn.specs.Texts.{gap_n_most}
 use Rattle.dg_turn.specs.Operating.{term_value}
-use Rattle.dg_turn.specs.Prints.{term_pieces, print_most}
+use Rattle.dg_turn.specs.Prints.{print_most}
 use Rattle.dg_turn.specs.Paid.{paid, TextsArePaid}
 use Rattle.dg_turn.proofs.Paid.{all_few, step_is_paid}
 use Rattle.dg_turn.proofs.TextPrinted.{all_small}

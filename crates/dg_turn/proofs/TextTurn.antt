@@ -1,5 +1,5 @@
 -- A text is printed: one turn of the story.
-use Rattle.std.proofs.Common.{◌≡◌, ℕ, ◌+◌, ◌*◌, ◌<◌, ◌≤◌, List, [], ◌∷◌, ◌++◌, length, Some, None, refl, arith}
+use Rattle.std.proofs.Common.{◌≡◌, ℕ, ◌+◌, ◌*◌, List, [], ◌∷◌, ◌++◌, length, Some, refl, arith}
 use Rattle.std.specs.Prelude.{All, encode_utf8_all}
 use Rattle.dg_base.specs.Sound.{IsPrintable}
 use Rattle.dg_meaning.specs.World.{Piece}
