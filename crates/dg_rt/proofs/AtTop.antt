@@ -1,5 +1,5 @@
 -- The routines that say what an operand is do so.
-use Rattle.std.proofs.Common.{◌≡◌, ℕ, suc, ◌+◌, ◌*◌, ◌<◌, ◌≤◌, Bool, true, false, List, [], ◌∷◌, drop, Some, refl, arith}
+use Rattle.std.proofs.Common.{◌≡◌, ℕ, suc, ◌+◌, ◌<◌, ◌≤◌, Bool, true, false, List, [], ◌∷◌, drop, Some, refl, arith}
 use Rattle.z_lang.specs.declared.act.Act.{Act}
 use Rattle.z_lang.specs.declared.act.Act.TheVariants as acts
 use Rattle.z_lang.specs.declared.act.Args.TheVariants as args
@@ -10,14 +10,14 @@ use Rattle.z_lang.specs.State.{State, Program}
 use Rattle.z_lang.specs.Acts.{answer_of}
 use Rattle.z_lang.specs.Runs.{ActsRun as Runs, Returns, done, taken, passed, calls, returns, behind_label, at_label}
 use Rattle.dg_meaning.specs.Values.{Value, Var, Node}
-use Rattle.dg_meaning.specs.Substitutions.{Substitution, walk, links}
+use Rattle.dg_meaning.specs.Substitutions.{Substitution, walk}
 use Rattle.dg_rt.specs.declared.numbers.TheConstants.{WALK}
 use Rattle.dg_rt.specs.declared.operands.TheConstants.{NUMBER_ACTS, OBJECT_ACTS, SIMPLE_ACTS}
 use Rattle.dg_rt.specs.Cells.{compared, Holds}
 use Rattle.dg_rt.specs.Areas.{state}
-use Rattle.dg_rt.specs.Shapes.{Shape, IsShape, Shows, number, dict, object, nil, variable, boxed, Filled, pair_in, closure_in, word_in, Stands}
+use Rattle.dg_rt.specs.Shapes.{Shape, IsShape, Shows, number, dict, object, nil, variable, boxed, pair_in, closure_in, word_in, Stands}
 use Rattle.dg_rt.specs.RunTime.{HasRunTime}
-use Rattle.dg_rt.specs.Operands.{no_value, number_word, object_word, simple_word, FitsStory, LooksUp, Tells, OperandsWork}
+use Rattle.dg_rt.specs.Operands.{no_value, number_word, object_word, simple_word, FitsStory, LooksUp, OperandsWork}
 use Rattle.dg_rt.specs.inside.Walks.{ending}
 use Rattle.dg_rt.proofs.Following.{tested, computes, local_1, put_1}
 use Rattle.dg_rt.proofs.Locals.{subtracts, less_by, not_less_by, high_is_less}

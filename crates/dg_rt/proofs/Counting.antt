@@ -4,7 +4,7 @@ use Rattle.std.specs.Prelude.{◌==◌}
 use Rattle.std.proofs.lemmas.Bool.{eq-eqb, ne_eqb}
 use Rattle.std.proofs.lemmas.List.{append-nil, map-append}
 use Rattle.dg_base.specs.declared.cells.Cell.TheVariants as cell
-use Rattle.dg_meaning.specs.Values.{Label, Num, Word, Unknown, Object, Nil, Pair, Closure, Value, Var, Node, Values, NoMore, More, leaf}
+use Rattle.dg_meaning.specs.Values.{Num, Word, Unknown, Object, Nil, Pair, Closure, Value, Var, Node, Values, NoMore, More, leaf}
 use Rattle.dg_meaning.specs.ValueCells.{count_of, cells_of, cells_of_all}
 use Rattle.dg_meaning.specs.Copies.{copy_cells, all_copy_cells}
 use Rattle.dg_meaning.specs.Unify.{size, sizes}
@@ -20,7 +20,7 @@ use Rattle.z_lang.specs.Standing.{IsKept}
 use Rattle.dg_rt.specs.declared.keeping.TheConstants.{CELLS_ACTS}
 use Rattle.dg_rt.specs.Cells.{compared, at_cell, Holds}
 use Rattle.dg_rt.specs.Areas.{state}
-use Rattle.dg_rt.specs.Laying.{FormedAs, Formed, AllFormed}
+use Rattle.dg_rt.specs.Laying.{Formed, AllFormed}
 use Rattle.dg_rt.specs.Copies.{cell_word, words_of, Row}
 use Rattle.dg_rt.specs.CopiesIn.{HasCaptures}
 use Rattle.dg_rt.specs.Moves.{TellsCells, CellsWorks}

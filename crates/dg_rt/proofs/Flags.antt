@@ -18,7 +18,7 @@ use Rattle.dg_rt.specs.Tables.{byte_at, AreBytes, AreFlags, TellsFlag, FlagWorks
 use Rattle.dg_rt.specs.inside.Walks.{steps}
 use Rattle.dg_rt.proofs.Cells.{holds_with, reads_cell, writes_cell, other_cell, same_cell}
 use Rattle.dg_rt.proofs.CaptureSteps.{divides}
-use Rattle.dg_rt.proofs.Following.{word, tested, computes, writes, local_1, local_2, local_3, put_1, put_2, put_3}
+use Rattle.dg_rt.proofs.Following.{word, tested, computes, writes, local_1, local_2, put_1, put_2, put_3}
 use Rattle.dg_rt.proofs.Locals.{added, adds, subtracts, get_1, get_2, get_3, get_4, set_1, set_2, set_3, set_4}
 use Rattle.dg_rt.proofs.Standing.{flag_at, set_flag_at}
 

@@ -4,8 +4,7 @@ use Rattle.z_lang.specs.declared.act.Comparison.TheVariants as comparisons
 use Rattle.z_lang.specs.State.{State}
 use Rattle.z_lang.specs.Runs.{ActsRun as Runs, ActsOutcome as Outcome, Returns, at_label, taken, passed, calls, returns, behind_label}
 use Rattle.dg_meaning.specs.Values.{Label, Closure, Value, Var, Node, Values, NoMore, More, Pair, pair}
-use Rattle.dg_meaning.specs.Substitutions.{Substitution, walk, links, resolved, contains}
-use Rattle.dg_meaning.specs.inside.Substitutions.{all_resolved}
+use Rattle.dg_meaning.specs.Substitutions.{walk, resolved, contains}
 use Rattle.dg_meaning.specs.Unify.{size}
 use Rattle.dg_meaning.proofs.LookUps.{walk_node}
 use Rattle.dg_rt.specs.declared.unify.TheConstants.{WALK_ACTS}
@@ -23,7 +22,7 @@ use Rattle.dg_rt.proofs.Depth.{below_smaller, below_walk, parts_smaller, levels}
 use Rattle.dg_rt.proofs.Looks.{links_some}
 use Rattle.dg_rt.proofs.Standing.{walk_at}
 use Rattle.dg_rt.proofs.Walking.{walk_works}
-use Rattle.dg_rt.proofs.FullSteps.{LookingThrough, now, seen, seen_all, full, all_full, Absent, AllAbsent, first_absent, others_absent, resolved_walked, resolved_as, seen_node, seen_variable, full_node, full_variable, less, Goes, simple, unknown, Called, Each, Loops, loops, closure, of_pair}
+use Rattle.dg_rt.proofs.FullSteps.{LookingThrough, now, seen, seen_all, full, all_full, Absent, AllAbsent, first_absent, others_absent, resolved_walked, resolved_as, seen_node, seen_variable, full_node, full_variable, less, Goes, simple, unknown, Called, loops, closure, of_pair}
 
 module _ (io : LookingThrough) where
   open io use {p, has, sh, is, memory, typed, output, drawn, cells, h, S, st, n}

@@ -11,7 +11,7 @@ use Rattle.z_lang.specs.declared.act.Comparison.TheVariants as comparisons
 use Rattle.z_lang.specs.State.{State, Program}
 use Rattle.z_lang.specs.Acts.{answer_of, computed}
 use Rattle.z_lang.specs.Runs.{ActsRun as Runs, ActsOutcome as Outcome, Returns, at_label, goes, taken, passed, done, calls, returns, behind_label}
-use Rattle.dg_meaning.specs.Values.{Label, Pair, Closure, Value, Var, Node, Values, NoMore, More}
+use Rattle.dg_meaning.specs.Values.{Label, Value, Var, Node, Values, NoMore, More}
 use Rattle.dg_meaning.specs.ValueCells.{count_of}
 use Rattle.dg_meaning.specs.TypeTests.{is_fully_bound, are_fully_bound}
 use Rattle.dg_meaning.specs.Substitutions.{Substitution, walk, links, resolved, contains, any_contains}

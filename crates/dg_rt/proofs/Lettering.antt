@@ -1,15 +1,13 @@
 -- The routine that prints an unknown word does so.
-use Rattle.std.proofs.Common.{◌≡◌, ◌≢◌, ℕ, suc, ◌+◌, ◌-◌, ◌*◌, ◌<◌, ◌≤◌, inl, inr, Bool, true, false, List, [], ◌∷◌, ◌++◌, drop, length, map, Option, Some, None, refl, sym, ap, ◌∙◌, subst, arith, append_assoc}
+use Rattle.std.proofs.Common.{◌≡◌, ◌≢◌, ℕ, suc, ◌+◌, ◌*◌, ◌<◌, ◌≤◌, inl, inr, Bool, true, false, List, [], ◌∷◌, ◌++◌, drop, length, map, Some, refl, sym, ap, ◌∙◌, subst, arith, append_assoc}
 use Rattle.std.specs.Prelude.{◌==◌, if◌then◌else◌, encode_utf8_all}
 use Rattle.std.proofs.lemmas.Bool.{eq-eqb, ne_eqb, lt-ltb, le-ltb, cases_lt, cond-true, cond-false}
 use Rattle.std.proofs.lemmas.List.{append-nil}
 use Rattle.std.proofs.Math.Utf8.{encode}
-use Rattle.dg_meaning.specs.Values.{Unknown, leaf}
 use Rattle.dg_meaning.specs.Substitutions.{Substitution}
 use Rattle.dg_meaning.specs.World.{Piece}
 use Rattle.dg_meaning.specs.Pieces.{shown_letter, word_text}
-use Rattle.dg_meaning.specs.Render.{opens, capital, separator, first_of, last_of, Met, met_behind, written, spaces_from}
-use Rattle.z_model.specs.Zscii.{is_character}
+use Rattle.dg_meaning.specs.Render.{opens, capital, separator, first_of, last_of, Met, written}
 use Rattle.z_lang.specs.declared.act.Act.{Act}
 use Rattle.z_lang.specs.declared.act.Act.TheVariants as acts
 use Rattle.z_lang.specs.declared.act.Args.TheVariants as args
@@ -18,18 +16,18 @@ use Rattle.z_lang.specs.declared.act.Comparison.TheVariants as comparisons
 use Rattle.z_lang.specs.declared.act.Function.TheVariants as functions
 use Rattle.z_lang.specs.declared.act.Print.TheVariants as prints
 use Rattle.z_lang.specs.State.{State, Program}
-use Rattle.z_lang.specs.Acts.{answer_of, computed}
+use Rattle.z_lang.specs.Acts.{answer_of}
 use Rattle.z_lang.specs.Runs.{ActsRun as Runs, ActsOutcome as Outcome, Returns, at_label, taken, passed, done, goes, calls, returns, behind_label}
 use Rattle.dg_rt.specs.declared.numbers.TheConstants.{LETTER}
 use Rattle.dg_rt.specs.declared.pieces.TheConstants.{LETTER_ACTS, PRINT_LETTERS_ACTS}
 use Rattle.dg_rt.specs.Cells.{compared, with_cell, replaced, Holds}
 use Rattle.dg_rt.specs.Areas.{heap_at, state, IsMapped}
 use Rattle.dg_rt.specs.RunTime.{HasRunTime}
-use Rattle.dg_rt.specs.Shapes.{Shape, IsShape, Cell, Letters, ArePrinted, Shows, boxed, Filled, word_in, Stands}
+use Rattle.dg_rt.specs.Shapes.{Shape, IsShape, Letters, ArePrinted, boxed, word_in, Stands}
 use Rattle.dg_rt.specs.Gaps.{last_word, Meets, Separates, PrintsFirst}
 use Rattle.dg_rt.specs.Pieces.{PrintsPiece, LettersWork}
 use Rattle.dg_rt.proofs.Cells.{reads_cell, other_cell, same_cell}
-use Rattle.dg_rt.proofs.Encoding.{EndsAs, encoded, last_in, AllSmall, text_ends, capital_on}
+use Rattle.dg_rt.proofs.Encoding.{encoded, last_in, AllSmall, text_ends, capital_on}
 use Rattle.dg_rt.proofs.First.{printed, first_works, calls_first}
 use Rattle.dg_rt.proofs.Following.{word, tested, computes, copies, says, puts, local_1, local_2, local_3, put_1, put_2, put_3}
 use Rattle.dg_rt.proofs.Locals.{added, high_less, high_not_less, low_not_less}

@@ -1,18 +1,16 @@
 -- The routines that print a piece of a value do so.
-use Rattle.std.proofs.Common.{◌≡◌, ◌≢◌, ℕ, zero, suc, ◌+◌, ◌*◌, ◌/◌, ◌%◌, ◌<◌, ◌≤◌, Bool, true, false, List, [], ◌∷◌, ◌++◌, drop, Option, Some, None, refl, sym, ap, ◌∙◌, subst, arith, append_assoc}
+use Rattle.std.proofs.Common.{◌≡◌, ◌≢◌, ℕ, zero, suc, ◌+◌, ◌/◌, ◌%◌, ◌<◌, ◌≤◌, Bool, true, false, List, [], ◌∷◌, ◌++◌, drop, Option, Some, None, refl, sym, ap, ◌∙◌, arith, append_assoc}
 use Rattle.std.specs.Prelude.{◌==◌, ◌||◌, eqb, nat_lt, if◌then◌else◌}
-use Rattle.std.specs.Fmt.{decimal, signed_decimal, digits, digits_onto, digit_glyph}
+use Rattle.std.specs.Fmt.{decimal, digits, digits_onto, digit_glyph}
 use Rattle.std.specs.List.{list_any}
-use Rattle.std.proofs.lemmas.Bool.{eq-eqb, ne_eqb, lt-ltb, cond-true, cond-false}
+use Rattle.std.proofs.lemmas.Bool.{ne_eqb, lt-ltb, cond-true, cond-false}
 use Rattle.dg_meaning.specs.World.{Print, Piece}
 use Rattle.dg_meaning.specs.Render.{is_line, is_par, is_upper, spaces_of, last_asked, space_for, opens, closes, upper, capital, separator, first_of, last_of, Met, met_behind, written, spaces_from}
-use Rattle.z_model.specs.Numbers.{signed_16}
 use Rattle.z_lang.specs.declared.act.Atom.TheVariants as atoms
-use Rattle.z_lang.specs.declared.act.Comparison.TheVariants as comparisons
 use Rattle.z_lang.specs.declared.act.Print.TheVariants as prints
 use Rattle.z_lang.specs.State.{State, Program}
-use Rattle.z_lang.specs.Acts.{answer_of, print_output}
-use Rattle.z_lang.specs.Runs.{ActsRun as Runs, Returns, at_label, taken, passed, done, calls, returns, behind_label}
+use Rattle.z_lang.specs.Acts.{print_output}
+use Rattle.z_lang.specs.Runs.{Returns, at_label, taken, passed, done, returns, behind_label}
 use Rattle.dg_rt.specs.declared.pieces.TheConstants.{PRINT_MARK_ACTS, PRINT_NUMBER_ACTS}
 use Rattle.dg_rt.specs.Cells.{with_cell, replaced, Holds}
 use Rattle.dg_rt.specs.Areas.{state}
@@ -22,7 +20,7 @@ use Rattle.dg_rt.specs.Pieces.{PrintsPiece, MarkWorks, NumberWorks}
 use Rattle.dg_rt.proofs.Cells.{some_list, other_cell, same_cell}
 use Rattle.dg_rt.proofs.Closing.{letter_printed}
 use Rattle.dg_rt.proofs.First.{as_it_is, same_capital, upper_low}
-use Rattle.dg_rt.proofs.Following.{tested, copies, says, puts, local_1}
+use Rattle.dg_rt.proofs.Following.{copies, says, puts, local_1}
 use Rattle.dg_rt.proofs.Locals.{positive}
 use Rattle.dg_rt.proofs.Separating.{among, or_three, or_nothing, closes_by, separate_works, calls_separate}
 

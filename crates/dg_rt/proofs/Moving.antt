@@ -1,12 +1,12 @@
 -- The routine that moves words does so.
-use Rattle.std.proofs.Common.{◌≡◌, ℕ, zero, suc, ◌+◌, ◌*◌, ◌<◌, ◌≤◌, true, false, List, [], ◌∷◌, drop, refl, sym, ap, ◌∙◌, arith}
+use Rattle.std.proofs.Common.{◌≡◌, ℕ, zero, suc, ◌+◌, ◌<◌, ◌≤◌, true, false, List, [], ◌∷◌, drop, refl, sym, ap, ◌∙◌, arith}
 use Rattle.std.proofs.lemmas.Bool.{ne_eqb}
 use Rattle.z_lang.specs.declared.act.Atom.TheVariants as atoms
 use Rattle.z_lang.specs.declared.act.Comparison.TheVariants as comparisons
 use Rattle.z_lang.specs.declared.act.Function.TheVariants as functions
 use Rattle.z_lang.specs.declared.act.Width.TheVariants as widths
 use Rattle.z_lang.specs.State.{State, Program}
-use Rattle.z_lang.specs.Runs.{ActsRun as Runs, Returns, done, taken, passed, goes, returns, behind_label, at_label}
+use Rattle.z_lang.specs.Runs.{done, taken, passed, goes, returns, behind_label, at_label}
 use Rattle.dg_rt.specs.declared.keeping.TheConstants.{MOVE_ACTS}
 use Rattle.dg_rt.specs.Cells.{at_cell, with_cell, replaced, Holds}
 use Rattle.dg_rt.specs.Areas.{state}

@@ -3,7 +3,7 @@ use Rattle.std.proofs.Common.{◌≡◌, ◌≢◌, ℕ, suc, ◌+◌, ◌<◌, 
 use Rattle.std.specs.Fmt.{decimal}
 use Rattle.std.proofs.lemmas.List.{length-map}
 use Rattle.dg_base.specs.declared.program.CoreProgram.{CoreProgram}
-use Rattle.dg_meaning.specs.Values.{Word, Unknown, Object, Value, Var, leaf}
+use Rattle.dg_meaning.specs.Values.{Word, Unknown, Object, Value, leaf}
 use Rattle.dg_meaning.specs.World.{Piece}
 use Rattle.dg_meaning.specs.Pieces.{shown_letter, word_text, label_piece, first_piece}
 use Rattle.dg_meaning.specs.Render.{written, capital, separator, upper}

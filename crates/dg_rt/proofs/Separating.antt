@@ -14,14 +14,14 @@ use Rattle.z_lang.specs.declared.act.Comparison.TheVariants as comparisons
 use Rattle.z_lang.specs.declared.act.Function.TheVariants as functions
 use Rattle.z_lang.specs.declared.act.Print.TheVariants as prints
 use Rattle.z_lang.specs.State.{State, Program, value}
-use Rattle.z_lang.specs.Acts.{answer_of, does, with_output}
+use Rattle.z_lang.specs.Acts.{answer_of, does}
 use Rattle.z_lang.specs.Runs.{ActsRun as Runs, ActsOutcome as Outcome, Returns, at_label, taken, passed, done, goes, calls, returns, behind_label}
 use Rattle.dg_rt.specs.declared.numbers.TheConstants.{SEPARATE}
 use Rattle.dg_rt.specs.declared.gaps.TheConstants.{SEPARATE_ACTS}
 use Rattle.dg_rt.specs.Cells.{with_cell, replaced, Holds}
 use Rattle.dg_rt.specs.Areas.{state}
 use Rattle.dg_rt.specs.RunTime.{HasRunTime}
-use Rattle.dg_rt.specs.Gaps.{last_word, break_word, asked_word, Meets, Separates, SeparateWorks}
+use Rattle.dg_rt.specs.Gaps.{last_word, asked_word, Meets, Separates, SeparateWorks}
 use Rattle.dg_rt.specs.inside.Walks.{steps}
 use Rattle.dg_rt.proofs.Cells.{other_cell, same_cell}
 use Rattle.dg_rt.proofs.Closing.{say, letter_printed, newline_printed}

@@ -1,19 +1,16 @@
 -- The routines that read and write words of objects do so.
-use Rattle.std.proofs.Common.{◌≡◌, ◌≢◌, ℕ, zero, suc, ◌+◌, ◌*◌, ◌%◌, ◌<◌, ◌≤◌, inl, inr, true, false, List, [], ◌∷◌, drop, refl, sym, ap, ◌∙◌, subst, arith}
+use Rattle.std.proofs.Common.{◌≡◌, ℕ, zero, suc, ◌+◌, ◌≤◌, inl, inr, true, false, List, [], ◌∷◌, drop, refl, ap, ◌∙◌, arith}
 use Rattle.std.proofs.lemmas.Bool.{ne_eqb, cases_eq}
-use Rattle.z_lang.specs.declared.act.Act.TheVariants as acts
 use Rattle.z_lang.specs.declared.act.Atom.TheVariants as atoms
 use Rattle.z_lang.specs.declared.act.Comparison.TheVariants as comparisons
 use Rattle.z_lang.specs.declared.act.Function.TheVariants as functions
 use Rattle.z_lang.specs.declared.act.Width.TheVariants as widths
 use Rattle.z_lang.specs.State.{State, Program}
-use Rattle.z_lang.specs.Runs.{ActsRun as Runs, Returns, done, taken, passed, goes, returns, behind_label, at_label}
-use Rattle.dg_rt.specs.declared.world.TheConstants.{VALUE_ACTS, SET_ACTS, CLEAR_ACTS, CLEAR_ALL_ACTS}
+use Rattle.z_lang.specs.Runs.{done, taken, passed, goes, returns, behind_label, at_label}
+use Rattle.dg_rt.specs.declared.world.TheConstants.{CLEAR_ALL_ACTS}
 use Rattle.dg_rt.specs.Cells.{at_cell, with_cell, replaced, Holds}
 use Rattle.dg_rt.specs.Areas.{areas_end, state}
-use Rattle.dg_rt.specs.RunTime.{HasRunTime}
-use Rattle.dg_rt.specs.Operands.{no_value}
-use Rattle.dg_rt.specs.Tables.{IsTable, ValueWorks, Writes, SetWorks, ClearWorks, ClearsAll, ClearAllWorks}
+use Rattle.dg_rt.specs.Tables.{ValueWorks, SetWorks, ClearWorks, ClearsAll, ClearAllWorks}
 use Rattle.dg_rt.proofs.Cells.{holds_with, reads_cell, writes_cell, other_cell, same_cell}
 use Rattle.dg_rt.proofs.Following.{tested, computes, writes, local_1, local_2, local_3, put_1, put_2}
 use Rattle.dg_rt.proofs.Locals.{subtracts}

@@ -4,7 +4,6 @@ use Rattle.std.specs.List.{list_any}
 use Rattle.dg_meaning.specs.World.{Print}
 use Rattle.dg_meaning.specs.Render.{is_line, is_par, is_upper, spaces_from, last_asked, opens, separator, capital, Met}
 use Rattle.z_model.specs.Zscii.{is_character}
-use Rattle.z_lang.specs.declared.act.Act.{Act}
 use Rattle.z_lang.specs.State.{Program}
 use Rattle.z_lang.specs.Runs.{ActsRun as Runs, Returns}
 use Rattle.dg_rt.specs.declared.gaps.TheConstants.{SEPARATE_ACTS, FIRST_ACTS}
