@@ -31,7 +31,7 @@ stands_still {sh} cells cells' same st = record {
 }
 
 -- A piece alone.
-pub one_piece : {p : Program} {f w : ℕ} {acts : List Act} {memory locals typed output : List ℕ} {drawn : ℕ} {cells : ℕ → ℕ} {m : Met} {most : ℕ} (bytes : List ℕ) (most' : ℕ) → most ≤ 8 * characters bytes + most' →
+pub one_piece : {p : Program} {f w : ℕ} {acts : List Act} {memory locals typed output : List ℕ} {drawn : ℕ} {cells : ℕ → ℕ} {m : Met} {most : ℕ} (bytes : List ℕ) (most' : ℕ) → most ≤ 20 * characters bytes + most' →
     PrintsPiece p f w acts memory locals typed output drawn cells m bytes most → PrintsPieces p f w acts acts memory locals typed output drawn cells m (bytes ∷ []) most'
 one_piece {p} {f} {w} {acts} {memory} {locals} {typed} {output} {drawn} {cells} {m} bytes most' le r =
     let few = r.few in

@@ -24,7 +24,7 @@ use Rattle.dg_rt.specs.Pieces.{PrintsPiece}
 abbrev pub all_pieces : List (List ℕ) → List Print
 all_pieces ps = map Piece ps
 
--- Pieces were printed one after another, each with what separates it from the text before, in 8 instructions for each character that appears and so many
+-- Pieces were printed one after another, each with what separates it from the text before, in 20 instructions for each character that appears and so many
 -- more; the registers say what the next one meets.
 pub record PrintsPieces (p : Program) (f w : ℕ) (body acts : List Act) (memory locals typed output : List ℕ) (drawn : ℕ) (cells : ℕ → ℕ) (m : Met)
     (ps : List (List ℕ)) (most : ℕ) : Type 0 where
@@ -35,18 +35,18 @@ pub record PrintsPieces (p : Program) (f w : ℕ) (body acts : List Act) (memory
   pub meets : Meets cells' (met_from m (all_pieces ps))
   pub others : (k : ℕ) → k ≢ last_reg → k ≢ lines_reg → k ≢ spaces_reg → k ≢ asked_reg → k ≢ upper_reg → cells' k ≡ cells k
   pub count : ℕ
-  pub few : count ≤ 8 * characters (render_from m (all_pieces ps)) + most
+  pub few : count ≤ 20 * characters (render_from m (all_pieces ps)) + most
   pub runs : Runs p f w body acts (state memory locals typed drawn output) (Returns 0)
       (state memory' locals' typed drawn (output ++ render_from m (all_pieces ps))) count
 
 -- ## What a program spells
 
--- The routine at an address prints each of so many pieces by its number, in an instruction a character, 3 a space in front of it, and 100.
+-- The routine at an address prints each of so many pieces by its number, in 20 instructions a character, 3 a space in front of it, and 100.
 pub record SpellsBy (p : Program) (x many : ℕ) (text : ℕ → List ℕ) : Type 0 where
   pub body : List Act
   pub there : p.routine_at x ≡ Some (routine_of 1 body)
   pub prints : (memory typed output : List ℕ) (drawn n : ℕ) (cells : ℕ → ℕ) → Holds p.world.layout memory cells → n < many → (m : Met) →
-      Meets cells m → PrintsPiece p 20 80 body memory (n ∷ []) typed output drawn cells m (text n) (characters (text n) + 100)
+      Meets cells m → PrintsPiece p 20 80 body memory (n ∷ []) typed output drawn cells m (text n) (20 * characters (text n) + 100)
 
 -- One prints the words of a program by their spelling, and one its objects by their names.
 pub record Spells (p : Program) (program : CoreProgram) (words objects : ℕ) : Type 0 where

@@ -43,11 +43,11 @@ term_pieces program m a = all_pieces (pieces program (resolved m.state.subst (te
 abbrev pub all_printed : Met → List Print → Outside → Outside
 all_printed met es out = record out { output = out.output ++ render_from met es; words = met_words (met_from met es) out.words }
 
--- What printing the value of a term takes at most: 200 for each node and link of it, and 8 for each character that appears.
+-- What printing the value of a term takes at most: 200 for each node and link of it, and 20 for each character that appears.
 abbrev pub print_most : CoreProgram → Met → Term → Mid → ℕ
 print_most program met a m =
     written_in program (a ∷ []) + 200 * looks m.state.subst m.state.vars (term_value program m a)
-    + 8 * characters (render_from met (term_pieces program m a)) + 20
+    + 20 * characters (render_from met (term_pieces program m a)) + 20
 
 -- In one turn the value of a term is printed, or the heap's limit is met: `effect` of (print).
 pub record PrintTurns : Type 0 where
