@@ -1,5 +1,5 @@
 -- The routine that prints a value which is no list does so.
-use Rattle.std.proofs.Common.{◌≡◌, ◌≢◌, ℕ, suc, ◌+◌, ◌<◌, ◌≤◌, Bool, true, false, List, [], ◌∷◌, ◌++◌, drop, length, map, Some, None, refl, ap, ◌∙◌, subst, arith, append_assoc}
+use Rattle.std.proofs.Common.{◌≡◌, ◌≢◌, ℕ, suc, ◌+◌, ◌<◌, ◌≤◌, Bool, true, false, List, [], ◌∷◌, ◌++◌, drop, take, length, map, Some, None, refl, ap, ◌∙◌, subst, arith, append_assoc}
 use Rattle.std.specs.Fmt.{decimal}
 use Rattle.std.proofs.lemmas.List.{length-map}
 use Rattle.dg_base.specs.declared.program.CoreProgram.{CoreProgram}
@@ -7,6 +7,7 @@ use Rattle.dg_meaning.specs.Values.{Word, Unknown, Object, Value, leaf}
 use Rattle.dg_meaning.specs.World.{Piece}
 use Rattle.dg_meaning.specs.Pieces.{shown_letter, word_text, label_piece, first_piece}
 use Rattle.dg_meaning.specs.Render.{written, capital, separator, upper}
+use Rattle.z_model.specs.Flow.{zeros}
 use Rattle.z_lang.specs.declared.act.Act.{Act}
 use Rattle.z_lang.specs.declared.act.Act.TheVariants as acts
 use Rattle.z_lang.specs.declared.act.Args.TheVariants as args
@@ -53,7 +54,7 @@ mark_then g has f w two two' body rest q locals c low high same qs most total le
 
 -- ## The routine
 
-module _ (g : Story) (has : HasRunTime g.p) (is : IsShape g.sh) (program : CoreProgram) (words objects : ℕ) (sp : Spells g.p program words objects) (f w : ℕ) (some : 21 ≤ f) (enough : 81 ≤ w) (q : Point g) where
+module _ (g : Story) (has : HasRunTime g.p) (is : IsShape g.sh) (program : CoreProgram) (words objects : ℕ) (sp : Spells g.p program words objects) (f w : ℕ) (some : 24 ≤ f) (enough : 96 ≤ w) (q : Point g) where
   abbrev loc : ℕ → ℕ → List ℕ
   loc a b = a ∷ words ∷ objects ∷ b ∷ []
 
@@ -80,12 +81,13 @@ module _ (g : Story) (has : HasRunTime g.p) (is : IsShape g.sh) (program : CoreP
       (one_piece (decimal n) 19 (omega arith) (number_works g.p has 1 1 (omega arith) (omega arith) q.memory g.typed q.output g.drawn n q.cells q.holds lt q.met q.meets)))
 
   -- what is told apart by its number is printed by a routine of the program
-  spelled : (x many : ℕ) (text : ℕ → List ℕ) (s : SpellsBy g.p x many text) (n : ℕ) → n < many → PrintsPieces g.p 20 80 s.body s.body q.memory (n ∷ []) g.typed q.output g.drawn q.cells q.met (text n ∷ []) 100
+  spelled : (x many : ℕ) (text : ℕ → List ℕ) (s : SpellsBy g.p x many text) (n : ℕ) → n < many → PrintsPieces g.p 20 80 s.body s.body q.memory (n ∷ take s.more (0 ∷ 0 ∷ zeros)) g.typed q.output g.drawn q.cells q.met (text n ∷ []) 100
   spelled x many text s n lt = one_piece (text n) 100 (omega arith) (s.prints q.memory g.typed q.output g.drawn n q.cells q.holds lt q.met q.meets)
 
   a_word : (n b : ℕ) → n < 8192 → Piecewise (16384 + n) b (label_piece program (Word n))
   unfolding behind_label
   a_word n b lt =
+      let more = sp.words_are.few in
       let x = 16384 + n in
       let text : ℕ → List ℕ = λ i. label_piece program (Word i) in
       prints_behind g q (drop 11 PRINT_PIECE_ACTS) (loc n b) (text n ∷ []) (λ k. suc (suc (suc (suc k)))) 4 103 110 (λ k. (omega arith)) (omega arith)
@@ -93,12 +95,13 @@ module _ (g : Story) (has : HasRunTime g.p) (is : IsShape g.sh) (program : CoreP
       (passed (less x b 16384 false (not_less_by x 16384 (omega arith) (omega arith) (omega arith)))
       (taken (less x b 24576 true (less_by x 24576 (omega arith) (omega arith) (omega arith))) refl
       (done (computes g.p (now x b) (now n b) 1 functions.Sub (atoms.Var 1) (atoms.Num 16384) x 16384 n (get_1 g.p q.memory x words objects b g.typed g.drawn q.output) refl (subtracts g.p q.memory x 16384 n refl (omega arith)) (set_1 g.p q.memory x words objects b n g.typed g.drawn q.output)) rest))))
-      (prints_last g {f' = 20} {w' = 80} (drop 13 PRINT_PIECE_ACTS) q (loc n b) (atoms.Var 2) (args.One (atoms.Var 1)) words (n, 0, 0) (routine_of 1 sp.words_are.body) (text n) 100 103
+      (prints_last g {f' = 20} {w' = 80} (drop 13 PRINT_PIECE_ACTS) q (loc n b) (atoms.Var 2) (args.One (atoms.Var 1)) words (n, 0, 0) (routine_of (suc sp.words_are.more) sp.words_are.body) (text n) 100 103
       (get_2 g.p q.memory n words objects b g.typed g.drawn q.output) (rw (get_1 g.p q.memory n words objects b g.typed g.drawn q.output) refl) sp.words_are.there (omega arith) (omega arith) (omega arith)
       (spelled words 8192 text sp.words_are n lt))
 
   an_object : (n b : ℕ) → n < 4096 → Piecewise (24576 + n) b (label_piece program (Object n))
   an_object n b lt =
+      let more = sp.objects_are.few in
       let x = 24576 + n in
       let text : ℕ → List ℕ = λ i. label_piece program (Object i) in
       prints_behind g q (drop 4 PRINT_PIECE_ACTS) (loc n b) (text n ∷ []) (λ k. suc (suc (suc (suc k)))) 4 103 110 (λ k. (omega arith)) (omega arith)
@@ -106,7 +109,7 @@ module _ (g : Story) (has : HasRunTime g.p) (is : IsShape g.sh) (program : CoreP
       (passed (less x b 16384 false (not_less_by x 16384 (omega arith) (omega arith) (omega arith)))
       (passed (less x b 24576 false (not_less_by x 24576 (omega arith) (omega arith) (omega arith)))
       (done (computes g.p (now x b) (now n b) 1 functions.Sub (atoms.Var 1) (atoms.Num 24576) x 24576 n (get_1 g.p q.memory x words objects b g.typed g.drawn q.output) refl (subtracts g.p q.memory x 24576 n refl (omega arith)) (set_1 g.p q.memory x words objects b n g.typed g.drawn q.output)) rest))))
-      (prints_last g {f' = 20} {w' = 80} (drop 6 PRINT_PIECE_ACTS) q (loc n b) (atoms.Var 3) (args.One (atoms.Var 1)) objects (n, 0, 0) (routine_of 1 sp.objects_are.body) (text n) 100 103
+      (prints_last g {f' = 20} {w' = 80} (drop 6 PRINT_PIECE_ACTS) q (loc n b) (atoms.Var 3) (args.One (atoms.Var 1)) objects (n, 0, 0) (routine_of (suc sp.objects_are.more) sp.objects_are.body) (text n) 100 103
       (get_3 g.p q.memory n words objects b g.typed g.drawn q.output) (rw (get_1 g.p q.memory n words objects b g.typed g.drawn q.output) refl) sp.objects_are.there (omega arith) (omega arith) (omega arith)
       (spelled objects 4096 text sp.objects_are n lt))
 

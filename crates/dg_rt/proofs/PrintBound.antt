@@ -38,7 +38,7 @@ module _ (io : LookingThrough) (program : CoreProgram) (words objects : ℕ) (sp
   Tails f ks w = (q : pt) (y b : ℕ) (a : Value) → Shows sh y a → Below sh S ks a → size (resolved S a) < size (resolved S w) → (Absent io) a → Tail io program words objects sp f q y b a
 
   -- the rest of a list that was looked up
-  rest : {u : ℕ} (f : ℕ) (q : pt) (lab : Label) (vs : Values) (ks : List ℕ) → Shows sh u (Node lab vs) → Below sh S ks (Node lab vs) → 3360 ≤ suc f + length ks → 21 ≤ f → (AllAbsent io) vs → 1 ≤ list_kind (Node lab vs) → Heads f (Node lab vs) → Tails (suc f) ks (Node lab vs) → Rest io program words objects sp (suc f) q u lab vs
+  rest : {u : ℕ} (f : ℕ) (q : pt) (lab : Label) (vs : Values) (ks : List ℕ) → Shows sh u (Node lab vs) → Below sh S ks (Node lab vs) → 3360 ≤ suc f + length ks → 24 ≤ f → (AllAbsent io) vs → 1 ≤ list_kind (Node lab vs) → Heads f (Node lab vs) → Tails (suc f) ks (Node lab vs) → Rest io program words objects sp (suc f) q u lab vs
   rest f q lab vs ks (number m lt) below few enough absent some heads tails = absurd (omega (arith, some))
   rest f q lab vs ks (dict m lt) below few enough absent some heads tails = absurd (omega (arith, some))
   rest f q lab vs ks (object m lt) below few enough absent some heads tails = absurd (omega (arith, some))
@@ -54,7 +54,7 @@ module _ (io : LookingThrough) (program : CoreProgram) (words objects : ℕ) (sp
   rest f q lab vs ks (boxed k header lt box cell (word_in _ fine all)) below few enough absent some heads tails = absurd (omega (arith, some))
 
   -- the rest of a list to which a value was walked
-  rest_of : (f : ℕ) (v : Value) (lab : Label) (vs : Values) (ks : List ℕ) → walk S v ≡ Node lab vs → Below sh S ks v → 3360 ≤ suc f + length ks → 21 ≤ f → (Absent io) v → 1 ≤ list_kind (Node lab vs) → Heads f v → Tails (suc f) ks v → RestAt io program words objects sp (suc f) lab vs
+  rest_of : (f : ℕ) (v : Value) (lab : Label) (vs : Values) (ks : List ℕ) → walk S v ≡ Node lab vs → Below sh S ks v → 3360 ≤ suc f + length ks → 24 ≤ f → (Absent io) v → 1 ≤ list_kind (Node lab vs) → Heads f v → Tails (suc f) ks v → RestAt io program words objects sp (suc f) lab vs
   rest_of f v lab vs ks e below few enough absent some heads tails q u s =
       let whole : Below sh S ks (Node lab vs) = subst (Below sh S ks) e (below_walk S st.sound below) in
       let same : size (resolved S v) ≡ size (resolved S (Node lab vs)) = ap size ((resolved_walked io) v (Node lab vs) e) in
@@ -62,12 +62,12 @@ module _ (io : LookingThrough) (program : CoreProgram) (words objects : ℕ) (sp
       let absent' : (AllAbsent io) vs = sym is_it ∙ absent in
       rest f q lab vs ks s whole few enough absent' some (λ q' x a ks' sa ba few' less' free'. heads q' x a ks' sa ba few' (omega arith) free') (λ q' z b a sa ba less' free'. tails q' z b a sa ba (omega arith) free')
 
-  whole : (f : ℕ) (q : pt) (x : ℕ) (v : Value) (ks : List ℕ) → Shows sh x v → Below sh S ks v → 3360 ≤ suc f + length ks → 21 ≤ f → (Absent io) v → Heads f v → Tails (suc f) ks v → Whole io program words objects sp (suc f) q x v
+  whole : (f : ℕ) (q : pt) (x : ℕ) (v : Value) (ks : List ℕ) → Shows sh x v → Below sh S ks v → 3360 ≤ suc f + length ks → 24 ≤ f → (Absent io) v → Heads f v → Tails (suc f) ks v → Whole io program words objects sp (suc f) q x v
   whole f q x v ks s below few enough absent heads tails =
       by_list (walk S v) (λ none. whole_leaf io program words objects sp f enough q x v s none)
       (λ lab vs e some. whole_list io program words objects sp (suc f) (omega arith) q x v lab vs s e some (rest_of f v lab vs ks e below few enough absent some heads tails))
 
-  tail : (f : ℕ) (q : pt) (y b : ℕ) (v : Value) (ks : List ℕ) → Shows sh y v → Below sh S ks v → 3360 ≤ suc f + length ks → 21 ≤ f → (Absent io) v → Heads f v → Tails (suc f) ks v → Tail io program words objects sp (suc f) q y b v
+  tail : (f : ℕ) (q : pt) (y b : ℕ) (v : Value) (ks : List ℕ) → Shows sh y v → Below sh S ks v → 3360 ≤ suc f + length ks → 24 ≤ f → (Absent io) v → Heads f v → Tails (suc f) ks v → Tail io program words objects sp (suc f) q y b v
   tail f q y b v ks s below few enough absent heads tails =
       by_list (walk S v) (λ none. tail_other io program words objects sp f enough q y b v s none)
       (λ lab vs e some. tail_list io program words objects sp (suc f) (omega arith) q y b v lab vs s e some (rest_of f v lab vs ks e below few enough absent some heads tails))

@@ -151,13 +151,13 @@ module _ (io : LookingThrough) (program : CoreProgram) (words objects : ℕ) (sp
 
   -- ---- no list
 
-  leaf : (f : ℕ) → 21 ≤ f → (q : Point g) (u b : ℕ) (w : Value) → Shows sh u w → list_kind w ≡ 0 → Printed (suc f) (drop 3 PRINT_VALUE_ACTS) q u b (first_piece program w ∷ []) 112
+  leaf : (f : ℕ) → 24 ≤ f → (q : Point g) (u b : ℕ) (w : Value) → Shows sh u w → list_kind w ≡ 0 → Printed (suc f) (drop 3 PRINT_VALUE_ACTS) q u b (first_piece program w ∷ []) 112
   leaf f enough q u b w s none =
       prints_last g {f' = f} {w' = 4 * f} (drop 5 PRINT_VALUE_ACTS) q (loc u b) (atoms.Routine PRINT_PIECE) (args.Three (atoms.Var 1) (atoms.Var 2) (atoms.Var 3)) (p.names.routine PRINT_PIECE) (u, words, objects) (routine_of 4 PRINT_PIECE_ACTS) (first_piece program w) 110 112 refl
       (rw (get_1 p q.memory u words objects b typed drawn q.output, get_2 p q.memory u words objects b typed drawn q.output, get_3 p q.memory u words objects b typed drawn q.output) refl) (print_piece_at p has) (omega arith) (omega arith) (omega arith)
       (piece_works g has is program words objects sp f (4 * f) enough (omega arith) q u 0 w s none)
 
-  other_end : (f : ℕ) → 21 ≤ f → (q : Point g) (u b : ℕ) (w : Value) → Shows sh u w → list_kind w ≡ 0 → Printed (suc f) (drop 16 PRINT_VALUE_ACTS) q u b (first_piece program w ∷ (93 ∷ []) ∷ []) 134
+  other_end : (f : ℕ) → 24 ≤ f → (q : Point g) (u b : ℕ) (w : Value) → Shows sh u w → list_kind w ≡ 0 → Printed (suc f) (drop 16 PRINT_VALUE_ACTS) q u b (first_piece program w ∷ (93 ∷ []) ∷ []) 134
   other_end f enough q u b w s none =
       let piece = piece_works g has is program words objects sp f (4 * f) enough (omega arith) q u 0 w s none in
       let q' = behind g q piece in
@@ -165,7 +165,7 @@ module _ (io : LookingThrough) (program : CoreProgram) (words objects : ℕ) (sp
       (rw (get_1 p q.memory u words objects b typed drawn q.output, get_2 p q.memory u words objects b typed drawn q.output, get_3 p q.memory u words objects b typed drawn q.output) refl) (print_piece_at p has) (omega arith) (omega arith) (omega arith)
       piece (labelled (suc f) 2 (drop 18 PRINT_VALUE_ACTS) q' u b ((93 ∷ []) ∷ []) 23 (closing (suc f) (omega arith) q' u b))
 
-  bar : (f : ℕ) → 21 ≤ f → (q : Point g) (u b : ℕ) (w : Value) → Shows sh u w → list_kind w ≡ 0 → Printed (suc f) (drop 15 PRINT_VALUE_ACTS) q u b ((124 ∷ []) ∷ first_piece program w ∷ (93 ∷ []) ∷ []) 156
+  bar : (f : ℕ) → 24 ≤ f → (q : Point g) (u b : ℕ) (w : Value) → Shows sh u w → list_kind w ≡ 0 → Printed (suc f) (drop 15 PRINT_VALUE_ACTS) q u b ((124 ∷ []) ∷ first_piece program w ∷ (93 ∷ []) ∷ []) 156
   bar f enough q u b w s none =
       mark_then g has (suc f) (4 * suc f) (omega arith) (omega arith) PRINT_VALUE_ACTS (drop 16 PRINT_VALUE_ACTS) q (loc u b) 124 (omega arith) (omega arith) refl (first_piece program w ∷ (93 ∷ []) ∷ []) 134 156 (omega arith)
       (other_end f enough (behind g q (mark_prints g has q 124 (omega arith) (omega arith) refl)) u b w s none)
@@ -218,7 +218,7 @@ module _ (io : LookingThrough) (program : CoreProgram) (words objects : ℕ) (sp
   seen_links v (Var z) e = let c = (seen_variable io) v z e in omega arith
   seen_links v (Node lab vs) e = let c = (seen_node io) v lab vs e in omega arith
 
-  pub whole_leaf : (f : ℕ) → 21 ≤ f → (q : Point g) (x : ℕ) (v : Value) → Shows sh x v → list_kind (walk S v) ≡ 0 → Whole (suc f) q x v
+  pub whole_leaf : (f : ℕ) → 24 ≤ f → (q : Point g) (x : ℕ) (v : Value) → Shows sh x v → list_kind (walk S v) ≡ 0 → Whole (suc f) q x v
   whole_leaf f enough q x v s none =
       let wk = looked_at q x v s in
       let kd = kind_at q wk.word (walk S v) wk.shows in
@@ -230,7 +230,7 @@ module _ (io : LookingThrough) (program : CoreProgram) (words objects : ℕ) (sp
       subst (λ (l : List (List ℕ)). Printed (suc f) PRINT_VALUE_ACTS q x 0 l (200 * (seen io v).1)) (sym (resolved_as_leaf v (walk S v) refl none))
       (prints_behind g q PRINT_VALUE_ACTS (loc x 0) ps (λ k. k) 0 (5 * links S v + 13 + 112) (200 * (seen io v).1) (λ k. (omega arith)) (omega arith) (λ o s' k run. run) r)
 
-  pub tail_other : (f : ℕ) → 21 ≤ f → (q : Point g) (y b : ℕ) (t : Value) → Shows sh y t → list_kind (walk S t) ≡ 0 → Tail (suc f) q y b t
+  pub tail_other : (f : ℕ) → 24 ≤ f → (q : Point g) (y b : ℕ) (t : Value) → Shows sh y t → list_kind (walk S t) ≡ 0 → Tail (suc f) q y b t
   tail_other f enough q y b t s none =
       let wk = looked_at q y t s in
       let kd = kind_at q wk.word (walk S t) wk.shows in

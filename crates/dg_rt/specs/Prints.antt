@@ -1,5 +1,5 @@
 -- What the routine does that prints a value. Hold it against docs/LANGUAGE.md, where it says how a value is printed, and dg_meaning/specs/Pieces.antt.
-use Rattle.std.specs.Prelude.{◌≡◌, ◌≢◌, ℕ, ◌+◌, ◌*◌, ◌<◌, ◌≤◌, List, [], ◌∷◌, ◌++◌, map, Some, false}
+use Rattle.std.specs.Prelude.{◌≡◌, ◌≢◌, ℕ, suc, ◌+◌, ◌*◌, ◌<◌, ◌≤◌, List, [], ◌∷◌, ◌++◌, map, take, Some, false}
 use Rattle.dg_base.specs.declared.program.CoreProgram.{CoreProgram}
 use Rattle.dg_meaning.specs.Values.{Word, Object, Value}
 use Rattle.dg_meaning.specs.Substitutions.{Substitution, resolved, contains}
@@ -7,6 +7,7 @@ use Rattle.dg_meaning.specs.Unify.{looks}
 use Rattle.dg_meaning.specs.World.{Print, Piece}
 use Rattle.dg_meaning.specs.Pieces.{label_piece, pieces}
 use Rattle.dg_meaning.specs.Render.{Met, met_from, render_from, characters}
+use Rattle.z_model.specs.Flow.{zeros}
 use Rattle.z_lang.specs.declared.act.Act.{Act}
 use Rattle.z_lang.specs.State.{Program}
 use Rattle.z_lang.specs.Runs.{ActsRun as Runs, Returns}
@@ -41,12 +42,16 @@ pub record PrintsPieces (p : Program) (f w : ℕ) (body acts : List Act) (memory
 
 -- ## What a program spells
 
--- The routine at an address prints each of so many pieces by its number, in 20 instructions a character, 3 a space in front of it, and 100.
+-- The routine at an address prints each of so many pieces by its number, in 20 instructions a character, 3 a space in front of it, and 100; it may have
+-- locals beside that of the number.
 pub record SpellsBy (p : Program) (x many : ℕ) (text : ℕ → List ℕ) : Type 0 where
   pub body : List Act
-  pub there : p.routine_at x ≡ Some (routine_of 1 body)
+  pub more : ℕ
+  pub few : more ≤ 14
+  pub there : p.routine_at x ≡ Some (routine_of (suc more) body)
   pub prints : (memory typed output : List ℕ) (drawn n : ℕ) (cells : ℕ → ℕ) → Holds p.world.layout memory cells → n < many → (m : Met) →
-      Meets cells m → PrintsPiece p 20 80 body memory (n ∷ []) typed output drawn cells m (text n) (20 * characters (text n) + 100)
+      Meets cells m → PrintsPiece p 20 80 body memory (n ∷ take more (0 ∷ 0 ∷ zeros)) typed output drawn cells m (text n)
+      (20 * characters (text n) + 100)
 
 -- One prints the words of a program by their spelling, and one its objects by their names.
 pub record Spells (p : Program) (program : CoreProgram) (words objects : ℕ) : Type 0 where
