@@ -63,6 +63,13 @@ pub mod Counting
 pub mod Encoding
 pub mod Lettering
 pub mod Spacing
+pub mod Altered
+pub mod Objects
+pub mod There
+pub mod Outcomes
+pub mod Changing
+pub mod Flagging
+pub mod Reading
 pub mod Absent
 pub mod NoNumbers
 pub mod Deciding

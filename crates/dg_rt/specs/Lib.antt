@@ -19,6 +19,7 @@ pub mod Operands
 pub mod Conditions
 pub mod Arithmetic
 pub mod Tables
+pub mod Changes
 pub mod Gaps
 pub mod Pieces
 pub mod Prints

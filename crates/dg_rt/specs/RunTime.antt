@@ -20,6 +20,7 @@ use Rattle.dg_rt.specs.declared.printing.TheConstants.{LIST_KIND_ACTS, PRINT_PIE
 use Rattle.dg_rt.specs.declared.keeping.TheConstants.{MOVE_ACTS, CELLS_ACTS}
 use Rattle.dg_rt.specs.declared.conditions.TheConstants.{IF_NUMBER_ACTS, IF_WORD_ACTS, IF_UNKNOWN_ACTS, IF_LIST_ACTS, IF_EMPTY_ACTS, IF_NON_EMPTY_ACTS, IF_BOUND_ACTS, IF_FULL_ACTS, IF_UNBOUND_ACTS, IF_LESS_ACTS}
 use Rattle.dg_rt.specs.declared.arithmetic.TheConstants.{PLUS_ACTS, MINUS_ACTS, TIMES_ACTS, DIVIDE_ACTS, MODULO_ACTS, THROW_ACTS}
+use Rattle.dg_rt.specs.declared.changes.TheConstants.{THERE_ACTS, SET_VALUE_ACTS, SET_PARENT_ACTS, CLEAR_VALUE_ACTS, RAISE_FLAG_ACTS, LOWER_FLAG_ACTS, IF_RAISED_ACTS, IF_SET_ACTS, READ_VALUE_ACTS, PUT_ACTS}
 use Rattle.dg_rt.specs.Areas.{IsMapped}
 
 -- A routine of so many locals.
@@ -100,12 +101,22 @@ arithmetic_routines =
 abbrev pub value_printing_routines : List Routine
 value_printing_routines = routine_of 1 LIST_KIND_ACTS ∷ routine_of 4 PRINT_PIECE_ACTS ∷ routine_of 4 PRINT_VALUE_ACTS ∷ []
 
+-- Those that change what is set of objects.
+abbrev pub change_routines : List Routine
+change_routines =
+    routine_of 2 THERE_ACTS ∷ routine_of 4 SET_VALUE_ACTS ∷ routine_of 4 SET_PARENT_ACTS ∷ routine_of 4 CLEAR_VALUE_ACTS ∷ routine_of 4 RAISE_FLAG_ACTS
+    ∷ routine_of 4 LOWER_FLAG_ACTS ∷ routine_of 3 PUT_ACTS ∷ []
+
+-- Those that read it.
+abbrev pub reading_routines : List Routine
+reading_routines = routine_of 3 IF_RAISED_ACTS ∷ routine_of 2 IF_SET_ACTS ∷ routine_of 2 READ_VALUE_ACTS ∷ []
+
 -- All of them. The first has number 1, since a story begins with routine 0.
 abbrev pub runtime : List Routine
 runtime =
     value_routines ++ (closing_routines ++ (frame_routines ++ (rule_routines ++ (query_routines ++ (operand_routines
     ++ (world_routines ++ (printing_routines ++ (keeping_routines ++ (letter_routines ++ (space_routines
-    ++ (condition_routines ++ (arithmetic_routines ++ value_printing_routines))))))))))))
+    ++ (condition_routines ++ (arithmetic_routines ++ (value_printing_routines ++ (change_routines ++ reading_routines))))))))))))))
 
 -- The run-time stands in a program: its areas may be written, and each routine has its number.
 pub record HasRunTime (p : Program) : Type 0 where

@@ -1,5 +1,6 @@
 // What the routines do: each function's clause is a law of one of them.
 ghost use Rattle.dg_rt.specs.Arithmetic.{ArithWorks, ThrowWorks};
+ghost use Rattle.dg_rt.specs.Changes.{ChangesWork};
 ghost use Rattle.dg_rt.specs.Charges.{ChargeWorks};
 ghost use Rattle.dg_rt.specs.Closings.{ClosingsWork};
 ghost use Rattle.dg_rt.specs.Conditions.{OrderWorks, TestsWork};
@@ -158,6 +159,11 @@ pub fn full_works()
 /// The routines of the world do so.
 pub fn world_works()
     ensures { WorldWorks }
+{}
+
+/// The routines that change and read what is set of objects do so.
+pub fn changes_work()
+    ensures { ChangesWork }
 {}
 
 /// The routine that prints what separates a piece does so.

@@ -3,6 +3,7 @@
 
 mod acts;
 pub mod arithmetic;
+pub mod changes;
 mod choices;
 mod closings;
 pub mod conditions;
@@ -39,6 +40,10 @@ pub use laws::{
     commit_works, copy_in_works, copy_works, cut_works, enter_works, fail_works, first_works,
     found_works, full_works, key_works, leave_works, match_works, matched_works, move_works,
     none_works, open_inner_works, open_works, operands_work, order_works, pieces_work, print_works,
+    arith_works, ask_works, body_works, capture_works, cells_works, changes_work, charge_works,
+    closings_work, commit_works, copy_in_works, copy_works, cut_works, enter_works, fail_works,
+    first_works, found_works, full_works, key_works, leave_works, match_works, matched_works,
+    move_works, none_works, open_inner_works, open_works, operands_work, order_works, pieces_work,
     runtime_fits, separate_works, spaces_work, tail_call_works, tests_work, throw_works,
     undo_gives_back, undo_unwinds, unify_works, unstop_works, var_works, world_works,
 };

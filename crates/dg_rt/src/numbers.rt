@@ -218,3 +218,33 @@ pub const PRINT_PIECE: u16 = 72;
 
 /// Prints a value.
 pub const PRINT_VALUE: u16 = 73;
+
+/// The number of an object that is there.
+pub const THERE: u16 = 74;
+
+/// Sets a value of an object.
+pub const SET_VALUE: u16 = 75;
+
+/// Sets the parent of an object.
+pub const SET_PARENT: u16 = 76;
+
+/// Clears what is set of an object, or of each.
+pub const CLEAR_VALUE: u16 = 77;
+
+/// Sets the flag of an object.
+pub const RAISE_FLAG: u16 = 78;
+
+/// Clears the flag of an object, or of each.
+pub const LOWER_FLAG: u16 = 79;
+
+/// Puts a word where a flag of no object lies.
+pub const PUT: u16 = 80;
+
+/// Goes on where the flag of an object is set, and else fails.
+pub const IF_RAISED: u16 = 81;
+
+/// The same of a flag of no object.
+pub const IF_SET: u16 = 82;
+
+/// What is set of an object.
+pub const READ_VALUE: u16 = 83;

@@ -3,6 +3,10 @@ ghost use Rattle.std.specs.Prelude.{◌≡◌, ◌∷◌, ◌++◌, [], IfOk, On
 ghost use Rattle.dg_rt.specs.RunTime as spec;
 
 use crate::arithmetic::{DIVIDE_ACTS, MINUS_ACTS, MODULO_ACTS, PLUS_ACTS, THROW_ACTS, TIMES_ACTS};
+use crate::changes::{
+    CLEAR_VALUE_ACTS, IF_RAISED_ACTS, IF_SET_ACTS, LOWER_FLAG_ACTS, PUT_ACTS, RAISE_FLAG_ACTS,
+    READ_VALUE_ACTS, SET_PARENT_ACTS, SET_VALUE_ACTS, THERE_ACTS,
+};
 use crate::choices::{COMMIT_ACTS, CUT_ACTS, FAIL_ACTS, OPEN_ACTS, OPEN_INNER_ACTS, UNSTOP_ACTS};
 use crate::closings::{
     AUX_LIMIT_ACTS, DONE_ACTS, FAILED_ACTS, HEAP_LIMIT_ACTS, KEEP_LIMIT_ACTS, NEWLINE_ACTS,
@@ -216,6 +220,30 @@ impl Writer {
         self.put(4, &PRINT_VALUE_ACTS)?;
         Ok(())
     }
+
+    // Those that change what is set of objects.
+    fn put_changes(&mut self) -> Result<(), AllocError>
+        ensures { OnOk result (self.new.all ≡ self.old.all ++ spec.change_routines) }
+    {
+        self.put(2, &THERE_ACTS)?;
+        self.put(4, &SET_VALUE_ACTS)?;
+        self.put(4, &SET_PARENT_ACTS)?;
+        self.put(4, &CLEAR_VALUE_ACTS)?;
+        self.put(4, &RAISE_FLAG_ACTS)?;
+        self.put(4, &LOWER_FLAG_ACTS)?;
+        self.put(3, &PUT_ACTS)?;
+        Ok(())
+    }
+
+    // Those that read it.
+    fn put_readings(&mut self) -> Result<(), AllocError>
+        ensures { OnOk result (self.new.all ≡ self.old.all ++ spec.reading_routines) }
+    {
+        self.put(3, &IF_RAISED_ACTS)?;
+        self.put(2, &IF_SET_ACTS)?;
+        self.put(2, &READ_VALUE_ACTS)?;
+        Ok(())
+    }
 }
 
 /// All of them, in the order of their numbers, the first of which is 1: a story begins with routine 0.
@@ -240,5 +268,7 @@ pub fn runtime(alloc: Global) -> Result<Items<Routine>, AllocError>
     writer.put_conditions()?;
     writer.put_arithmetic()?;
     writer.put_values_printed()?;
+    writer.put_changes()?;
+    writer.put_readings()?;
     Ok(writer.all)
 }
