@@ -62,23 +62,23 @@ order_at : (p : Program) → HasRunTime p → p.routine_at (p.names.routine IF_L
 order_at p has = has.each 63 (routine_of 3 IF_LESS_ACTS) refl
 
 -- what comes next is the same
-next_is : (p : Program) (behind : ℕ) (b : Bool) → next_if p b (p.names.routine behind) ≡ agreed_next p behind b
+pub next_is : (p : Program) (behind : ℕ) (b : Bool) → next_if p b (p.names.routine behind) ≡ agreed_next p behind b
 next_is p behind true = refl
 next_is p behind false = refl
 
 -- ## One routine decides
 
 -- A routine that is called answers this.
-record Called (t : Telling) (out : Outside) (decider : ℕ) (given : Args) (memory : List ℕ) (y most : ℕ) : Type 0 where
-  xs : ℕ × ℕ × ℕ
-  given_is : arguments t.p (state memory [] out.typed out.drawn out.output) given ≡ Some xs
-  called : Routine
-  stands : t.p.routine_at (t.p.names.routine decider) ≡ Some called
-  few_locals : called.locals ≤ 4
-  locals' : List ℕ
-  count : ℕ
-  few : count ≤ most
-  runs : ActsRun t.p 3400 15000 called.body called.body (routine_entered (state memory [] out.typed out.drawn out.output) called.locals xs) (Returns y) (state memory locals' out.typed out.drawn out.output) count
+pub record Called (t : Telling) (out : Outside) (decider : ℕ) (given : Args) (memory : List ℕ) (y most : ℕ) : Type 0 where
+  pub xs : ℕ × ℕ × ℕ
+  pub given_is : arguments t.p (state memory [] out.typed out.drawn out.output) given ≡ Some xs
+  pub called : Routine
+  pub stands : t.p.routine_at (t.p.names.routine decider) ≡ Some called
+  pub few_locals : called.locals ≤ 4
+  pub locals' : List ℕ
+  pub count : ℕ
+  pub few : count ≤ most
+  pub runs : ActsRun t.p 3400 15000 called.body called.body (routine_entered (state memory [] out.typed out.drawn out.output) called.locals xs) (Returns y) (state memory locals' out.typed out.drawn out.output) count
 
 module _ (t : Telling) (plays : Playing t) (out : Outside) (ts : List Term) (few_terms : length ts ≤ 12) (decider : ℕ) (given : Args) (behind : ℕ) (passed : Bool) (m : Mid) (z : ZState) (e : InFront t out (deciding_routine t.program ts decider given) ts m z) where
   abbrev r : Represented t out e.x m z
@@ -102,7 +102,7 @@ module _ (t : Telling) (plays : Playing t) (out : Outside) (ts : List Term) (few
   abbrev y : ℕ
   y = agreed_next t.p behind passed
 
-  abbrev Written : Type 0
+  abbrev pub Written : Type 0
   Written = Wrote t out.words 3500 19000 routine.body last routine.body r.sh r.memory out.typed out.output out.drawn r.cells r.trail m n 32 vs (written_in t.program ts + 6)
 
   decided : (most all : ℕ) → written_in t.program ts + most + 10 ≤ all → (w1 : Written) → Called t out decider given w1.memory' y most → Comes t out y (more n m) all z
@@ -129,7 +129,7 @@ module _ (t : Telling) (plays : Playing t) (out : Outside) (ts : List Term) (few
       let few = k.few in
       closes t plays out e.x m z r routine e.there (omega arith) k.count (10 + closing_most) HeapLimit k.memory' k.locals' k.runs (omega arith)
 
-  deciding : (most all : ℕ) → written_in t.program ts + most + 10 ≤ all → ((w1 : Written) → Called t out decider given w1.memory' y most) → Deciding t out ts behind passed all m z
+  pub deciding : (most all : ℕ) → written_in t.program ts + most + 10 ≤ all → ((w1 : Written) → Called t out decider given w1.memory' y most) → Deciding t out ts behind passed all m z
   deciding most all le by = record {
     decides = λ room. decided most all le (written room) (by (written room));
     meets = λ over. no_room over;

@@ -57,3 +57,9 @@ pub mod PaidTexts
 pub mod DecidingTurn
 pub mod MakingTurn
 pub mod PaidOperating
+pub mod Within
+pub mod Places
+pub mod NowTurn
+pub mod NowKinds
+pub mod PaidWorld
+pub mod ReadingTurn

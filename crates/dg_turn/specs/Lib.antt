@@ -12,6 +12,7 @@ pub mod LastQueries
 pub mod Stopping
 pub mod Bodies
 pub mod Texts
+pub mod World
 pub mod Operating
 pub mod Prints
 pub mod Paid

@@ -1,14 +1,18 @@
 -- What the turns cost is within what code is paid for: 800 instructions a unit, and 9,000 where rules are looked at. Hold it against
 -- dg_mid/specs/Units.antt.
-use Rattle.std.specs.Prelude.{◌≡◌, ℕ, ◌+◌, ◌*◌, ◌≤◌, List, [], ◌∷◌, length, Option, Some, Bool, All, encode_utf8_all}
+use Rattle.std.specs.Prelude.{◌≡◌, ◌≢◌, ℕ, ◌+◌, ◌*◌, ◌≤◌, List, [], ◌∷◌, length, Option, Some, Bool, All, encode_utf8_all}
+use Rattle.std.specs.List.{slice_get}
 use Rattle.dg_base.specs.declared.program.ArithOp.{ArithOp}
 use Rattle.dg_base.specs.declared.program.CompareOp.{CompareOp}
 use Rattle.dg_base.specs.declared.program.GapKind.{GapKind}
+use Rattle.dg_base.specs.declared.program.PlaceKind.{PlaceKind}
+use Rattle.dg_base.specs.declared.program.PlaceKind.TheVariants.{Global}
 use Rattle.dg_base.specs.declared.program.Term.{Term}
 use Rattle.dg_base.specs.declared.program.TestKind.{TestKind}
 use Rattle.dg_base.specs.Goals.{option_terms}
 use Rattle.dg_base.specs.Sound.{IsPrintable}
 use Rattle.dg_meaning.specs.Values.{Value}
+use Rattle.dg_meaning.specs.Facts.{kinds_of}
 use Rattle.dg_meaning.specs.Numbers.{calculated, thrown}
 use Rattle.dg_meaning.specs.Choosing.{die}
 use Rattle.dg_meaning.specs.World.{Print}
@@ -30,6 +34,7 @@ use Rattle.dg_turn.specs.Rules.{keyed}
 use Rattle.dg_turn.specs.Queries.{asking_most}
 use Rattle.dg_turn.specs.Bodies.{querying_most, body_most}
 use Rattle.dg_turn.specs.Texts.{gap_n_most}
+use Rattle.dg_turn.specs.World.{now_most}
 
 -- What a step may cost.
 abbrev pub paid : Setting → List Print → Status → ℕ
@@ -108,3 +113,9 @@ pub record OperationsArePaid : Type 0 where
   pub random : (g : Setting) (ps : List Print) (m : Mid) (a b c : Term) (ops : List Op) →
       m.ops ≡ op.Do (action.Random a b c) ∷ ops → AreNodes g.game.program (nodes_of (a ∷ b ∷ c ∷ [])) →
       making_paid g.game.program a b c (made_of g.game.program (thrown (die g.game.dice m.lasting.dice)) a b m) m ≤ paid g ps (Runs m)
+
+-- So are those of a change of a place that is no global variable.
+pub record WorldIsPaid : Type 0 where
+  pub now : (g : Setting) (ps : List Print) (m : Mid) (place : ℕ) (kind : PlaceKind) (ts : List Term) (sets : Bool) (ops : List Op) →
+      m.ops ≡ op.Do (action.Now place ts sets) ∷ ops → slice_get (kinds_of g.game.program) place ≡ Some kind → kind ≢ Global →
+      AreNodes g.game.program (nodes_of ts) → now_most g.game.program kind place ts sets m ≤ paid g ps (Runs m)

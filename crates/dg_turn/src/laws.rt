@@ -4,13 +4,14 @@ ghost use Rattle.dg_turn.specs.Choices.{BackTurns, BranchTurns, OnceTurns};
 ghost use Rattle.dg_turn.specs.LastQueries.{LastTurns};
 ghost use Rattle.dg_turn.specs.Leaving.{JustTurns, ReturnTurns};
 ghost use Rattle.dg_turn.specs.Operating.{ArithTurns, CompareTurns, RandomTurns, TestTurns};
-ghost use Rattle.dg_turn.specs.Paid.{OperationsArePaid, TextsArePaid, TurnsArePaid};
 ghost use Rattle.dg_turn.specs.Prints.{PrintTurns};
+ghost use Rattle.dg_turn.specs.Paid.{OperationsArePaid, TextsArePaid, TurnsArePaid, WorldIsPaid};
 ghost use Rattle.dg_turn.specs.Queries.{AskBegins, AskTurns, FailBegins, FailEnds, FailTurns};
 ghost use Rattle.dg_turn.specs.Stopping.{DoneTurns, LeaveTurns, NoRuleTurns, RefuseTurns, ShieldTurns, StopTurns};
 ghost use Rattle.dg_turn.specs.Rules.{BeginTurns, FoundTurns, NoneTurns, SelectTurns};
 ghost use Rattle.dg_turn.specs.Terms.{TermsWork};
 ghost use Rattle.dg_turn.specs.Texts.{GapNTurns, GapTurns, QuitTurns, TextTurns};
+ghost use Rattle.dg_turn.specs.World.{FlagTurns, HoldsTurns, NowTurns, ReadTurns};
 ghost use Rattle.dg_turn.specs.Turns.{CommitTurns, EnterTurns, EqualTurns, GotoTurns};
 
 /// Terms are written on the heap, or its limit is met.
@@ -221,4 +222,29 @@ pub fn texts_are_paid()
 /// Printing a value is a turn, or the heap's limit is met.
 pub fn print_turns()
     ensures { PrintTurns }
+{}
+
+/// A change of the world is a turn.
+pub fn now_turns()
+    ensures { NowTurns }
+{}
+
+/// What changes of the world cost is paid for.
+pub fn world_is_paid()
+    ensures { WorldIsPaid }
+{}
+
+/// A query of a flag of no object is a turn.
+pub fn holds_turns()
+    ensures { HoldsTurns }
+{}
+
+/// So is one of a flag of an object that is known.
+pub fn flag_turns()
+    ensures { FlagTurns }
+{}
+
+/// So is one of its value.
+pub fn read_turns()
+    ensures { ReadTurns }
 {}

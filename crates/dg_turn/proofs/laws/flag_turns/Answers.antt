@@ -1,0 +1,5 @@
+use Rattle.dg_turn.proofs.ReadingTurn as turn
+use Rattle.dg_turn.proofs.laws.flag_turns.Goals as goal
+
+pub returns : goal.returns
+returns c = turn.flag_turns
