@@ -63,3 +63,4 @@ pub mod NowTurn
 pub mod NowKinds
 pub mod PaidWorld
 pub mod ReadingTurn
+pub mod Starts

@@ -13,6 +13,7 @@ pub mod Stopping
 pub mod Bodies
 pub mod Texts
 pub mod World
+pub mod Starts
 pub mod Operating
 pub mod Prints
 pub mod Paid
