@@ -64,3 +64,4 @@ pub mod NowKinds
 pub mod PaidWorld
 pub mod ReadingTurn
 pub mod Starts
+pub mod Starting

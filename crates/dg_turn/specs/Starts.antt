@@ -1,16 +1,20 @@
 -- What lies in the world where a story starts. Hold it against docs/LANGUAGE.md, "The world", and dg_meaning/specs/Facts.antt, "The start".
-use Rattle.std.specs.Prelude.{◌≡◌, ℕ, zero, suc, ◌+◌, ◌*◌, ◌<◌, ◌≤◌, List, [], ◌∷◌, ◌++◌, length, Option, Some, None, is_some}
+use Rattle.std.specs.Prelude.{◌≡◌, ℕ, zero, suc, ◌+◌, ◌*◌, ◌<◌, ◌≤◌, List, [], ◌∷◌, ◌++◌, length, Option, Some, None, is_some, All}
 use Rattle.std.specs.List.{slice_get}
 use Rattle.dg_base.specs.declared.program.CoreProgram.{CoreProgram}
+use Rattle.dg_base.specs.declared.program.Place.{Place}
 use Rattle.dg_base.specs.declared.program.PlaceKind.{PlaceKind}
 use Rattle.dg_base.specs.declared.program.PlaceKind.TheVariants.{Flag, ObjectFlag, ObjectVar, Parent, Global}
-use Rattle.dg_meaning.specs.Facts.{Fact, value_at, kinds_of}
+use Rattle.dg_base.specs.declared.program.Term.{Term, out-Term}
+use Rattle.dg_base.specs.Sound.{IsSound}
+use Rattle.dg_meaning.specs.Facts.{Fact, value_at, kinds_of, start_facts}
 use Rattle.dg_meaning.specs.Values.{Value}
 use Rattle.dg_rt.specs.Cells.{bit}
 use Rattle.dg_rt.specs.Changes.{SetIn}
 use Rattle.dg_rt.specs.Copies.{Row}
 use Rattle.dg_rt.specs.Operands.{no_value, simple_word}
 use Rattle.dg_rt.specs.Tables.{byte_at}
+use Rattle.dg_turn.specs.Terms.{IsTerm}
 use Rattle.dg_turn.specs.World.{world_at, all_words, FactsIn}
 
 -- ## Words and bytes
@@ -76,3 +80,12 @@ abbrev pub WorldStands : Type 0
 WorldStands = (program : CoreProgram) (facts : List Fact) (words : ℕ → ℕ) →
     ((place : ℕ) (kind : PlaceKind) → slice_get (kinds_of program) place ≡ Some kind → FitsPlace (length program.objects) facts place kind) →
     WorldIn program facts words → FactsIn program facts words
+
+-- The terms that start set are those of a story.
+abbrev pub StartTerms : List Place → Type 0
+StartTerms places = All (λ (place : Place). All (λ (start : ℕ × Term). IsTerm (out-Term start.1)) place.start) places
+
+-- What starts set in a sound program fits its places.
+abbrev pub StartsFit : Type 0
+StartsFit = (program : CoreProgram) → IsSound program → StartTerms program.places → (place : ℕ) (kind : PlaceKind) →
+    slice_get (kinds_of program) place ≡ Some kind → FitsPlace (length program.objects) (start_facts program.places) place kind

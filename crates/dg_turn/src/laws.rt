@@ -7,7 +7,7 @@ ghost use Rattle.dg_turn.specs.Operating.{ArithTurns, CompareTurns, RandomTurns,
 ghost use Rattle.dg_turn.specs.Prints.{PrintTurns};
 ghost use Rattle.dg_turn.specs.Paid.{OperationsArePaid, TextsArePaid, TurnsArePaid, WorldIsPaid};
 ghost use Rattle.dg_turn.specs.Queries.{AskBegins, AskTurns, FailBegins, FailEnds, FailTurns};
-ghost use Rattle.dg_turn.specs.Starts.{WorldStands};
+ghost use Rattle.dg_turn.specs.Starts.{StartsFit, WorldStands};
 ghost use Rattle.dg_turn.specs.Stopping.{DoneTurns, LeaveTurns, NoRuleTurns, RefuseTurns, ShieldTurns, StopTurns};
 ghost use Rattle.dg_turn.specs.Rules.{BeginTurns, FoundTurns, NoneTurns, SelectTurns};
 ghost use Rattle.dg_turn.specs.Terms.{TermsWork};
@@ -253,4 +253,9 @@ pub fn read_turns()
 /// Words and bytes of the world in a row stand for what is set.
 pub fn world_stands()
     ensures { WorldStands }
+{}
+
+/// What starts set fits its places.
+pub fn starts_fit()
+    ensures { StartsFit }
 {}
