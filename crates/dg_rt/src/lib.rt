@@ -16,14 +16,14 @@ mod laws;
 pub mod numbers;
 mod operands;
 mod pieces;
-mod printing;
+pub mod printing;
 mod queries;
 pub mod registers;
 mod routines;
 mod rules;
 mod unify;
 mod words;
-mod world;
+pub mod world;
 
 pub use choices::{COMMIT_ACTS, CUT_ACTS, FAIL_ACTS, OPEN_ACTS, OPEN_INNER_ACTS, UNSTOP_ACTS};
 pub use closings::{
@@ -36,24 +36,16 @@ pub use gaps::{ASK_SPACES_ACTS, FIRST_ACTS, SEPARATE_ACTS};
 pub use heap::CHARGE_ACTS;
 pub use keeping::{CELLS_ACTS, MOVE_ACTS};
 pub use laws::{
-    arith_works, ask_works, body_works, capture_works, cells_works, charge_works, closings_work,
-    commit_works, copy_in_works, copy_works, cut_works, enter_works, fail_works, first_works,
-    found_works, full_works, key_works, leave_works, match_works, matched_works, move_works,
-    none_works, open_inner_works, open_works, operands_work, order_works, pieces_work, print_works,
     arith_works, ask_works, body_works, capture_works, cells_works, changes_work, charge_works,
     closings_work, commit_works, copy_in_works, copy_works, cut_works, enter_works, fail_works,
     first_works, found_works, full_works, key_works, leave_works, match_works, matched_works,
     move_works, none_works, open_inner_works, open_works, operands_work, order_works, pieces_work,
-    runtime_fits, separate_works, spaces_work, tail_call_works, tests_work, throw_works,
-    undo_gives_back, undo_unwinds, unify_works, unstop_works, var_works, world_works,
+    print_works, runtime_fits, separate_works, spaces_work, tail_call_works, tests_work,
+    throw_works, undo_gives_back, undo_unwinds, unify_works, unstop_works, var_works, world_works,
 };
 pub use operands::{FULL_ACTS, NUMBER_ACTS, OBJECT_ACTS, SIMPLE_ACTS};
 pub use pieces::{LETTER_ACTS, PRINT_LETTERS_ACTS, PRINT_MARK_ACTS, PRINT_NUMBER_ACTS};
-pub use printing::{LIST_KIND_ACTS, PRINT_PIECE_ACTS, PRINT_VALUE_ACTS};
 pub use queries::{ASK_ACTS, BODY_ACTS, LEAVE_ACTS, TAIL_CALL_ACTS};
 pub use routines::runtime;
 pub use rules::{FOUND_ACTS, KEY_OF_ACTS, MATCH_ACTS, MATCHED_ACTS, NONE_ACTS};
 pub use unify::{BIND_ACTS, OCCURS_ACTS, UNDO_ACTS, UNIFY_ACTS, WALK_ACTS};
-pub use world::{
-    CLEAR_ACTS, CLEAR_ALL_ACTS, CLEAR_FLAGS_ACTS, FLAG_ACTS, SET_ACTS, SET_FLAG_ACTS, VALUE_ACTS,
-};
