@@ -16,8 +16,8 @@ use Rattle.dg_scopes.specs.Few.{HasFewVariables}
 use Rattle.dg_plain.specs.Items.{plain_items}
 use Rattle.dg_scopes.proofs.FewLemmas.{small_few}
 use Rattle.dg_access.specs.Answer.{cause_of, refused_or, first_refused, IsPut, IsExpanded, IsRewritten}
-use Rattle.dg_access.specs.Expanded.{access_rules, is_misplaced, are_bad, signed_rule, head_rules, stay, put_said, on_line, put_item, put_items}
-use Rattle.dg_access.specs.Put.{Access}
+use Rattle.dg_items.specs.Expanded.{access_rules, is_misplaced, are_bad, signed_rule, head_rules, stay, put_said, on_line, put_item, put_items}
+use Rattle.dg_put.specs.Put.{Access}
 use Rattle.dg_names.specs.Counts.{closures_at, selects_at}
 
 -- ---- one item more

@@ -6,15 +6,15 @@ use Rattle.std.specs.Str.{bytes_eq}
 use Rattle.std.proofs.lemmas.List.Elements.{All-nil, All-append, All-weaker, All-contains_itself}
 use Rattle.dg_base.specs.Heads.{part_name, parts_behind, name_of}
 use Rattle.dg_base.specs.Tree as tree
-use Rattle.dg_base.specs.Tree.{Part, Parts, Value, Values, Stmt, Stmts, Body, Arms, Changes, Said, Item}
+use Rattle.dg_base.specs.Tree.{Parts, Value, Values, Stmt, Stmts, Body, Arms, Changes, Said, Item}
 use Rattle.dg_base.specs.Mentions.{Thing, topic_line, query, number, word, object, current_topic, unnamed, variable, word_choice, text, other, branches, select, closure, thing, join, branches_in, of_parts, of_nested, of_value, of_values, of_stmt, of_stmts, of_body, of_branches, of_arms, of_changes, of_rule, things_in, mentioned}
 use Rattle.dg_base.specs.declared.mentions.Role.{Role}
 use Rattle.dg_base.specs.declared.mentions.Role.TheVariants as role
 use Rattle.dg_base.specs.declared.mentions.Form.TheVariants as form
 use Rattle.dg_plain.specs.Items.{free_number}
 use Rattle.dg_plain.proofs.KeptLemmas.{Hold, front, back, both, three, from_all, to_all, all_front, all_back}
-use Rattle.dg_access.specs.Put.{Access, Argument, Spot, Level, rule_for, parameter_of, with_argument, in_item, in_rule, within, moved_from, in_closure, in_copy, own_or, own_name, is_own_parameter, argument_for, change_by, with_change, changes_in, list_queries, is_one, changes_behind, made, put_query, change_access, put_change, one_change, level, put_value, put_values, put_parts, given_by, put_stmt, put_stmts, put_body, put_arms, put_changes}
-use Rattle.dg_access.specs.Expanded.{access_in, access_rules, signed_rule, head_rules, put_rule, stay, put_said, on_line, put_item, put_items}
+use Rattle.dg_put.specs.Put.{Access, Argument, Spot, Level, rule_for, parameter_of, with_argument, in_item, in_rule, within, moved_from, in_closure, in_copy, own_or, own_name, is_own_parameter, argument_for, change_by, with_change, changes_in, list_queries, is_one, changes_behind, made, put_query, change_access, put_change, one_change, level, put_value, put_values, put_parts, given_by, put_stmt, put_stmts, put_body, put_arms, put_changes}
+use Rattle.dg_items.specs.Expanded.{access_in, access_rules, signed_rule, head_rules, put_rule, stay, put_said, on_line, put_item, put_items}
 use Rattle.dg_access.specs.Comes as comes
 use Rattle.dg_access.specs.Comes.{is_made, is_turned, PutFrom, MentionsArePut}
 use Rattle.dg_access.proofs.AnswerLemmas.{all_mentioned}

@@ -2,10 +2,10 @@
 use Rattle.std.specs.Prelude.{◌≡◌, ℕ, List, [], ◌∷◌, ◌++◌, codes, true, false, map}
 use Rattle.std.proofs.Common.{refl}
 use Rattle.dg_base.specs.Tree as tree
-use Rattle.dg_base.specs.Tree.{Part, Parts, Value, Stmt, Stmts, Body, Changes, parts_of, stmts_of, values_of}
+use Rattle.dg_base.specs.Tree.{Part, Parts, Value, Stmt, Body, parts_of, stmts_of, values_of}
 use Rattle.dg_base.specs.Heads.{name_of}
-use Rattle.dg_access.specs.Expanded.{put_rule}
-use Rattle.dg_access.specs.Put.{Access, use_mark, copy_mark, in_item, in_rule, level, put_stmt, put_changes, one_change}
+use Rattle.dg_items.specs.Expanded.{put_rule}
+use Rattle.dg_put.specs.Put.{Access, use_mark, copy_mark, in_item, in_rule, level, put_stmt, put_changes, one_change}
 
 abbrev body_of : List Stmt → Body
 body_of ss = tree.branch (stmts_of ss) tree.no_branches

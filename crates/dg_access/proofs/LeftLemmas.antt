@@ -16,10 +16,10 @@ use Rattle.dg_base.specs.declared.mentions.Role.TheVariants as role
 use Rattle.dg_plain.specs.Items.{plain_items, free_number}
 use Rattle.dg_plain.proofs.KeptLemmas.{Hold, back, both, from_all, to_all, all_front, all_back}
 use Rattle.dg_access.specs.Answer.{IsRewritten}
-use Rattle.dg_access.specs.Expanded.{access_in, access_rules, is_kept_builtin, is_closed, is_misplaced, count_values, signed_rule, head_rules, put_rule, put_said, on_line, put_item, put_items}
+use Rattle.dg_items.specs.Expanded.{access_in, access_rules, is_kept_builtin, is_closed, is_misplaced, count_values, signed_rule, head_rules, put_rule, put_said, on_line, put_item, put_items}
 use Rattle.dg_access.specs.Left.{is_left, NoneIsLeft, IsPutIn}
 use Rattle.dg_access.specs.Loops.{asks_for, mentions, reaches, loops, first_looping}
-use Rattle.dg_access.specs.Put.{Access, rule_for, in_rule, list_queries, changes_in, one_change, level, put_body, put_changes}
+use Rattle.dg_put.specs.Put.{Access, rule_for, in_rule, list_queries, changes_in, one_change, level, put_body, put_changes}
 use Rattle.dg_access.specs.Comes.{is_made}
 use Rattle.dg_access.proofs.AnswerLemmas.{rewritten_open}
 use Rattle.dg_access.proofs.CarryLemmas.{is_kept, is_asked, Carries, ChangesHold, Level_carries, queries_turned, first_branch, body_put, changes_put, none_some}

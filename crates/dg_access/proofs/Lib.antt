@@ -1,14 +1,6 @@
 pub mod Examples
-pub mod BuiltLemmas
-pub mod MarkLemmas
-pub mod ChainLemmas
-pub mod PlaceLemmas
-pub mod StepLemmas
-pub mod RuleLemmas
 pub mod ReachedLemmas
 pub mod RowLemmas
 pub mod AnswerLemmas
 pub mod CarryLemmas
 pub mod LeftLemmas
-pub mod WeightLemmas
-pub mod OverLemmas

@@ -17,13 +17,14 @@ use Rattle.dg_base.specs.Tree as tree
 use Rattle.dg_base.specs.Tree.{Said, Item}
 use Rattle.dg_base.specs.declared.mentions.Role.{Role}
 use Rattle.dg_base.specs.declared.mentions.Role.TheVariants as role
-use Rattle.dg_access.specs.Put.{Access}
-use Rattle.dg_access.specs.inside.Putting.{access_view}
-use Rattle.dg_access.specs.declared.access.Access.{Access as CodeAccess}
-use Rattle.dg_access.specs.Expanded.{access_in, access_rules}
+use Rattle.dg_put.specs.Put.{Access}
+use Rattle.dg_put.specs.inside.Putting.{access_view}
+use Rattle.dg_put.specs.declared.access.Access.{Access as CodeAccess}
+use Rattle.dg_items.specs.Expanded.{access_in, access_rules}
 use Rattle.dg_access.specs.Loops.{asks, asks_for, mentions, reaches, loops, first_looping}
 use Rattle.dg_access.specs.inside.Reached.{is_set, is_in, row_at, rows_of, Leads, begins, goes, IsReached}
-use Rattle.dg_access.specs.inside.Rows.{first_of, number_in, asked_as, asked_at, asked, first_rows, asked_by, all_rows, firsts, pooled, pooled_from, all_pooled, is_here_looping, is_looping, first_numbered}
+use Rattle.dg_put.specs.inside.Firsts.{first_of}
+use Rattle.dg_access.specs.inside.Rows.{number_in, asked_as, asked_at, asked, first_rows, asked_by, all_rows, firsts, pooled, pooled_from, all_pooled, is_here_looping, is_looping, first_numbered}
 
 map_append : {X Y : Type 0} (f : X → Y) (xs ys : List X) → map f (xs ++ ys) ≡ map f xs ++ map f ys
 map_append f [] ys = refl
@@ -489,14 +490,3 @@ pub itself_here : (rules : List CodeAccess) (k : ℕ) (d : CodeAccess) (seen : L
     → is_set seen (first_of (map access_view rules) d.name.now) ≡ reaches (map access_view rules) (access_view d) d.name.now
 itself_here rules k d seen h e given =
     reaches_itself (map access_view rules) (drop (suc k) (map access_view rules)) k (access_view d) seen (numbered_rule rules k d h ∙ ap (λ (x : CodeAccess). access_view x ∷ drop (suc k) (map access_view rules)) (sym e)) given
-
-pub dropped_item : {X : Type 0} (xs : List X) (i j : ℕ) (x : X) → j ≡ i + 1 → x ≡ get_or xs i x → i < length xs → drop i xs ≡ x ∷ drop j xs
-dropped_item {X = X} xs i j x e is h = by xs i is h ∙ ap (λ (k : ℕ). x ∷ drop k xs) (next e)
-  where
-    by : (ys : List X) (k : ℕ) → x ≡ get_or ys k x → k < length ys → drop k ys ≡ x ∷ drop (suc k) ys
-    by [] k f g = absurd (omega arith)
-    by (y ∷ ys) zero f g = ap (λ (z : X). z ∷ ys) (sym f)
-    by (y ∷ ys) (suc k) f g = by ys k f (omega arith)
-
-    next : j ≡ i + 1 → suc i ≡ j
-    next f = omega (arith, f)

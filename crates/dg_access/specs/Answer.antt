@@ -6,9 +6,9 @@ use Rattle.dg_base.specs.declared.refusal.Kind.TheVariants.{AccessLoop, BadNow, 
 use Rattle.dg_base.specs.declared.refusal.Refusal.{Refusal}
 use Rattle.dg_scopes.specs.Counts.{are_large, are_over}
 use Rattle.dg_plain.specs.Items.{plain_items}
-use Rattle.dg_access.specs.Expanded.{access_rules, put_item, put_items, are_bad}
+use Rattle.dg_items.specs.Expanded.{access_rules, put_item, put_items, are_bad}
 use Rattle.dg_access.specs.Loops.{first_looping}
-use Rattle.dg_access.specs.Put.{Access}
+use Rattle.dg_put.specs.Put.{Access}
 
 -- Why what an item becomes is refused, behind what became of the items before it: a count passes its number, or a head or a change stands where none may.
 abbrev pub cause_of : List Access → List Item → List Item → Option Kind

@@ -7,7 +7,7 @@ use Rattle.dg_base.specs.Mentions.{Thing, query, variable, unnamed, other, branc
 use Rattle.dg_base.specs.declared.mentions.Form.TheVariants as form
 use Rattle.dg_base.specs.declared.mentions.Role.{Role}
 use Rattle.dg_base.specs.declared.mentions.Role.TheVariants as role
-use Rattle.dg_access.specs.Expanded.{access_rules, put_items}
+use Rattle.dg_items.specs.Expanded.{access_rules, put_items}
 
 -- A variable, braces of some sort, or a body.
 abbrev pub is_made : Thing → Bool

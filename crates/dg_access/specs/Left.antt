@@ -5,7 +5,7 @@ use Rattle.std.specs.Option.{is_some}
 use Rattle.dg_base.specs.Tree.{Said, topic, rule, deny, access, global_variable}
 use Rattle.dg_base.specs.Mentions.{Thing, query, things_in}
 use Rattle.dg_base.specs.declared.mentions.Role.TheVariants as role
-use Rattle.dg_access.specs.Put.{Access, rule_for}
+use Rattle.dg_put.specs.Put.{Access, rule_for}
 
 -- A query, a change or a head of an access rule's predicate.
 abbrev pub is_left : List Access → Thing → Bool

@@ -1,5 +1,3 @@
-pub mod Put
-pub mod Expanded
 pub mod Loops
 pub mod Answer
 pub mod Comes

@@ -4,12 +4,12 @@ use Rattle.std.specs.List.{list_any}
 use Rattle.std.specs.Str.{bytes_eq}
 use Rattle.dg_base.specs.Heads.{name_of}
 use Rattle.dg_base.specs.Tree as tree
-use Rattle.dg_base.specs.Tree.{Parts, Item}
+use Rattle.dg_base.specs.Tree.{Item}
 use Rattle.dg_base.specs.Mentions.{Thing, query, things_in}
 use Rattle.dg_base.specs.declared.mentions.Role.{Role}
 use Rattle.dg_base.specs.declared.mentions.Role.TheVariants as role
-use Rattle.dg_access.specs.Put.{Access}
-use Rattle.dg_access.specs.Expanded.{access_in}
+use Rattle.dg_put.specs.Put.{Access}
+use Rattle.dg_items.specs.Expanded.{access_in}
 
 -- A query or a change of a predicate, but no access rule's own head.
 abbrev pub asks : Role → List ℕ → List ℕ → Bool

@@ -7,20 +7,19 @@ ghost use Rattle.dg_base.specs.Tree as tree;
 ghost use Rattle.dg_base.specs.TreeView.{item_view, tree_view};
 ghost use Rattle.dg_access.specs.Answer as spec;
 ghost use Rattle.dg_access.specs.Answer.{IsPut, IsExpanded, IsRewritten};
-ghost use Rattle.dg_access.specs.Expanded.{put_item};
-ghost use Rattle.dg_access.specs.inside.Putting.{access_view};
-ghost use Rattle.dg_access.specs.inside.Weights.{IsOver};
+ghost use Rattle.dg_items.specs.Expanded.{put_item};
+ghost use Rattle.dg_put.specs.inside.Putting.{access_view};
+ghost use Rattle.dg_put.specs.inside.Weights.{IsOver};
 
-use crate::chains::Rules;
 use crate::closed::are_bad;
-use crate::finding::rules_among;
 use crate::loops::first_looping;
 use crate::release::let_go_items;
-use crate::rules::{access_rules, put_item};
 use bumpalo::Bump;
 use dg_base::{Item, Items, Kind, ReadFault, Refusal, Tree};
+use dg_items::{access_rules, put_item};
 use dg_names::Names;
 use dg_plain::plain_tree;
+use dg_put::{Rules, rules_among};
 use dg_scopes::{Counts, add_items, uncounted};
 use std::alloc::{AllocError, Global};
 

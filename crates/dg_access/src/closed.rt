@@ -5,14 +5,13 @@ ghost use Rattle.dg_base.specs.Mentions.{query, things_in};
 ghost use Rattle.dg_base.specs.Tree.{parts_of};
 ghost use Rattle.dg_base.specs.TreeView.{part_view, head_view, said_view, item_view};
 ghost use Rattle.dg_base.specs.Walk.{mention_view, thing_at, things_at, seen};
-ghost use Rattle.dg_access.specs.Expanded as spec;
-ghost use Rattle.dg_access.specs.inside.Putting.{access_view};
+ghost use Rattle.dg_items.specs.Expanded as spec;
+ghost use Rattle.dg_put.specs.inside.Putting.{access_view};
 
-use crate::chains::Rules;
-use crate::finding::rule_among;
 use dg_base::{
     Builtin, Head, Item, ItemBody, Mention, Part, Role, builtin_of, is_prelude_name, mentions_of,
 };
+use dg_put::{Rules, rule_among};
 use std::alloc::{AllocError, Global};
 
 const PARAMETERS: usize = 2;

@@ -9,7 +9,7 @@ ghost use Rattle.dg_base.specs.Tree.{Parts, Item};
 ghost use Rattle.dg_base.specs.declared.refusal.Refusal.{Refusal};
 ghost use Rattle.dg_access.specs.Answer.{IsRewritten};
 ghost use Rattle.dg_access.specs.Comes.{MentionsArePut};
-ghost use Rattle.dg_access.specs.Expanded.{access_rules, is_misplaced, stay};
+ghost use Rattle.dg_items.specs.Expanded.{access_rules, is_misplaced, stay};
 ghost use Rattle.dg_access.specs.Left.{IsPutIn};
 ghost use Rattle.dg_names.specs.Counts.{closures_at};
 

@@ -1,23 +1,12 @@
 //! Access rules that are put in: queries, heads and changes of their predicates stand no more in the tree.
 #![tactic(auto)]
 
-mod access;
 mod answer;
-mod chains;
 mod closed;
-mod expanding;
-mod finding;
 mod laws;
 mod loops;
-mod marks;
-mod names;
-mod place;
 mod reached;
 mod release;
-mod rules;
-mod steps;
-mod weighed;
-mod work;
 
 pub use answer::{expand, rewrite};
 pub use laws::{

@@ -6,15 +6,15 @@ ghost use Rattle.dg_base.specs.Mentions.{query, things_in};
 ghost use Rattle.dg_base.specs.TreeView.{head_view, said_view, item_view};
 ghost use Rattle.dg_base.specs.Walk.{mention_view, thing_at, things_at, seen};
 ghost use Rattle.dg_access.specs.Loops as spec;
-ghost use Rattle.dg_access.specs.inside.Putting.{access_view};
-ghost use Rattle.dg_access.specs.Expanded.{access_rules};
+ghost use Rattle.dg_put.specs.inside.Putting.{access_view};
+ghost use Rattle.dg_items.specs.Expanded.{access_rules};
 ghost use Rattle.dg_access.specs.inside.Reached.{rows_of};
-ghost use Rattle.dg_access.specs.inside.Rows.{all_pooled, all_rows, asked, asked_at, first_numbered, first_of, first_rows, firsts, is_among, is_looping, number_in, pooled, pooled_from};
+ghost use Rattle.dg_access.specs.inside.Rows.{all_pooled, all_rows, asked, asked_at, first_numbered, first_rows, firsts, is_looping, number_in, pooled, pooled_from};
+ghost use Rattle.dg_put.specs.inside.Firsts.{first_of};
 
-use crate::chains::Rules;
-use crate::finding::first_of;
 use crate::reached::{is_set, reached_from, row_at};
 use dg_base::{Head, Item, ItemBody, Mention, Role, mentions_of};
+use dg_put::{Rules, first_of};
 use std::alloc::{AllocError, Global};
 
 fn add_number(rules: Rules<'_>, row: &mut Vec<usize>, head: &Head) -> Result<(), AllocError>

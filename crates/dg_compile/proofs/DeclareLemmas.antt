@@ -19,8 +19,8 @@ use Rattle.dg_core.specs.Core.{is_unset}
 use Rattle.dg_core.specs.Given.{IsSet, AreSet, MayStart}
 use Rattle.dg_core.specs.Matches.{IsPlain, ArePlain}
 use Rattle.dg_core.specs.Places.{head_values}
-use Rattle.dg_access.specs.Expanded.{signed_rule, head_rules, stay, put_said, on_line, put_item, put_items}
-use Rattle.dg_access.specs.Put.{Access, Level, in_item, level, put_value, put_values, put_parts}
+use Rattle.dg_items.specs.Expanded.{signed_rule, head_rules, stay, put_said, on_line, put_item, put_items}
+use Rattle.dg_put.specs.Put.{Access, Level, in_item, level, put_value, put_values, put_parts}
 use Rattle.dg_reader.specs.Declarations.{is_star, begins_with_topic, IsDeclaration, AreDeclarations}
 use Rattle.dg_reader.specs.Heads.{has_value, is_constant, are_constants, is_start, has_one_start}
 use Rattle.dg_reader.specs.Read.{is_topic}

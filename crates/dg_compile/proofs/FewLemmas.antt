@@ -22,9 +22,9 @@ use Rattle.dg_base.specs.declared.names.Builtin.TheVariants as built_in
 use Rattle.dg_core.specs.Given.{IsFit, IsFitItem, closures_among}
 use Rattle.dg_core.specs.Matches.{IsPlain, ArePlain}
 use Rattle.dg_core.specs.Places.{parent_name, declaration_in, declarations, changed_in, place_names, head_values}
-use Rattle.dg_access.specs.Expanded as expanded
-use Rattle.dg_access.specs.Expanded.{is_kept_builtin, is_closed, is_misplaced}
-use Rattle.dg_access.specs.Put.{Access, rule_for}
+use Rattle.dg_items.specs.Expanded as expanded
+use Rattle.dg_items.specs.Expanded.{is_kept_builtin, is_closed, is_misplaced}
+use Rattle.dg_put.specs.Put.{Access, rule_for}
 use Rattle.dg_names.specs.Among.{AreFirsts, HasPred, IsAmong}
 use Rattle.dg_names.specs.Counts.{closures_at}
 use Rattle.dg_names.specs.Named.{Named, firsts}

@@ -20,7 +20,7 @@ use Rattle.dg_core.specs.Places.{placed_of, first_bad_start, values_named}
 use Rattle.dg_meaning.specs.Few.{AllAskFew, AllHoldFew, HeadsAreFew}
 use Rattle.dg_access.specs.Answer.{IsRewritten}
 use Rattle.dg_access.specs.Comes.{MentionsArePut}
-use Rattle.dg_access.specs.Expanded.{access_rules, is_misplaced, put_items}
+use Rattle.dg_items.specs.Expanded.{access_rules, is_misplaced, put_items}
 use Rattle.dg_lex.specs.Bad as lexing
 use Rattle.dg_lex.specs.Spelled.{IsSpelledToken}
 use Rattle.dg_lex.specs.Tokens.{IsLexed, Seen, seen}

@@ -1,7 +1,5 @@
 -- Which access rules ask for which, by number, those of one name standing for the first of them. The proofs alone rest on it.
 use Rattle.std.specs.Prelude.{ℕ, ◌+◌, ◌&&◌, List, [], ◌∷◌, ◌++◌, Bool, false, Option, Some, None, map, take, drop, length, nat_eq, nat_lt, if◌then◌else◌}
-use Rattle.std.specs.List.{list_any}
-use Rattle.std.specs.Str.{bytes_eq}
 use Rattle.dg_plain.specs.Rewritten.{is_access}
 use Rattle.dg_base.specs.Heads.{name_of}
 use Rattle.dg_base.specs.Tree as tree
@@ -9,14 +7,10 @@ use Rattle.dg_base.specs.Tree.{Item}
 use Rattle.dg_base.specs.Mentions.{Thing, query, things_in}
 use Rattle.dg_base.specs.declared.mentions.Role.{Role}
 use Rattle.dg_base.specs.declared.mentions.Role.TheVariants as role
-use Rattle.dg_access.specs.Put.{Access}
-use Rattle.dg_access.specs.Expanded.{access_in}
+use Rattle.dg_put.specs.inside.Firsts.{first_of}
+use Rattle.dg_put.specs.Put.{Access}
+use Rattle.dg_items.specs.Expanded.{access_in}
 use Rattle.dg_access.specs.Loops.{loops}
-
--- The number of the first access rule of this name, or else how many there are.
-abbrev pub first_of : List Access → List ℕ → ℕ
-first_of [] name = 0
-first_of (r ∷ rules) name = if bytes_eq r.name name then 0 else first_of rules name + 1
 
 -- The number of an access rule's name.
 abbrev pub number_in : List Access → List ℕ → List ℕ
@@ -67,10 +61,6 @@ pooled_from k (c ∷ cs) ns rows = pooled k ns rows ∷ pooled_from (k + 1) cs n
 
 abbrev pub all_pooled : List Access → List (List ℕ)
 all_pooled rules = pooled_from 0 (firsts rules rules) (firsts rules rules) (all_rows rules)
-
--- Whether one of these has this name.
-abbrev pub is_among : List Access → List ℕ → Bool
-is_among rules name = list_any (λ (r : Access). bytes_eq r.name name) rules
 
 -- Whether the access rule that stands here, behind these, is the second of its predicate, or reaches it.
 abbrev pub is_here_looping : List Access → List Access → List Access → Bool

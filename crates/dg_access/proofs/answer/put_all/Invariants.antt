@@ -3,8 +3,8 @@ use Rattle.dg_base.specs.TreeView.{item_view}
 use Rattle.dg_scopes.specs.Scopes.{counts_of}
 use Rattle.dg_scopes.specs.State.{counts_view}
 use Rattle.dg_access.specs.Answer.{first_refused}
-use Rattle.dg_access.specs.Expanded.{put_items}
-use Rattle.dg_access.specs.inside.Putting.{access_view}
+use Rattle.dg_items.specs.Expanded.{put_items}
+use Rattle.dg_put.specs.inside.Putting.{access_view}
 use Rattle.dg_access.proofs.answer.put_all.Given as goal
 
 abbrev pub invariant-loop-item : goal.invariant-loop-item

@@ -1,7 +1,7 @@
 use Rattle.std.proofs.Common.{◌≡◌, drop, map}
 use Rattle.dg_base.specs.TreeView.{item_view}
-use Rattle.dg_access.specs.Expanded as spec
-use Rattle.dg_access.specs.inside.Putting.{access_view}
+use Rattle.dg_items.specs.Expanded as spec
+use Rattle.dg_put.specs.inside.Putting.{access_view}
 use Rattle.dg_access.proofs.closed.are_bad.Given as goal
 
 abbrev pub invariant-loop-item : goal.invariant-loop-item

@@ -1,7 +1,7 @@
 use Rattle.std.proofs.Common.{◌≡◌, ◌≤◌, ◌+◌, drop, map}
 use Rattle.dg_base.specs.Tree.{parts_of}
 use Rattle.dg_base.specs.TreeView.{part_view}
-use Rattle.dg_access.specs.Expanded.{count_values}
+use Rattle.dg_items.specs.Expanded.{count_values}
 use Rattle.dg_access.proofs.closed.values_in.Given as goal
 
 abbrev pub invariant-loop-part : goal.invariant-loop-part

@@ -1,5 +1,5 @@
 use Rattle.std.proofs.Common.{[]}
-use Rattle.dg_access.specs.Put.{in_item, level}
+use Rattle.dg_put.specs.Put.{in_item, level}
 use Rattle.dg_access.proofs.CarryLemmas.{named}
 use Rattle.dg_access.proofs.laws.declared_heads_keep_names.Goals as goal
 

@@ -4,9 +4,9 @@ use Rattle.std.proofs.lemmas.Result.{IfOk-weaker}
 use Rattle.dg_base.specs.Tree.{Item}
 use Rattle.dg_base.specs.TreeView.{item_view}
 use Rattle.dg_access.specs.Loops as spec
-use Rattle.dg_access.specs.Expanded.{access_rules}
-use Rattle.dg_access.specs.Put.{Access}
-use Rattle.dg_access.specs.inside.Putting.{access_view}
+use Rattle.dg_items.specs.Expanded.{access_rules}
+use Rattle.dg_put.specs.Put.{Access}
+use Rattle.dg_put.specs.inside.Putting.{access_view}
 use Rattle.dg_access.specs.inside.Reached.{rows_of}
 use Rattle.dg_access.specs.inside.Rows.{asked_by, all_rows, first_numbered, first_rows, firsts, pooled_from}
 use Rattle.dg_access.proofs.RowLemmas.{first_are, numbered}

@@ -1,5 +1,5 @@
 use Rattle.std.proofs.Common.{◌≡◌, ◌++◌, drop, map}
-use Rattle.dg_access.specs.inside.Putting.{access_view}
+use Rattle.dg_put.specs.inside.Putting.{access_view}
 use Rattle.dg_access.specs.inside.Rows.{firsts}
 use Rattle.dg_access.proofs.loops.firsts_of.Given as goal
 

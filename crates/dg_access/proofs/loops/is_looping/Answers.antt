@@ -4,11 +4,12 @@ use Rattle.dg_base.specs.Heads.{name_of}
 use Rattle.dg_base.specs.Tree.{parts_of}
 use Rattle.dg_base.specs.TreeView.{part_view}
 use Rattle.dg_access.specs.Loops.{reaches}
-use Rattle.dg_access.specs.declared.access.Access.{Access as CodeAccess}
-use Rattle.dg_access.specs.inside.Putting.{access_view}
+use Rattle.dg_put.specs.declared.access.Access.{Access as CodeAccess}
+use Rattle.dg_put.specs.inside.Putting.{access_view}
 use Rattle.dg_access.specs.inside.Reached.{IsReached, is_set, row_at}
-use Rattle.dg_access.specs.inside.Rows.{all_pooled, first_of, is_among}
-use Rattle.dg_access.proofs.ChainLemmas.{among_first}
+use Rattle.dg_access.specs.inside.Rows.{all_pooled}
+use Rattle.dg_put.specs.inside.Firsts.{first_of, is_among}
+use Rattle.dg_put.proofs.ChainLemmas.{among_first}
 use Rattle.dg_access.proofs.RowLemmas.{itself_here, looping_here}
 use Rattle.dg_access.proofs.loops.is_looping.Goals as goal
 

@@ -1,9 +1,10 @@
 use Rattle.std.proofs.Common.{◌+◌, List, ℕ, ◌++◌, map, drop, sym, refl, ◌∙◌, ap, append_assoc}
 use Rattle.dg_base.specs.Walk.{mention_view, seen, thing_at, things_at}
 use Rattle.dg_base.specs.declared.mentions.Mention.{Mention}
-use Rattle.dg_access.specs.inside.Putting.{access_view}
+use Rattle.dg_put.specs.inside.Putting.{access_view}
 use Rattle.dg_access.specs.inside.Rows.{asked}
-use Rattle.dg_access.proofs.RowLemmas.{asked_append, dropped_item}
+use Rattle.dg_access.proofs.RowLemmas.{asked_append}
+use Rattle.dg_put.proofs.Dropped.{dropped_item}
 use Rattle.dg_access.proofs.loops.row_among.Goals as goal
 
 pub loop-mention-preserved : goal.loop-mention-preserved

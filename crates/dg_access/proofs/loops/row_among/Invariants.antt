@@ -1,6 +1,6 @@
 use Rattle.std.proofs.Common.{◌≡◌, ◌++◌, drop, map}
 use Rattle.dg_base.specs.Walk.{seen, things_at}
-use Rattle.dg_access.specs.inside.Putting.{access_view}
+use Rattle.dg_put.specs.inside.Putting.{access_view}
 use Rattle.dg_access.specs.inside.Rows.{asked}
 use Rattle.dg_access.proofs.loops.row_among.Given as goal
 

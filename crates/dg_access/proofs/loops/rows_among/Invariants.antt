@@ -1,6 +1,6 @@
 use Rattle.std.proofs.Common.{◌≡◌, ◌++◌, drop, map}
 use Rattle.dg_base.specs.TreeView.{item_view}
-use Rattle.dg_access.specs.inside.Putting.{access_view}
+use Rattle.dg_put.specs.inside.Putting.{access_view}
 use Rattle.dg_access.specs.inside.Reached.{rows_of}
 use Rattle.dg_access.specs.inside.Rows.{first_rows}
 use Rattle.dg_access.proofs.loops.rows_among.Given as goal

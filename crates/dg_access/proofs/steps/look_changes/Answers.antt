@@ -1,6 +1,0 @@
-use Rattle.dg_plain.proofs.StepLemmas.{on_ok, parted}
-use Rattle.dg_access.proofs.StepLemmas.{changes_off}
-use Rattle.dg_access.proofs.steps.look_changes.Goals as goal
-
-pub returns-in-len1-up : goal.returns-in-len1-up
-returns-in-len1-up c = on_ok c.put_off_both.result _ _ c.put_off_both.ensures (changes_off c.args.at c.args.changes.now c.first-item.result _ _ c.args.left.now.items _ (parted c.args.changes.now c.first-item.result c.in-len1-up.len_at_least c.first-item.is) c.as_slice.ensures)
