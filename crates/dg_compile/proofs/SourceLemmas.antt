@@ -4,6 +4,8 @@ use Rattle.std.specs.Prelude.{nat_lt, IfOk, IfErr}
 use Rattle.std.proofs.lemmas.Bool.Decides.{nat_tests}
 use Rattle.dg_base.specs.Tree.{Item}
 use Rattle.dg_base.specs.Faults.{IsFault}
+use Rattle.dg_base.specs.TreeView.{tree_view}
+use Rattle.dg_base.specs.declared.tree.Tree.{Tree}
 use Rattle.dg_base.specs.declared.program.CoreProgram.{CoreProgram as Core}
 use Rattle.dg_base.specs.declared.refusal.ReadFault.{ReadFault}
 use Rattle.dg_base.specs.declared.refusal.ReadFault.TheVariants as fault
@@ -17,7 +19,7 @@ use Rattle.dg_names.specs.Named.{Named}
 use Rattle.dg_names.specs.Counts.{IsNamed}
 use Rattle.dg_access.specs.Answer.{IsRewritten}
 use Rattle.dg_core.specs.Core.{IsLowered}
-use Rattle.dg_compile.specs.Source.{Then, refused, given, refusal_at, Lexes, all_names, with_prelude, Compiles, Meets}
+use Rattle.dg_compile.specs.Source.{Then, refused, given, refusal_at, Lexes, Reads, all_names, with_prelude, Becomes, Compiles, Meets}
 
 -- ## Steps
 
@@ -65,6 +67,38 @@ compiles_one source lexed read named rewritten =
 pub lexed_of : (source : List ℕ) (f : ReadFault) → (f ≡ fault.OutOfMemory) ⊎ ((r : Refusal) × (lex_refusal source ≡ Some r) × (f ≡ fault.Refused r)) → IsFault (λ r. Lexes source (Err r)) f
 lexed_of source f (inl e) = rw e tt
 lexed_of source f (inr h) = rw h.2 h.1
+
+-- it isn't read
+pub unlexed : (source : List ℕ) (f : ReadFault) → IsFault (λ r. Lexes source (Err r)) f → IsFault (λ r. Reads source (Err r)) f
+unlexed source (fault.Refused r) h = refused r h refl
+unlexed source fault.OutOfMemory h = tt
+
+pub unread : (source : List ℕ) (ts : List Seen) (f : ReadFault) → Lexes source (Ok ts) → IsFault (λ r. IsRead ts (Err r)) f → IsFault (λ r. Reads source (Err r)) f
+unread source ts (fault.Refused r) h k = given ts h k
+unread source ts fault.OutOfMemory h k = tt
+
+-- what was read of its tokens
+pub read_trees : (source : List ℕ) (ts : List Seen) (answer : Result Tree ReadFault) → Lexes source (Ok ts) → IfOk answer (λ tree. IsRead ts (Ok (tree_view tree))) → IfOk answer (λ tree. Reads source (Ok (tree_view tree)))
+read_trees source ts (Ok tree) h k = given ts h k
+read_trees source ts (Err f) h k = tt
+
+pub unread_trees : (source : List ℕ) (ts : List Seen) (answer : Result Tree ReadFault) → Lexes source (Ok ts) → IfErr answer (IsFault (λ r. IsRead ts (Err r))) → IfErr answer (IsFault (λ r. Reads source (Err r)))
+unread_trees source ts (Ok tree) h k = tt
+unread_trees source ts (Err f) h k = unread source ts f h k
+
+pub no_items : (source : List ℕ) (f : ReadFault) → IsFault (λ r. Reads source (Err r)) f → Meets (Compiles source) (Err f)
+no_items source (fault.Refused r) (refused s h e) = refused s h (let same : r ≡ s = cc in ap Err same)
+no_items source (fault.Refused r) (given ts h k) = given ts h (refused r k refl)
+no_items source fault.OutOfMemory h = tt
+
+-- its items become this
+pub items_decide : (source : List ℕ) (items : List Item) (answer : Result Core Refusal) → Reads source (Ok items) → Becomes items answer → Compiles source answer
+items_decide source items answer (refused r h e) k = cc
+items_decide source items answer (given ts h k) b = given ts h (given items k b)
+
+pub items_become : (source : List ℕ) (items : List Item) (answer : Result Core ReadFault) → Reads source (Ok items) → Meets (Becomes items) answer → Meets (Compiles source) answer
+items_become source items answer (refused r h e) k = cc
+items_become source items answer (given ts h k) b = then_ok (Lexes source) _ ts answer h (then_ok (IsRead ts) Becomes items answer k b)
 
 pub lowered_of : (named : Named) (plain : List Item) (answer : Result Core ReadFault) → IfOk answer (λ p. IsLowered named plain (Ok p)) → IfErr answer (IsFault (λ r. IsLowered named plain (Err r))) → Meets (IsLowered named plain) answer
 lowered_of named plain (Ok p) ok err = ok

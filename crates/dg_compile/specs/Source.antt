@@ -46,6 +46,10 @@ with_prelude new = new ++ plain_items None prelude_rules
 abbrev pub Becomes : List Item → Result Core Refusal → Type 0
 Becomes items = Then (IsNamed items) (λ named. Then (IsRewritten items) (λ new. IsLowered (all_names items) (with_prelude new)))
 
+-- The items of a source: it is too long or has a bad character, or its tokens are no items, or these are they.
+abbrev pub Reads : List ℕ → Result (List Item) Refusal → Type 0
+Reads source = Then (Lexes source) IsRead
+
 -- What a source is: it is too long or has a bad character, or its tokens are no items, or what its items are.
 abbrev pub Compiles : List ℕ → Result Core Refusal → Type 0
 Compiles source = Then (Lexes source) (λ tokens. Then (IsRead tokens) Becomes)

@@ -5,6 +5,6 @@ mod behind;
 mod source;
 
 pub use source::{
-    compile, long_sources_are_refused, programs_are_sound, refused_sources_have_no_program,
-    sources_have_one_answer,
+    compile, items_decide, long_sources_are_refused, program_of, programs_are_sound,
+    refused_sources_have_no_program, sources_have_one_answer, tree_of, unread_sources_are_refused,
 };

@@ -1,5 +1,6 @@
 // From the bytes of a source to its core program.
-ghost use Rattle.std.specs.Prelude.{◌≡◌, ◌<◌, ◌≤◌, ℕ, List, length, Result, Ok, Err, IfOk};
+ghost use Rattle.std.specs.Prelude.{◌≡◌, ◌<◌, ◌≤◌, ℕ, List, length, Result, Ok, Err, IfOk, IfErr};
+ghost use Rattle.dg_base.specs.Faults.{IsFault};
 ghost use Rattle.dg_base.specs.Sound.{IsSound};
 ghost use Rattle.dg_base.specs.TreeView.{tree_view};
 ghost use Rattle.dg_base.specs.declared.program.CoreProgram.{CoreProgram as Core};
@@ -12,7 +13,7 @@ ghost use Rattle.dg_meaning.specs.Few.{AllHoldFew, HeadsAreFew};
 ghost use Rattle.dg_names.specs.Counts.{IsNamed};
 ghost use Rattle.dg_names.specs.Named.{names_of};
 ghost use Rattle.dg_names.specs.State.{names_view};
-ghost use Rattle.dg_compile.specs.Source.{Then, all_names, with_prelude, Becomes, Compiles, Meets, refusal_at};
+ghost use Rattle.dg_compile.specs.Source.{Then, all_names, with_prelude, Reads, Becomes, Compiles, Meets, refusal_at};
 
 use crate::behind::{add_prelude, with_prelude_names};
 use dg_access::rewrite;
@@ -57,12 +58,23 @@ fn named_program(alloc: Global, tree: Tree, names: Names) -> Result<CoreProgram,
     }
 }
 
-// The core program of a tree, or why it is refused.
-fn program_of(alloc: Global, tree: Tree) -> Result<CoreProgram, ReadFault>
+/// The core program of a tree, or why it is refused.
+pub fn program_of(alloc: Global, tree: Tree) -> Result<CoreProgram, ReadFault>
     ensures { Meets (Becomes (tree_view tree)) result }
 {
     match Names::of(alloc, &tree) {
         Ok(names) => named_program(alloc, tree, names),
+        Err(fault) => Err(fault),
+    }
+}
+
+/// The tree of a source, or why the source has none.
+pub fn tree_of(alloc: Global, source: &[u8]) -> Result<Tree, ReadFault>
+    ensures tree { IfOk result (λ tree. Reads source.now (Ok (tree_view tree))) }
+    ensures refused { IfErr result (IsFault (λ r. Reads source.now (Err r))) }
+{
+    match lex(alloc, source) {
+        Ok(tokens) => read(alloc, &tokens),
         Err(fault) => Err(fault),
     }
 }
@@ -75,16 +87,22 @@ pub fn compile(alloc: Global, source: &[u8]) -> Result<CoreProgram, ReadFault>
     ensures heads { IfOk result (HeadsAreFew 12) }
 {
     programs_are_sound();
-    let tokens = match lex(alloc, source) {
-        Ok(tokens) => tokens,
-        Err(fault) => return Err(fault),
-    };
-    let tree = match read(alloc, &tokens) {
-        Ok(tree) => tree,
-        Err(fault) => return Err(fault),
-    };
-    program_of(alloc, tree)
+    match tree_of(alloc, source) {
+        Ok(tree) => program_of(alloc, tree),
+        Err(fault) => Err(fault),
+    }
 }
+
+/// A source whose items become a program, or are refused, is that.
+pub fn items_decide()
+    ensures { (source : List ℕ) (items : List Item) (answer : Result Core Refusal) →
+        Reads source (Ok items) → Becomes items answer → Compiles source answer }
+{}
+
+/// A source without items is refused.
+pub fn unread_sources_are_refused()
+    ensures { (source : List ℕ) (r : Refusal) → Reads source (Err r) → Compiles source (Err r) }
+{}
 
 /// The program of a source is sound, and its goals and heads hold at most twelve terms each.
 pub fn programs_are_sound()
