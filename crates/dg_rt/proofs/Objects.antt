@@ -94,7 +94,7 @@ module _ (sh : Shape) (S : Substitution) (s : IsSubstitution S) (v : Value) wher
   simple_by w u (variable n lt) e = rw (resolved_free S s v n e) (is_none refl)
   simple_by w u (boxed k header lt box cell (pair_in _ a b one two head tail)) e = not_simply Pair _ refl e
   simple_by w u (boxed k header lt box cell (closure_in _ place small told few count all)) e = not_simply (Closure place) _ refl e
-  simple_by w u (boxed k header lt box cell (word_in _ all)) e = not_simply (Unknown _) _ refl e
+  simple_by w u (boxed k header lt box cell (word_in _ all printed)) e = not_simply (Unknown _) _ refl e
 
   pub simple_told : (w : ℕ) → Shows sh w (walk S v) → Valued (resolved S v) (simple_word (walk S v))
   simple_told w shows = simple_by w (walk S v) shows refl
@@ -113,7 +113,7 @@ module _ (sh : Shape) (S : Substitution) (s : IsSubstitution S) (v : Value) wher
   parent_by w u (variable n lt) e = rw (resolved_free S s v n e) (no_parent refl)
   parent_by w u (boxed k header lt box cell (pair_in _ a b one two head tail)) e = not_parented Pair _ refl e
   parent_by w u (boxed k header lt box cell (closure_in _ place small told few count all)) e = not_parented (Closure place) _ refl e
-  parent_by w u (boxed k header lt box cell (word_in _ all)) e = not_parented (Unknown _) _ refl e
+  parent_by w u (boxed k header lt box cell (word_in _ all printed)) e = not_parented (Unknown _) _ refl e
 
   pub parent_told : (w : ℕ) → Shows sh w (walk S v) → Parented (resolved S v) (object_word (walk S v))
   parent_told w shows = parent_by w (walk S v) shows refl
