@@ -1,5 +1,5 @@
 -- What starts set fits its places.
-use Rattle.std.proofs.Common.{◌≡◌, ◌≢◌, ℕ, zero, suc, ◌+◌, ◌<◌, ◌≤◌, List, [], ◌∷◌, ◌++◌, length, map, Option, Some, None, Bool, refl, sym, ap, ◌∙◌, subst, arith}
+use Rattle.std.proofs.Common.{◌≡◌, ◌≢◌, ℕ, zero, suc, ◌+◌, ◌<◌, ◌≤◌, List, [], ◌∷◌, ◌++◌, length, map, Option, Some, None, refl, sym, ◌∙◌, subst, arith}
 use Rattle.std.specs.Prelude.{All, nat_eq, ◌&&◌}
 use Rattle.std.specs.List.{slice_get}
 use Rattle.std.proofs.lemmas.Bool.{cond_both, cond-false, eqb-true, ne_eqb, and_parts}
@@ -17,7 +17,7 @@ use Rattle.dg_rt.specs.Changes.{SetIn}
 use Rattle.dg_rt.specs.Operands.{simple_word}
 use Rattle.dg_rt.specs.Shapes.{number, dict, object, nil}
 use Rattle.dg_turn.specs.Terms.{IsTerm}
-use Rattle.dg_turn.specs.Starts.{set_word, AreSimple, FitsPlace, StartTerms, StartsFit}
+use Rattle.dg_turn.specs.Starts.{set_word, FitsPlace, StartTerms, StartsFit}
 
 -- ## Values
 

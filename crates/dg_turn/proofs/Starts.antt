@@ -1,9 +1,8 @@
 -- Words and bytes of the world in a row stand for what is set.
-use Rattle.std.proofs.Common.{◌≡◌, ℕ, zero, suc, ◌+◌, ◌*◌, ◌<◌, ◌≤◌, inl, inr, List, [], ◌∷◌, ◌++◌, length, take, Option, Some, None, refl, sym, ap, ◌∙◌, subst, arith}
+use Rattle.std.proofs.Common.{◌≡◌, ℕ, zero, suc, ◌+◌, ◌*◌, ◌<◌, ◌≤◌, List, [], ◌∷◌, ◌++◌, length, take, Some, None, refl, sym, ap, ◌∙◌, subst, arith}
 use Rattle.std.specs.Prelude.{is_some}
 use Rattle.std.specs.List.{slice_get, sum_by}
 use Rattle.std.proofs.lemmas.List.Sums.{sum_by-cons}
-use Rattle.dg_base.specs.declared.program.CoreProgram.{CoreProgram}
 use Rattle.dg_base.specs.declared.program.PlaceKind.{PlaceKind}
 use Rattle.dg_base.specs.declared.program.PlaceKind.TheVariants.{Flag, ObjectFlag, ObjectVar, Parent, Global}
 use Rattle.dg_meaning.specs.Facts.{Fact, value_at, kinds_of}
@@ -11,8 +10,8 @@ use Rattle.dg_rt.specs.Cells.{bit}
 use Rattle.dg_rt.specs.Changes.{SetIn, TableIn, FlagsIn}
 use Rattle.dg_rt.specs.Copies.{Row}
 use Rattle.dg_rt.specs.Tables.{byte_at}
-use Rattle.dg_turn.specs.World.{world_at, place_words, place_bytes, all_words, words_at, bytes_at, PlaceIn, FactsIn}
-use Rattle.dg_turn.specs.Starts.{set_word, object_words, object_bytes, words_of_place, bytes_of_place, words_from, bytes_from, WorldIn, AreSimple, FitsPlace, WorldStands}
+use Rattle.dg_turn.specs.World.{world_at, place_words, place_bytes, all_words, words_at, bytes_at, PlaceIn}
+use Rattle.dg_turn.specs.Starts.{set_word, object_words, object_bytes, words_of_place, bytes_of_place, words_from, bytes_from, AreSimple, FitsPlace, WorldStands}
 
 -- ## Rows
 
