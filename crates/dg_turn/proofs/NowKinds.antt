@@ -35,10 +35,10 @@ use Rattle.dg_turn.specs.Plays.{Playing, Outside}
 use Rattle.dg_turn.specs.Terms.{written_in}
 use Rattle.dg_turn.specs.Turns.{agreed_next}
 use Rattle.dg_turn.specs.Operating.{term_value, term_links, deciding_routine, InFront}
-use Rattle.dg_turn.specs.World.{place_words, words_at, bytes_at, PlaceIn, FactsIn, HasWorld, flag_word, now_routine, change_in, now_most, Changing, NowTurns}
+use Rattle.dg_turn.specs.World.{place_words, place_bytes, world_end, words_at, bytes_at, PlaceIn, FactsIn, HasWorld, flag_word, now_routine, change_in, now_most, Changing, NowTurns}
 use Rattle.dg_turn.proofs.DecidingTurn.{next_is}
 use Rattle.dg_turn.proofs.NowTurn.{ChangedBy, changing}
-use Rattle.dg_turn.proofs.Places.{table_of, bytes_of, AtPlace, stays_elsewhere, object_at, words_changed, bytes_changed}
+use Rattle.dg_turn.proofs.Places.{before_all, table_of, bytes_of, AtPlace, stays_elsewhere, object_at, words_changed, bytes_changed}
 
 -- ## Where the routines stand
 
@@ -84,7 +84,7 @@ module _ (t : Telling) (plays : Playing t) (world : HasWorld t) (out : Outside) 
     memory' = k.memory';
     cells' = k.cells';
     holds = k.holds;
-    inside = λ i lt. k.others i (λ le. absurd (omega arith));
+    inside = λ i far. (let b = before_all (place_words n) (kinds_of t.program) place kind is in k.others i (λ le. (let z : world_end t.program ≤ i = far (omega arith) in omega arith)));
     facts_in = words_changed t.program cells k.cells' facts (facts_behind change facts) place kind is (λ q o ne. stays_elsewhere facts place q o change at ne) (place_in k.cells' (facts_behind change facts) k.table) there n size k.others;
     locals' = k.locals';
     count = k.count;
@@ -103,7 +103,7 @@ module _ (t : Telling) (plays : Playing t) (world : HasWorld t) (out : Outside) 
     memory' = k.memory';
     cells' = k.cells';
     holds = k.holds;
-    inside = λ i lt. k.others i (λ le. absurd (omega arith));
+    inside = λ i far. (let b = before_all (place_bytes n) (kinds_of t.program) place ObjectFlag is in k.others i (λ le. (let z : world_end t.program ≤ i = far (omega arith) in omega arith)));
     facts_in = bytes_changed t.program cells k.cells' facts (facts_behind change facts) place ObjectFlag is (λ q o ne. stays_elsewhere facts place q o change at ne) k.flags there refl k.bytes k.others;
     locals' = k.locals';
     count = k.count;
@@ -126,7 +126,7 @@ module _ (t : Telling) (plays : Playing t) (world : HasWorld t) (out : Outside) 
         memory' = k.memory';
         cells' = k.cells';
         holds = k.holds;
-        inside = λ i lt. k.others i (λ (q : i ≡ w). (omega arith));
+        inside = λ i far. (let b = before_all (place_words n) (kinds_of t.program) place Flag is in k.others i (λ (q : i ≡ w). (let z : world_end t.program ≤ i = far (omega arith) in omega arith)));
         facts_in = words_changed t.program cells k.cells' facts (facts_behind (flag_change place sets) facts) place Flag is (λ q o ne. stays_elsewhere facts place q o (flag_change place sets) (flag_at_place sets) ne) (flag_table sets k.cells' k.is k.others) there 1 refl (λ i far. k.others i (λ (q : i ≡ w). (let z : w + 1 ≤ i = far (omega arith) in omega arith)));
         locals' = w_at ∷ flag_word sets ∷ next ∷ [];
         count = 2;

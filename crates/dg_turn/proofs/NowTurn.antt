@@ -1,7 +1,7 @@
 -- A change of the world is a turn.
-use Rattle.std.proofs.Common.{◌≡◌, ℕ, suc, ◌+◌, ◌<◌, ◌≤◌, List, [], ◌∷◌, length, map, Option, Some, refl, sym, ap, ◌∙◌, arith}
+use Rattle.std.proofs.Common.{◌≡◌, ℕ, suc, ◌+◌, ◌<◌, ◌≤◌, ◌⊎◌, inl, inr, List, [], ◌∷◌, length, map, Option, Some, refl, sym, ap, ◌∙◌, arith}
 use Rattle.std.specs.Prelude.{nat_lt, is_some, if◌then◌else◌}
-use Rattle.std.proofs.lemmas.Bool.{lt-ltb, le-ltb, cond-true, cond-false}
+use Rattle.std.proofs.lemmas.Bool.{cases_lt, lt-ltb, le-ltb, cond-true, cond-false}
 use Rattle.dg_base.specs.declared.program.Term.{Term}
 use Rattle.dg_base.specs.declared.run.Ending.TheVariants.{HeapLimit}
 use Rattle.dg_meaning.specs.Cells.{cells as cells_of}
@@ -32,7 +32,7 @@ use Rattle.dg_turn.specs.Rest.{aux_end}
 use Rattle.dg_turn.specs.Terms.{written_in, Wrote}
 use Rattle.dg_turn.specs.Turns.{agreed_next}
 use Rattle.dg_turn.specs.Operating.{term_value, deciding_routine, InFront}
-use Rattle.dg_turn.specs.World.{world_at, FactsIn, Changes, Changing}
+use Rattle.dg_turn.specs.World.{world_at, world_end, FactsIn, Changes, Changing}
 use Rattle.dg_turn.proofs.Ends.{next_small}
 use Rattle.dg_turn.proofs.Moving.{moves_to, closes}
 use Rattle.dg_turn.proofs.Places.{facts_same}
@@ -51,7 +51,7 @@ pub record ChangedBy (t : Telling) (out : Outside) (decider : ℕ) (given : Args
   pub memory' : List ℕ
   pub cells' : ℕ → ℕ
   pub holds : Holds t.p.world.layout memory' cells'
-  pub inside : (k : ℕ) → k < world_at → cells' k ≡ cells k
+  pub inside : (k : ℕ) → (world_at ≤ k → world_end t.program ≤ k) → cells' k ≡ cells k
   pub facts_in : FactsIn t.program facts cells'
   pub locals' : List ℕ
   pub count : ℕ
@@ -106,15 +106,19 @@ module _ (t : Telling) (plays : Playing t) (out : Outside) (ts : List Term) (few
       let c2 = replaced k.cells' 36 y in
       let words = joined out.words c2 in
       let out' : Outside = record out { words = words } in
-      let mid2 = mid_world t w1.sh' w1.cells' c2 r.trail (more n m) words (λ j ne far lt. other_cell k.cells' 36 y j (λ (q : j ≡ 36). (let a = far.1 (omega arith) in omega arith)) ∙ k.inside j lt) (λ j lt. joined_low out.words c2 j lt) (λ j le. sym (joined_high out.words c2 j le)) w1.mid in
+      let mid2 = mid_world t w1.sh' w1.cells' c2 r.trail (more n m) words (λ j ne far lt. other_cell k.cells' 36 y j (λ (q : j ≡ 36). (let a = far.1 (omega arith) in omega arith)) ∙ k.inside j (λ le. absurd (omega arith))) (λ j lt. joined_low out.words c2 j lt) (λ j le. sym (joined_high out.words c2 j le)) w1.mid in
       let fit = k.few_locals in
       let few1 = w1.few in
       let few2 = k.few in
       let e1 = steps_are w1.count (suc k.count + 1) in
+      let others_stay : (j : ℕ) → (world_at ≤ j → world_end t.program ≤ j) → (j < aux_end) ⊎ (aux_end ≤ j) → words j ≡ out.words j = λ j far side. elim side [
+        | inl lt ↦ joined_low out.words c2 j lt
+        | inr le ↦ joined_high out.words c2 j le ∙ other_cell k.cells' 36 y j (λ (q : j ≡ 36). (omega arith)) ∙ k.inside j far ∙ w1.mid.rest.outside.areas j le
+      ] in
       record {
         outer = record {
           words' = words;
-          text = λ j lt. joined_low out.words c2 j (omega arith);
+          others = λ j far. others_stay j far (cases_lt j aux_end);
           facts_in = facts_same t.program (facts_behind change facts) k.cells' words (λ j low. joined_high out.words c2 j low ∙ other_cell k.cells' 36 y j (λ (q : j ≡ 36). (omega arith))) k.facts_in;
         };
         comes = moves_to t plays out e.x m z r routine e.there (omega arith) out' y (steps w1.count (suc k.count + 1)) all memory2 [] c2 w1.sh' r.trail (more n m)

@@ -19,7 +19,7 @@ use Rattle.dg_turn.specs.World.{world_at, place_words, place_bytes, all_words, w
 -- ## Sums
 
 -- What lies in front of a place, and it, is part of all.
-before_all : (f : PlaceKind → ℕ) (kinds : List PlaceKind) (place : ℕ) (kind : PlaceKind) → slice_get kinds place ≡ Some kind → sum_by f (take place kinds) + f kind ≤ sum_by f kinds
+pub before_all : (f : PlaceKind → ℕ) (kinds : List PlaceKind) (place : ℕ) (kind : PlaceKind) → slice_get kinds place ≡ Some kind → sum_by f (take place kinds) + f kind ≤ sum_by f kinds
 before_all f [] place kind e = absurd (cc)
 before_all f (k ∷ ks) zero kind e = let same : k ≡ kind = cc in let q = ap f same in let none : sum_by f [] ≡ 0 = refl in let sum = sum_by-cons f k ks in omega arith
 before_all f (k ∷ ks) (suc place) kind e = let r = before_all f ks place kind e in let sum = sum_by-cons f k ks in let front = sum_by-cons f k (take place ks) in omega arith

@@ -1,6 +1,6 @@
 -- The world in memory, and the instructions that change and read it, as turns. Hold it against docs/LANGUAGE.md, "The world", dg_meaning/specs/Facts.antt
 -- and Changes.antt, and docs/REFUSALS.md, "Of a build", where it says what the world takes.
-use Rattle.std.specs.Prelude.{◌≡◌, ◌≢◌, ℕ, ◌+◌, ◌*◌, ◌≤◌, ◌<◌, List, [], ◌∷◌, ◌++◌, length, map, take, Option, Some, None, is_some, Bool, true, false}
+use Rattle.std.specs.Prelude.{◌≡◌, ◌≢◌, ℕ, ◌+◌, ◌*◌, ◌/◌, ◌≤◌, ◌<◌, List, [], ◌∷◌, ◌++◌, length, map, take, Option, Some, None, is_some, Bool, true, false}
 use Rattle.std.specs.List.{slice_get, sum_by}
 use Rattle.dg_base.specs.declared.program.CoreProgram.{CoreProgram}
 use Rattle.dg_base.specs.declared.program.PlaceKind.{PlaceKind}
@@ -72,6 +72,11 @@ abbrev pub bytes_at : CoreProgram → ℕ → ℕ
 bytes_at program place =
     2 * (world_at + all_words (length program.objects) (kinds_of program)) + all_bytes (length program.objects) (take place (kinds_of program))
 
+-- The first word behind the world.
+abbrev pub world_end : CoreProgram → ℕ
+world_end program =
+    let n = length program.objects in world_at + all_words n (kinds_of program) + (all_bytes n (kinds_of program) + 1) / 2
+
 -- Words stand for what is set at a place of a kind. Of global variables nothing is said yet.
 abbrev pub PlaceIn : CoreProgram → List Fact → (ℕ → ℕ) → ℕ → PlaceKind → Type 0
 PlaceIn program facts words place Flag = TableIn words (words_at program place) 1 facts place
@@ -130,10 +135,10 @@ abbrev pub now_most : CoreProgram → PlaceKind → ℕ → List Term → Bool �
 now_most program kind place ts sets m =
     written_in program ts + 10 * sum_by (term_links program m) ts + 22 * cleared (length program.objects) (change_in program kind place ts sets m) + 80
 
--- Words outside that stand for other facts, and say the same of the text.
+-- Words outside that stand for other facts; those that aren't the world's are the same.
 pub record Outer (program : CoreProgram) (facts : List Fact) (words : ℕ → ℕ) : Type 0 where
   pub words' : ℕ → ℕ
-  pub text : (k : ℕ) → k < 36 → words' k ≡ words k
+  pub others : (k : ℕ) → (world_at ≤ k → world_end program ≤ k) → words' k ≡ words k
   pub facts_in : FactsIn program facts words'
 
 -- In one turn the world is changed, where there is a change, and it goes on; else it stays, and it fails.
