@@ -6,7 +6,7 @@ use Rattle.dg_base.specs.declared.program.ArithOp.{ArithOp}
 use Rattle.dg_base.specs.declared.program.CompareOp.{CompareOp}
 use Rattle.dg_base.specs.declared.program.GapKind.{GapKind}
 use Rattle.dg_base.specs.declared.program.PlaceKind.{PlaceKind}
-use Rattle.dg_base.specs.declared.program.PlaceKind.TheVariants.{Global}
+use Rattle.dg_base.specs.declared.program.PlaceKind.TheVariants.{ObjectFlag, Global}
 use Rattle.dg_base.specs.declared.program.Term.{Term}
 use Rattle.dg_base.specs.declared.program.TestKind.{TestKind}
 use Rattle.dg_base.specs.Goals.{option_terms}
@@ -26,15 +26,16 @@ use Rattle.dg_mid.specs.declared.code.RuleCode.{RuleCode}
 use Rattle.dg_mid.specs.State.{Place, Frame, Call, ToBody, Calls, Mid, Status, Runs, Enters, Resumes, Fails}
 use Rattle.dg_mid.specs.Step.{Setting, values, asked_by}
 use Rattle.dg_mid.specs.Units.{units, selects, dropped, dropped_once, undone, unwound}
-use Rattle.dg_turn.specs.Terms.{AreNodes}
+use Rattle.dg_rt.specs.Changes.{SetIn}
+use Rattle.dg_turn.specs.Terms.{AreNodes, written_in}
 use Rattle.dg_turn.specs.Turns.{entering_most, equal_most}
 use Rattle.dg_turn.specs.Prints.{print_most}
-use Rattle.dg_turn.specs.Operating.{test_most, compare_most, made_of, making_paid}
+use Rattle.dg_turn.specs.Operating.{term_links, test_most, compare_most, made_of, making_paid}
 use Rattle.dg_turn.specs.Rules.{keyed}
 use Rattle.dg_turn.specs.Queries.{asking_most}
 use Rattle.dg_turn.specs.Bodies.{querying_most, body_most}
 use Rattle.dg_turn.specs.Texts.{gap_n_most}
-use Rattle.dg_turn.specs.World.{now_most}
+use Rattle.dg_turn.specs.World.{now_most, set_in, reading_most, answering_most, HasValues}
 
 -- What a step may cost.
 abbrev pub paid : Setting → List Print → Status → ℕ
@@ -114,8 +115,22 @@ pub record OperationsArePaid : Type 0 where
       m.ops ≡ op.Do (action.Random a b c) ∷ ops → AreNodes g.game.program (nodes_of (a ∷ b ∷ c ∷ [])) →
       making_paid g.game.program a b c (made_of g.game.program (thrown (die g.game.dice m.lasting.dice)) a b m) m ≤ paid g ps (Runs m)
 
--- So are those of a change of a place that is no global variable.
+-- So are those of a change of a place that is no global variable, of a query of a flag of no object, of one of a flag or a value of an object, and of
+-- unifying what is set of it.
 pub record WorldIsPaid : Type 0 where
   pub now : (g : Setting) (ps : List Print) (m : Mid) (place : ℕ) (kind : PlaceKind) (ts : List Term) (sets : Bool) (ops : List Op) →
       m.ops ≡ op.Do (action.Now place ts sets) ∷ ops → slice_get (kinds_of g.game.program) place ≡ Some kind → kind ≢ Global →
       AreNodes g.game.program (nodes_of ts) → now_most g.game.program kind place ts sets m ≤ paid g ps (Runs m)
+  pub holds : (g : Setting) (ps : List Print) (m : Mid) (place : ℕ) (many : Bool) (next : ℕ) (ops : List Op) →
+      m.ops ≡ op.Find (Some place) [] many next ∷ ops → 20 ≤ paid g ps (Runs m)
+  pub flag : (g : Setting) (ps : List Print) (m : Mid) (place : ℕ) (a : Term) (many : Bool) (next : ℕ) (ops : List Op) →
+      m.ops ≡ op.Find (Some place) (a ∷ []) many next ∷ ops → slice_get (kinds_of g.game.program) place ≡ Some ObjectFlag →
+      AreNodes g.game.program (nodes_of (a ∷ [])) →
+      written_in g.game.program (a ∷ []) + 5 * term_links g.game.program m a + 60 ≤ paid g ps (Runs m)
+  pub read : (g : Setting) (ps : List Print) (m : Mid) (place : ℕ) (kind : PlaceKind) (a c : Term) (many : Bool) (next : ℕ) (ops : List Op) →
+      m.ops ≡ op.Find (Some place) (a ∷ c ∷ []) many next ∷ ops → slice_get (kinds_of g.game.program) place ≡ Some kind → HasValues kind →
+      AreNodes g.game.program (nodes_of (a ∷ c ∷ [])) → reading_most g.game.program a c m ≤ paid g ps (Runs m)
+  pub answer : (g : Setting) (ps : List Print) (m : Mid) (place : ℕ) (kind : PlaceKind) (a c : Term) (many : Bool) (next : ℕ) (ops : List Op)
+      (word : ℕ) (v : Value) → m.ops ≡ op.Find (Some place) (a ∷ c ∷ []) many next ∷ ops →
+      slice_get (kinds_of g.game.program) place ≡ Some kind → HasValues kind → AreNodes g.game.program (nodes_of (a ∷ c ∷ [])) →
+      set_in g.game.program m.lasting.facts place a m ≡ Some v → SetIn word (Some v) → answering_most g.game.program a c v m ≤ paid g ps (Runs m)
