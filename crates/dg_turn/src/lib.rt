@@ -9,6 +9,4 @@ pub use laws::{
     gap_n_turns, gap_turns, goto_turns, just_turns, last_turns, none_turns, now_turns, once_turns,
     operations_are_paid, print_turns, quit_turns, random_turns, return_turns, select_turns,
     starts_fit, terms_work, test_turns, text_turns, turns_are_paid, world_is_paid, world_stands,
-    operations_are_paid, quit_turns, random_turns, return_turns, select_turns, starts_fit,
-    terms_work, test_turns, text_turns, turns_are_paid, world_is_paid, world_stands,
 };
