@@ -1,0 +1,4 @@
+pub mod Uses
+pub mod Slips
+pub mod Lines
+pub mod inside

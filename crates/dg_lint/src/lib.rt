@@ -1,0 +1,11 @@
+//! An author's slips in a source.
+#![tactic(auto)]
+
+mod lines;
+mod slip;
+mod slips;
+mod totals;
+mod uses;
+
+pub use lines::lint_tree;
+pub use slip::Slip;
