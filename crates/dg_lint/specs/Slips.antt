@@ -15,9 +15,13 @@ use Rattle.dg_lint.specs.declared.slip.Slip.TheVariants.{NoRule, NeverAsked, Nev
 abbrev pub is_among : List ℕ → List (List ℕ) → Bool
 is_among name names = list_any (bytes_eq name) names
 
+-- A predicate of the prelude, or the entry of a program.
+abbrev pub is_met : List ℕ → Bool
+is_met name = name_among name prelude_names || bytes_eq (codes "(program entry point)") name
+
 -- The language itself asks or answers it: a built-in query, a predicate of the prelude, or the entry of a program.
 abbrev pub is_own : List ℕ → Bool
-is_own name = is_some (builtin_named name) || (name_among name prelude_names || bytes_eq (codes "(program entry point)") name)
+is_own name = is_some (builtin_named name) || is_met name
 
 -- A query of a predicate that has no rule, no declaration and no change.
 abbrev pub asked_slip : Uses → List ℕ → Option Slip

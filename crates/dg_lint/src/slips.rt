@@ -18,10 +18,16 @@ use indexmap::{IndexMap, IndexSet};
 
 const ENTRY: &[u8] = b"(program entry point)";
 
+fn is_met(parts: &[Part]) -> bool
+    ensures { result ≡ spec.is_met (name_of (parts_of (map part_view parts.now))) }
+{
+    is_prelude_name(parts) || is_named(parts, ENTRY)
+}
+
 fn is_own(parts: &[Part]) -> bool
     ensures { result ≡ spec.is_own (name_of (parts_of (map part_view parts.now))) }
 {
-    builtin_of(parts).is_some() || is_prelude_name(parts) || is_named(parts, ENTRY)
+    builtin_of(parts).is_some() || is_met(parts)
 }
 
 fn is_among(name: &[u8], names: &IndexSet<Vec<u8>>) -> bool

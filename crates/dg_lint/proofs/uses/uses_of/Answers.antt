@@ -6,4 +6,4 @@ use Rattle.dg_lint.proofs.UseLemmas.{used_all}
 use Rattle.dg_lint.proofs.uses.uses_of.Goals as goal
 
 pub returns : goal.returns
-returns c = c.in_ok-note_items.ensures ∙ ap (λ (u : Uses). used_by (map item_view c.args.items.now) u) c.unused.ensures ∙ used_all (map item_view c.args.items.now)
+returns c = c.in_ok-note_items.ensures ∙ ap (λ (u : Uses). used_by (map item_view c.args.items.now) u) c.unused-uses.ensures ∙ used_all (map item_view c.args.items.now)
