@@ -1,2 +1,3 @@
 pub mod UseLemmas
 pub mod LineLemmas
+pub mod CallLemmas

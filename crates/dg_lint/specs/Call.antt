@@ -1,5 +1,6 @@
 -- A call of the program, and what it comes to: hold it against docs/LINT.md, "Statuses".
-use Rattle.std.specs.Prelude.{◌≡◌, ◌≢◌, ℕ, ◌&&◌, List, [], ◌∷◌, ◌++◌, Bool, true, false, not, Option, Some, None, IsTrue, IsSome, Ok, Err, codes, decimal, map, nat_eq, string_bytes, String, if◌then◌else◌}
+use Rattle.std.specs.Prelude.{◌≡◌, ◌≢◌, ℕ, ◌&&◌, List, [], ◌∷◌, ◌++◌, Bool, true, false, not, Option, Some, None, Ok, Err, map}
+use Rattle.std.specs.Prelude.{IsTrue, IsSome, codes, nat_eq, string_bytes, String, if◌then◌else◌}
 use Rattle.std.specs.declared.alloc.Global.{Global}
 use Rattle.dg_base.specs.Causes.{Rose}
 use Rattle.dg_base.specs.Refusals.{text_of_kind}

@@ -3,6 +3,7 @@ ghost use Rattle.std.specs.Prelude.{◌≡◌, ◌<◌, ◌++◌, ℕ, List, Ok,
 ghost use Rattle.std.specs.Option.{option_map};
 ghost use Rattle.dg_base.specs.Faults.{IsFault};
 ghost use Rattle.dg_base.specs.Shelves.{KeepsAll};
+ghost use Rattle.dg_base.specs.declared.program.CoreProgram.{CoreProgram as Core};
 ghost use Rattle.dg_base.specs.Written.{texts as piece_texts, joined};
 ghost use Rattle.dg_base.specs.TreeView.{tree_view};
 ghost use Rattle.dg_compile.specs.Source.{Reads, Becomes, Compiles, refusal_at};
@@ -95,18 +96,28 @@ fn tell<K: Sink>(text: &[u8], out: &mut K) -> u8
 
 // ---- sources
 
-// The lines of a tree, which are worth nothing where the source is refused.
-fn lines_of_tree(alloc: Global, name: &[u8], tree: Tree) -> Result<Vec<u8>, ReadFault>
-    ensures lines { (source : List ℕ) → Reads source (Ok (tree_view tree)) → IfOk result (λ text. HasLines name.now source text.items) }
+// This text, where a tree becomes a program.
+fn if_program(alloc: Global, tree: Tree, text: Vec<u8>) -> Result<Vec<u8>, ReadFault>
+    ensures program { IfOk result (λ same. (p : Core) × Becomes (tree_view tree) (Ok p) × (same.items ≡ text.items)) }
     ensures refused { IfErr result (IsFault (λ r. Becomes (tree_view tree) (Err r))) }
 {
-    let text = lint_tree(alloc, name, &tree)?;
     match program_of(alloc, tree) {
         Ok(program) => {
             let_go(alloc, program);
             Ok(text)
         }
         Err(fault) => Err(fault),
+    }
+}
+
+// The lines of a tree, where it becomes a program.
+fn lines_of_tree(alloc: Global, name: &[u8], tree: Tree) -> Result<Vec<u8>, ReadFault>
+    ensures lines { (source : List ℕ) → Reads source (Ok (tree_view tree)) → IfOk result (λ text. HasLines name.now source text.items) }
+    ensures refused { IfErr result (IsFault (λ r. Becomes (tree_view tree) (Err r))) }
+{
+    match lint_tree(alloc, name, &tree) {
+        Ok(text) => if_program(alloc, tree, text),
+        Err(_) => Err(ReadFault::OutOfMemory),
     }
 }
 

@@ -98,7 +98,8 @@ fn push_query(
     role: Role,
     head: &Head,
 ) -> Result<(), AllocError>
-    ensures { (all : List Thing) → OnOk result (text.new.items ≡ text.old.items ++ thing_line place.now (uses_view uses.now) all (query role (head_view head.now))) }
+    ensures { (all : List Thing) →
+        OnOk result (text.new.items ≡ text.old.items ++ thing_line place.now (uses_view uses.now) all (query role (head_view head.now))) }
 {
     let name = name_of(alloc, head)?;
     let slip = query_slip(uses, role, head, name.as_slice());

@@ -104,7 +104,8 @@ pub fn query_slip(uses: &Uses, role: Role, head: &Head, name: &[u8]) -> Option<S
 
 /// The slip of a variable that stands in an item.
 pub fn variable_slip(totals: &IndexMap<&[u8], usize>, name: &[u8]) -> Option<Slip>
-    ensures { (all : List Thing) → ((n : List ℕ) → total_in totals.now n ≡ times n (names_in variable_in all)) → result ≡ spec.variable_slip all name.now }
+    ensures { (all : List Thing) → ((n : List ℕ) → total_in totals.now n ≡ times n (names_in variable_in all)) →
+        result ≡ spec.variable_slip all name.now }
 {
     if !name.starts_with(b"_") && total_of(totals, name) == 1 {
         Some(Slip::Once)
