@@ -35,7 +35,7 @@ abbrev pub tail_of : Slip → List ℕ → List ℕ
 tail_of NoRule name = hint_among near_keywords name
 tail_of slip name = []
 
--- FILE:LINE: 
+-- FILE:LINE:
 abbrev pub place_of : List ℕ → ℕ → List ℕ
 place_of file line = file ++ (codes ":" ++ (decimal line ++ codes ": "))
 

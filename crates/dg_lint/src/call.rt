@@ -13,8 +13,12 @@ ghost use Rattle.dg_lint.specs.Call.{texts, file_of, usage_line, refusal_line, f
 ghost use Rattle.dg_lint.specs.Lines.{place_of};
 
 use crate::lines::lint_tree;
-use dg_base::{Kind, ReadFault, Refusal, Shelf, ShelfFault, Sink, Tree, text_of, write_all, write_pieces};
-use dg_compile::{items_decide, long_sources_are_refused, program_of, tree_of, unread_sources_are_refused};
+use dg_base::{
+    Kind, ReadFault, Refusal, Shelf, ShelfFault, Sink, Tree, text_of, write_all, write_pieces,
+};
+use dg_compile::{
+    items_decide, long_sources_are_refused, program_of, tree_of, unread_sources_are_refused,
+};
 use dg_core::let_go;
 use itoa::Buffer;
 use std::alloc::Global;

@@ -164,15 +164,17 @@ fn push_item(
     let place = place_of(alloc, file, item.line)?;
     let mentions = mentions_of(alloc, &item.body)?;
     let totals = totals_among(alloc, mentions.as_slice())?;
-    push_things(alloc, text, place.as_slice(), uses, &totals, mentions.as_slice())
+    push_things(
+        alloc,
+        text,
+        place.as_slice(),
+        uses,
+        &totals,
+        mentions.as_slice(),
+    )
 }
 
-fn lines_of(
-    alloc: Global,
-    file: &[u8],
-    uses: &Uses,
-    items: &[Item],
-) -> Result<Vec<u8>, AllocError>
+fn lines_of(alloc: Global, file: &[u8], uses: &Uses, items: &[Item]) -> Result<Vec<u8>, AllocError>
     ensures { IfOk result (λ text. text.items ≡ flat_map (item_lines file.now (uses_view uses.now)) (map item_view items.now)) }
 {
     let mut text = Vec::new(alloc);

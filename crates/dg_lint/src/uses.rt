@@ -69,15 +69,15 @@ fn note_query(
     let name = name_of(alloc, head)?;
     add_where(alloc, &mut uses.asked, all || asks(role), name.as_slice())?;
     add_where(alloc, &mut uses.given, all || !asks(role), name.as_slice())?;
-    add_where(alloc, &mut uses.changed, all || changes(role), name.as_slice())
+    add_where(
+        alloc,
+        &mut uses.changed,
+        all || changes(role),
+        name.as_slice(),
+    )
 }
 
-fn note(
-    alloc: Global,
-    uses: &mut Uses,
-    all: bool,
-    mention: Mention<'_>,
-) -> Result<(), AllocError>
+fn note(alloc: Global, uses: &mut Uses, all: bool, mention: Mention<'_>) -> Result<(), AllocError>
     ensures { OnOk result (uses_view uses.new ≡ used all (thing_at (mention_view mention.entry)) (uses_view uses.old)) }
 {
     match mention {
