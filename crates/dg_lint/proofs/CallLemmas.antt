@@ -1,5 +1,5 @@
 -- From the parts of a call to what it comes to.
-use Rattle.std.proofs.Common.{◌≡◌, ◌<◌, ℕ, zero, suc, List, [], ◌∷◌, length, Option, Some, None, Result, Ok, Err, refl, sym, ◌∙◌, ap, subst, arith}
+use Rattle.std.proofs.Common.{◌≡◌, ◌<◌, ℕ, zero, suc, List, [], ◌∷◌, length, Some, None, Result, Ok, Err, refl, sym, ◌∙◌, ap, subst, arith}
 use Rattle.std.specs.Prelude.{IfOk, IfErr}
 use Rattle.dg_base.specs.Faults.{IsFault}
 use Rattle.dg_base.specs.Shelves.{Told, ShelfView, held, WhereTold}
@@ -11,7 +11,7 @@ use Rattle.dg_base.specs.declared.refusal.ReadFault.TheVariants as fault
 use Rattle.dg_base.specs.declared.refusal.Refusal.{Refusal}
 use Rattle.dg_base.specs.declared.refusal.Kind.TheVariants.{SourceTooLong}
 use Rattle.dg_compile.specs.Source.{Reads, Becomes, Compiles, Meets, refusal_at}
-use Rattle.dg_lint.specs.Call.{Says, HasLines, Lints, Opens, IsIn, refused, found, refusal_line}
+use Rattle.dg_lint.specs.Call.{Says, HasLines, Opens, refused, found, refusal_line}
 use Rattle.dg_lint.specs.Lines.{lint_lines}
 
 -- a source that holds this, as far as it is told

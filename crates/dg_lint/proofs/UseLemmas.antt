@@ -1,8 +1,7 @@
 -- What is used behind things is used one by one, and what is used of items is used of them all at once.
-use Rattle.std.proofs.Common.{◌≡◌, ℕ, List, [], ◌∷◌, ◌++◌, Bool, refl, sym, ◌∙◌, ap, append_assoc}
+use Rattle.std.proofs.Common.{◌≡◌, ℕ, List, [], ◌∷◌, ◌++◌, Bool, refl, sym, ◌∙◌, ap}
 use Rattle.dg_base.specs.Mentions.{Thing, names_in, things_in}
 use Rattle.dg_base.specs.Tree.{Item}
-use Rattle.dg_base.specs.declared.mentions.Role.{Role}
 use Rattle.dg_base.proofs.MentionLemmas.{names_append}
 use Rattle.dg_names.specs.Scopes.{with_names}
 use Rattle.dg_names.proofs.FirstLemmas.{firsts_of, with_append}

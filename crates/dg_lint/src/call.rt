@@ -1,5 +1,5 @@
 // A call of the program: a file is fetched, and its source linted.
-ghost use Rattle.std.specs.Prelude.{◌≡◌, ◌<◌, ◌++◌, ℕ, List, Ok, Err, length, codes, string_bytes, IfOk, IfErr, IfSome};
+ghost use Rattle.std.specs.Prelude.{◌≡◌, ◌++◌, ℕ, List, Ok, Err, codes, IfOk, IfErr};
 ghost use Rattle.std.specs.Option.{option_map};
 ghost use Rattle.dg_base.specs.Faults.{IsFault};
 ghost use Rattle.dg_base.specs.Shelves.{KeepsAll};
@@ -10,7 +10,6 @@ ghost use Rattle.dg_compile.specs.Source.{Reads, Becomes, Compiles, refusal_at};
 ghost use Rattle.dg_meaning.specs.Transcript.{no_memory_line};
 ghost use Rattle.dg_lint.specs.Call as spec;
 ghost use Rattle.dg_lint.specs.Call.{texts, file_of, usage_line, refusal_line, file_fault_line, Says, HasLines, Tells, Lints, Opens, Answers};
-ghost use Rattle.dg_lint.specs.Lines.{place_of};
 
 use crate::lines::lint_tree;
 use dg_base::{

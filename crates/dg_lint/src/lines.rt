@@ -1,8 +1,7 @@
 // The lines of slips.
 ghost use Rattle.std.specs.Prelude.{◌≡◌, ◌++◌, ℕ, List, map, flat_map, IfOk, OnOk};
-ghost use Rattle.dg_base.specs.Heads.{name_of as head_name};
-ghost use Rattle.dg_base.specs.Mentions.{Thing, query, variable, names_in, variable_in, things_in};
-ghost use Rattle.dg_base.specs.TreeView.{head_view, item_view, said_view, tree_view};
+ghost use Rattle.dg_base.specs.Mentions.{Thing, query, names_in, variable_in};
+ghost use Rattle.dg_base.specs.TreeView.{head_view, item_view, tree_view};
 ghost use Rattle.dg_base.specs.Walk.{mention_view, seen, thing_at, things_at};
 ghost use Rattle.dg_scopes.specs.Counts.{times};
 ghost use Rattle.dg_scopes.specs.State.{total_in};

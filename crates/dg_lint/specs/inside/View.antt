@@ -1,13 +1,9 @@
 -- What the code keeps, as plain data. The proofs alone rest on it.
-use Rattle.std.specs.Prelude.{ℕ, List, [], ◌∷◌, Bool, if◌then◌else◌}
-use Rattle.std.specs.Borrow.{Bor}
-use Rattle.std.specs.Str.{bytes_eq}
-use Rattle.indexmap.specs.IndexMap.{IndexMap}
-use Rattle.dg_base.specs.Tree.{Said, Item}
+use Rattle.std.specs.Prelude.{List, [], ◌∷◌, Bool}
+use Rattle.dg_base.specs.Tree.{Item}
 use Rattle.dg_base.specs.Mentions.{Thing, names_in, things_in}
 use Rattle.dg_names.specs.Scopes.{with_names}
 use Rattle.dg_names.specs.State.{listed}
-use Rattle.dg_scopes.specs.State.{total_at}
 use Rattle.dg_lint.specs.Uses as spec
 use Rattle.dg_lint.specs.Uses.{asks, gives, changes, is_access, named_where}
 use Rattle.dg_lint.specs.declared.uses.Uses.{Uses}

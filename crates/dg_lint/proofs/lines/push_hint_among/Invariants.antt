@@ -1,4 +1,4 @@
-use Rattle.std.proofs.Common.{◌≡◌, ◌++◌, drop, map}
+use Rattle.std.proofs.Common.{◌≡◌, drop, map}
 use Rattle.dg_lint.specs.Lines.{hint_among}
 use Rattle.dg_lint.proofs.lines.push_hint_among.Given as goal
 

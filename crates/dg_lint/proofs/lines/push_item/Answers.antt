@@ -1,4 +1,4 @@
-use Rattle.std.proofs.Common.{◌≡◌, ◌++◌, ℕ, List, ◌∙◌, ap}
+use Rattle.std.proofs.Common.{◌++◌, ℕ, List, ◌∙◌, ap}
 use Rattle.std.specs.Prelude.{flat_map}
 use Rattle.dg_base.specs.Mentions.{Thing, names_in, variable_in, things_in}
 use Rattle.dg_base.specs.TreeView.{said_view}

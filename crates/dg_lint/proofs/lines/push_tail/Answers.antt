@@ -1,4 +1,4 @@
-use Rattle.std.proofs.Common.{◌≡◌, ◌++◌, ℕ, List, sym, ◌∙◌, ap}
+use Rattle.std.proofs.Common.{◌++◌, sym, ◌∙◌, ap}
 use Rattle.dg_lint.specs.Lines as spec
 use Rattle.dg_lint.specs.declared.slip.Slip.{Slip}
 use Rattle.dg_lint.proofs.LineLemmas.{on_ok}

@@ -1,4 +1,4 @@
-use Rattle.std.proofs.Common.{◌≡◌, ◌++◌, ℕ, List, [], ◌∷◌, Option, sym, ◌∙◌, ap}
+use Rattle.std.proofs.Common.{◌++◌, Option, sym, ◌∙◌, ap}
 use Rattle.std.specs.Prelude.{flat_map}
 use Rattle.dg_base.specs.Mentions.{query, variable}
 use Rattle.dg_base.specs.TreeView.{head_view}
