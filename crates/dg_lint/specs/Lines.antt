@@ -2,12 +2,12 @@
 use Rattle.std.specs.Prelude.{ℕ, List, [], ◌∷◌, ◌++◌, Option, Some, None, codes, decimal, flat_map, if◌then◌else◌}
 use Rattle.std.specs.Str.{bytes_eq}
 use Rattle.dg_base.specs.Heads.{name_of}
-use Rattle.dg_base.specs.Tree.{Item}
+use Rattle.dg_base.specs.Tree.{Said, Item}
 use Rattle.dg_base.specs.Mentions.{Thing, query, variable, things_in}
 use Rattle.dg_lint.specs.Uses.{Uses, uses_of}
-use Rattle.dg_lint.specs.Slips.{query_slip, variable_slip}
+use Rattle.dg_lint.specs.Slips.{query_slip, variable_slip, item_slip}
 use Rattle.dg_lint.specs.declared.slip.Slip.{Slip}
-use Rattle.dg_lint.specs.declared.slip.Slip.TheVariants.{NoRule, NeverAsked, NeverChanged, NeverUsed, NeverRead, Once}
+use Rattle.dg_lint.specs.declared.slip.Slip.TheVariants.{NoRule, NeverAsked, NeverChanged, NeverUsed, NeverRead, Once, EndsOpen}
 
 -- The words before the name.
 abbrev pub front_of : Slip → List ℕ
@@ -17,6 +17,7 @@ front_of NeverChanged = codes "never changed: "
 front_of NeverUsed = codes "never asked or changed: "
 front_of NeverRead = codes "changed but never asked: "
 front_of Once = codes "stands once: $"
+front_of EndsOpen = codes "ends with (or); is the next line to be indented?"
 
 -- Names that are near a keyword, each with the keyword that may be meant.
 abbrev pub near_keywords : List (List ℕ × List ℕ)
@@ -50,9 +51,13 @@ thing_line place u all (query r ps) = line_of place (name_of ps) (query_slip u r
 thing_line place u all (variable n) = line_of place n (variable_slip all n)
 thing_line place u all t = []
 
--- The lines of an item, each with the line on which the item begins, in the order in which things stand there.
+-- The lines of the things of an item.
+abbrev pub things_lines : List ℕ → Uses → Said → List ℕ
+things_lines place u said = flat_map (thing_line place u (things_in said)) (things_in said)
+
+-- The lines of an item, each with the line on which the item begins: its own, and those of its things in the order in which they stand there.
 abbrev pub item_lines : List ℕ → Uses → Item → List ℕ
-item_lines file u i = flat_map (thing_line (place_of file i.line) u (things_in i.said)) (things_in i.said)
+item_lines file u i = line_of (place_of file i.line) [] (item_slip i.said) ++ things_lines (place_of file i.line) u i.said
 
 -- The lines of all items, in order.
 abbrev pub lint_lines : List ℕ → List Item → List ℕ

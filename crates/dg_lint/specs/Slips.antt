@@ -1,16 +1,17 @@
 -- What an author's slips are: hold it against docs/LINT.md, "The lines".
-use Rattle.std.specs.Prelude.{ℕ, ◌||◌, ◌&&◌, List, Bool, Option, Some, None, not, codes, nat_eq, if◌then◌else◌}
+use Rattle.std.specs.Prelude.{ℕ, ◌||◌, ◌&&◌, List, Bool, true, false, Option, Some, None, not, codes, nat_eq, if◌then◌else◌}
 use Rattle.std.specs.List.{list_any, starts_with}
 use Rattle.std.specs.Option.{is_some}
 use Rattle.std.specs.Str.{bytes_eq}
 use Rattle.dg_base.specs.Names.{builtin_named, prelude_names, name_among}
 use Rattle.dg_base.specs.Mentions.{Thing, names_in, variable_in}
+use Rattle.dg_base.specs.Tree.{Stmts, no_stmts, stmt, Body, no_branches, branch, Said, rule, deny}
 use Rattle.dg_base.specs.declared.mentions.Role.{Role}
 use Rattle.dg_base.specs.declared.mentions.Role.TheVariants as role
 use Rattle.dg_scopes.specs.Counts.{times}
 use Rattle.dg_lint.specs.Uses.{Uses}
 use Rattle.dg_lint.specs.declared.slip.Slip.{Slip}
-use Rattle.dg_lint.specs.declared.slip.Slip.TheVariants.{NoRule, NeverAsked, NeverChanged, NeverUsed, NeverRead, Once}
+use Rattle.dg_lint.specs.declared.slip.Slip.TheVariants.{NoRule, NeverAsked, NeverChanged, NeverUsed, NeverRead, Once, EndsOpen}
 
 abbrev pub is_among : List ℕ → List (List ℕ) → Bool
 is_among name names = list_any (bytes_eq name) names
@@ -54,3 +55,27 @@ query_slip u r name = if is_own name then None else slip_in u r name
 -- A named variable that stands once among all that its item mentions, unless its name begins with `_`.
 abbrev pub variable_slip : List Thing → List ℕ → Option Slip
 variable_slip all name = if not (starts_with nat_eq name (codes "_")) && nat_eq (times name (names_in variable_in all)) 1 then Some Once else None
+
+abbrev pub is_blank : Stmts → Bool
+is_blank no_stmts = true
+is_blank (stmt s ss) = false
+
+-- Whether the last of these branches has no statement, or this where there is none.
+abbrev pub last_is_blank : Bool → Body → Bool
+last_is_blank none no_branches = none
+last_is_blank none (branch ss b) = last_is_blank (is_blank ss) b
+
+-- A body of several branches whose last has no statement: it ends with `(or)`.
+abbrev pub is_open : Body → Bool
+is_open no_branches = false
+is_open (branch ss b) = last_is_blank false b
+
+-- A rule, of either sign, whose body ends with `(or)`.
+abbrev pub ends_open : Said → Bool
+ends_open (rule ps b) = is_open b
+ends_open (deny ps b) = is_open b
+ends_open said = false
+
+-- The slip of an item as a whole.
+abbrev pub item_slip : Said → Option Slip
+item_slip said = if ends_open said then Some EndsOpen else None

@@ -1,19 +1,19 @@
 // The lines of slips.
 ghost use Rattle.std.specs.Prelude.{◌≡◌, ◌++◌, ℕ, List, map, flat_map, IfOk, OnOk};
 ghost use Rattle.dg_base.specs.Mentions.{Thing, query, names_in, variable_in};
-ghost use Rattle.dg_base.specs.TreeView.{head_view, item_view, tree_view};
+ghost use Rattle.dg_base.specs.TreeView.{head_view, item_view, said_view, tree_view};
 ghost use Rattle.dg_base.specs.Walk.{mention_view, seen, thing_at, things_at};
 ghost use Rattle.dg_scopes.specs.Counts.{times};
 ghost use Rattle.dg_scopes.specs.State.{total_in};
 ghost use Rattle.dg_lint.specs.Lines as spec;
-ghost use Rattle.dg_lint.specs.Lines.{line_of, thing_line, item_lines, lint_lines};
+ghost use Rattle.dg_lint.specs.Lines.{line_of, thing_line, things_lines, item_lines, lint_lines};
 ghost use Rattle.dg_lint.specs.inside.View.{uses_view};
 
 use crate::slip::Slip;
-use crate::slips::{query_slip, variable_slip};
+use crate::slips::{item_slip, query_slip, variable_slip};
 use crate::totals::totals_among;
 use crate::uses::{Uses, uses_of};
-use dg_base::{Head, Item, Mention, Role, Tree, mentions_of, name_of};
+use dg_base::{Head, Item, ItemBody, Mention, Role, Tree, mentions_of, name_of};
 use indexmap::IndexMap;
 use itoa::Buffer;
 use std::alloc::{AllocError, Global};
@@ -40,6 +40,7 @@ fn front_of(slip: Slip) -> &'static [u8]
         Slip::NeverUsed => b"never asked or changed: ",
         Slip::NeverRead => b"changed but never asked: ",
         Slip::Once => b"stands once: $",
+        Slip::EndsOpen => b"ends with (or); is the next line to be indented?",
     }
 }
 
@@ -151,6 +152,20 @@ fn place_of(alloc: Global, file: &[u8], line: u32) -> Result<Vec<u8>, AllocError
     Ok(place)
 }
 
+fn push_said(
+    alloc: Global,
+    text: &mut Vec<u8>,
+    place: &[u8],
+    uses: &Uses,
+    said: &ItemBody,
+) -> Result<(), AllocError>
+    ensures { OnOk result (text.new.items ≡ text.old.items ++ things_lines place.now (uses_view uses.now) (said_view said.now)) }
+{
+    let mentions = mentions_of(alloc, said)?;
+    let totals = totals_among(alloc, mentions.as_slice())?;
+    push_things(alloc, text, place, uses, &totals, mentions.as_slice())
+}
+
 fn push_item(
     alloc: Global,
     text: &mut Vec<u8>,
@@ -161,16 +176,8 @@ fn push_item(
     ensures { OnOk result (text.new.items ≡ text.old.items ++ item_lines file.now (uses_view uses.now) (item_view item.now)) }
 {
     let place = place_of(alloc, file, item.line)?;
-    let mentions = mentions_of(alloc, &item.body)?;
-    let totals = totals_among(alloc, mentions.as_slice())?;
-    push_things(
-        alloc,
-        text,
-        place.as_slice(),
-        uses,
-        &totals,
-        mentions.as_slice(),
-    )
+    push_line(text, place.as_slice(), b"", item_slip(&item.body))?;
+    push_said(alloc, text, place.as_slice(), uses, &item.body)
 }
 
 fn lines_of(alloc: Global, file: &[u8], uses: &Uses, items: &[Item]) -> Result<Vec<u8>, AllocError>

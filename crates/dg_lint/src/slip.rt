@@ -1,6 +1,6 @@
 // The kinds of slips.
 
-/// What is wrong with a predicate or a variable.
+/// What is wrong with a predicate, a variable or an item.
 #[derive(Clone, Copy, PartialEq, Eq, Debug)]
 pub enum Slip {
     NoRule,
@@ -9,4 +9,5 @@ pub enum Slip {
     NeverUsed,
     NeverRead,
     Once,
+    EndsOpen,
 }

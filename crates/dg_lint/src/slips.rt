@@ -1,9 +1,9 @@
 // What is wrong with one thing.
-ghost use Rattle.std.specs.Prelude.{◌≡◌, ℕ, List, map};
+ghost use Rattle.std.specs.Prelude.{◌≡◌, ℕ, List, false, map};
 ghost use Rattle.dg_base.specs.Heads.{name_of};
 ghost use Rattle.dg_base.specs.Mentions.{Thing, names_in, variable_in};
-ghost use Rattle.dg_base.specs.Tree.{parts_of};
-ghost use Rattle.dg_base.specs.TreeView.{head_view, part_view};
+ghost use Rattle.dg_base.specs.Tree.{parts_of, stmts_of};
+ghost use Rattle.dg_base.specs.TreeView.{body_view, branches_view, head_view, part_view, said_view, stmt_view};
 ghost use Rattle.dg_names.specs.State.{listed};
 ghost use Rattle.dg_scopes.specs.Counts.{times};
 ghost use Rattle.dg_scopes.specs.State.{total_in};
@@ -13,7 +13,9 @@ ghost use Rattle.dg_lint.specs.inside.View.{uses_view};
 use crate::slip::Slip;
 use crate::totals::total_of;
 use crate::uses::Uses;
-use dg_base::{Head, Part, Role, builtin_of, is_named, is_prelude_name};
+use dg_base::{
+    Body, Head, ItemBody, Items, Part, Role, Stmt, builtin_of, is_named, is_prelude_name,
+};
 use indexmap::{IndexMap, IndexSet};
 
 const ENTRY: &[u8] = b"(program entry point)";
@@ -109,6 +111,51 @@ pub fn variable_slip(totals: &IndexMap<&[u8], usize>, name: &[u8]) -> Option<Sli
 {
     if !name.starts_with(b"_") && total_of(totals, name) == 1 {
         Some(Slip::Once)
+    } else {
+        None
+    }
+}
+
+fn is_blank(branch: &[Stmt]) -> bool
+    ensures { result ≡ spec.is_blank (stmts_of (map stmt_view branch.now)) }
+{
+    matches!(branch, [])
+}
+
+fn last_is_blank(branches: &[Items<Stmt>]) -> bool
+    ensures { result ≡ spec.last_is_blank false (branches_view (map (map stmt_view) branches.now)) }
+{
+    let mut blank = false;
+    for branch in branches {
+        blank = is_blank(branch.as_slice());
+    }
+    blank
+}
+
+fn is_open(body: &Body) -> bool
+    ensures { result ≡ spec.is_open (body_view body.now) }
+{
+    match body.branches.as_slice() {
+        [] => false,
+        [_, others @ ..] => last_is_blank(others),
+    }
+}
+
+fn ends_open(said: &ItemBody) -> bool
+    ensures { result ≡ spec.ends_open (said_view said.now) }
+{
+    match said {
+        ItemBody::Rule(_, body) | ItemBody::Deny(_, body) => is_open(body),
+        ItemBody::Topic(_) | ItemBody::Access(_, _) | ItemBody::Variable(_) => false,
+    }
+}
+
+/// The slip of an item as a whole.
+pub fn item_slip(said: &ItemBody) -> Option<Slip>
+    ensures { result ≡ spec.item_slip (said_view said.now) }
+{
+    if ends_open(said) {
+        Some(Slip::EndsOpen)
     } else {
         None
     }
