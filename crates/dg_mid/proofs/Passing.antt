@@ -1,5 +1,5 @@
 -- Code passes what its program passes: what fails weighs 1, and all else nothing.
-use Rattle.std.proofs.Common.{◌≡◌, ℕ, zero, suc, List, [], ◌∷◌, refl, ap, arith}
+use Rattle.std.proofs.Common.{◌≡◌, ℕ, zero, suc, List, [], ◌∷◌, length, refl, ap, arith}
 use Rattle.std.specs.Prelude.{Bool, true, false}
 use Rattle.std.specs.List.{slice_get}
 use Rattle.dg_base.specs.declared.program.ClosureBody.{ClosureBody}
@@ -17,7 +17,7 @@ use Rattle.dg_mid.specs.declared.code.Op.{Op}
 use Rattle.dg_mid.specs.declared.code.Op.TheVariants as op
 use Rattle.dg_mid.specs.Actions.{form_of}
 use Rattle.dg_mid.specs.Code.{ops_of}
-use Rattle.dg_mid.specs.Weights.{Weights, found_form, nodes_weight, terms_weight, op_weight, ops_weight, blocks_weight, lists_in, own_weight, ways_weight, goals_weight, rules_weight, preds_weight, closures_weight, IsLight}
+use Rattle.dg_mid.specs.Weights.{Weights, found_form, chooses, nodes_weight, terms_weight, op_weight, ops_weight, blocks_weight, lists_in, own_weight, ways_weight, goals_weight, rules_weight, preds_weight, closures_weight, IsLight}
 use Rattle.dg_mid.specs.Passing.{Tests, GoalPasses, GoalsPass, RulesPass, PredsPass, ClosuresPass, OpPasses, OpsPass, CodePasses}
 
 abbrev missed : Bool → ℕ
@@ -98,7 +98,7 @@ module _ (tests : Tests) where
   op_passes (op.Query a b many next) e = passed_if (tests.goal (form.Query a b many)) (omega arith)
   op_passes (op.LastQuery a b many) e = passed_if (tests.goal (form.Query a b many)) (omega arith)
   op_passes (op.Find place terms many next) e = passed_if (tests.goal (found_form place terms many)) (omega arith)
-  op_passes (op.Select site mode blocks behind) e = passed_if (tests.goal (form.Select site mode [])) e
+  op_passes (op.Select site mode blocks behind) e = passed_if (tests.goal (chooses site mode (length blocks))) e
   op_passes (op.Collect term into alt) e = passed_if (tests.goal (form.Collect term [] into)) (omega arith)
   op_passes (op.TakeOut whole into) e = passed_if tests.gathers (omega arith)
   op_passes (op.Keep term) e = passed_if tests.gathers (omega arith)

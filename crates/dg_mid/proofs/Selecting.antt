@@ -1,10 +1,10 @@
 -- The branches of a select, written from the last to the first.
-use Rattle.std.proofs.Common.{◌≡◌, ◌+◌, ◌≤◌, arith, ℕ, List, [], ◌∷◌, ◌++◌, length, refl, sym, ap, ◌∙◌, subst, append_assoc}
+use Rattle.std.proofs.Common.{◌≡◌, ◌+◌, ◌≤◌, arith, ℕ, List, [], ◌∷◌, ◌++◌, length, refl, sym, ap, ◌∙◌, subst, append_assoc, length-append}
 use Rattle.std.specs.Prelude.{reverse, Some, None}
-use Rattle.std.proofs.lemmas.List.{append-nil, reverse-append}
+use Rattle.std.proofs.lemmas.List.{append-nil, reverse-append, length-reverse}
 use Rattle.dg_base.specs.declared.program.Goal.{Goal}
 use Rattle.dg_base.specs.declared.program.Goal.TheVariants as goal
-use Rattle.dg_base.specs.declared.program.Goal.TheOpen as form
+use Rattle.dg_base.specs.declared.program.Mode.{Mode}
 use Rattle.dg_base.specs.Begins.{Begins}
 use Rattle.dg_meaning.proofs.OneRun.{begins_on}
 use Rattle.dg_mid.specs.declared.code.Op.{Op}
@@ -18,10 +18,26 @@ use Rattle.dg_mid.specs.Potential.{begins_goto}
 use Rattle.dg_mid.specs.Codes.{End, Stands, selects, Branches, no_branch, a_branch}
 use Rattle.dg_mid.specs.Tidying.{OpsNeat, BlocksTidy, TailTidy, LevelsTidy, WorkTidy, LandsTidy}
 use Rattle.dg_mid.specs.Writing.{Lands, Leads, ComesTo, Moves, TailFor, BlockFor, Shares, EndsAt, AtBranch, tail_ops, with_goal, with_level}
-use Rattle.dg_mid.specs.Weights.{Weights, ops_weight, blocks_weight, body_weight, lists_weight, levels_weight, work_weight}
+use Rattle.dg_mid.specs.Weights.{Weights, branches_of, chooses, ops_weight, blocks_weight, body_weight, lists_weight, levels_weight, work_weight}
 use Rattle.dg_mid.proofs.Weights.{ops_reverse, block_added, op_alone, goal_added, lists_append, level_added, weight_select}
 use Rattle.dg_mid.proofs.WritingLemmas.{tail_neat_later, levels_later, neat_alone, neat_tail, blocks_put}
 use Rattle.dg_mid.proofs.Opening.{tail_weight, tail_stands, tail_later, leads_later, with_leads, block_stands}
+
+-- a select weighs by how many branches it has
+as_many : (w : Weights) (site : ℕ) (mode : Mode) {m n : ℕ} → m ≡ n → w.own (chooses site mode m) ≡ w.own (chooses site mode n)
+as_many w site mode e = ap (λ n. w.own (chooses site mode n)) e
+
+branches_end : (s : Branching) → s.left ≡ [] → length (reverse s.blocks.items) ≡ branches_of s
+branches_end s none = omega (arith, ap length none, length-reverse s.blocks.items)
+
+branches_begin : (s : Branching) → s.blocks.items ≡ [] → branches_of s ≡ length s.left
+branches_begin s none = omega (arith, ap length none)
+
+branches_next : (s t : Branching) (popped : List (List Goal)) (list : List Goal) → s.left ≡ popped ++ list ∷ [] → t.left ≡ popped → length t.blocks.items ≡ length s.blocks.items → branches_of t + 1 ≡ branches_of s
+branches_next s t popped list split same many = omega (arith, ap length split, length-append popped (list ∷ []), ap length same, many)
+
+branches_closed : (s t : Branching) (b : ℕ) → t.blocks.items ≡ s.blocks.items ++ b ∷ [] → branches_of (record s { blocks = t.blocks }) ≡ branches_of s + 1
+branches_closed s t b put = omega (arith, ap length put, length-append s.blocks.items (b ∷ []))
 
 pub at_next : (blocks : List Block) (s : Branching) (popped : List (List Goal)) (list others : List Goal) (levels : List Level) (after : Work) → s.left ≡ popped ++ list ∷ [] →
     after.ops.items ≡ tail_ops s.tail → after.goals ≡ list → after.levels ≡ levels ++ level.Branches (record s { left = popped }) others ∷ [] →
@@ -93,7 +109,7 @@ pub opens_select : (old mid new : List Block) (before after : Work) (s : Branchi
     EndsAt mid new s.tail s.behind →
     ((wanted : List Goal) (last : End) → AtBranch new s before.goals (reverse before.levels) wanted last → ComesTo new after wanted last) →
     (BlocksTidy new → TailTidy new s.tail → LevelsTidy new (reverse before.levels) → WorkTidy new after) →
-    ((w : Weights) → work_weight w after ≤ w.own (form.Select s.site s.mode []) + lists_weight w s.left + body_weight w before.goals + levels_weight w before.levels) →
+    ((w : Weights) → work_weight w after ≤ w.own (chooses s.site s.mode (branches_of s)) + lists_weight w s.left + body_weight w before.goals + levels_weight w before.levels) →
     Moves old (with_goal (goal.Select s.site s.mode s.left) before) new after
 opens_select old mid new before after s none on on' shares ends comes good light =
     let begins : Begins old new = begins_on old mid new on on' in
@@ -103,7 +119,7 @@ opens_select old mid new before after s none on on' shares ends comes good light
           let l = shares.light w in
           let m = ends.light w in
           let n = light w in
-          omega (arith, ops_reverse w before.ops.items, goal_added w before.goals (goal.Select s.site s.mode s.left), weight_select w s.site s.mode s.left);
+          omega (arith, ops_reverse w before.ops.items, goal_added w before.goals (goal.Select s.site s.mode s.left), weight_select w s.site s.mode s.left, as_many w s.site s.mode (branches_begin s none));
       neat = λ h.
           let n : BlocksTidy mid × TailTidy mid s.tail = shares.neat h.neat in
           good (ends.neat n.0) (tail_neat_later mid new on' s.tail n.1) (levels_later old new begins (reverse before.levels) h.levels);
@@ -125,14 +141,14 @@ pub closes_branch : (old new : List Block) (before after : Work) (s t : Branchin
     t.blocks.items ≡ s.blocks.items ++ b ∷ [] →
     ((wanted : List Goal) (last : End) → AtBranch new (record s { blocks = t.blocks }) others (reverse before.levels) wanted last → ComesTo new after wanted last) →
     (BlocksTidy new → TailTidy new s.tail → LevelsTidy new (reverse before.levels) → WorkTidy new after) →
-    ((w : Weights) → work_weight w after ≤ w.own (form.Select s.site s.mode []) + lists_weight w s.left + body_weight w others + levels_weight w before.levels) →
+    ((w : Weights) → work_weight w after ≤ w.own (chooses s.site s.mode (branches_of (record s { blocks = t.blocks }))) + lists_weight w s.left + body_weight w others + levels_weight w before.levels) →
     Moves old (with_level (level.Branches s others) before) new after
 closes_branch old new before after s t others b none on lands put comes good light = record {
   blocks = on;
   light = λ w.
       let l = lands.light w in
       let n = light w in
-      omega (arith, ops_reverse w before.ops.items, ap (body_weight w) none, level_added w before.levels (before.levels ++ level.Branches s others ∷ []) (level.Branches s others) refl);
+      omega (arith, ops_reverse w before.ops.items, ap (body_weight w) none, level_added w before.levels (before.levels ++ level.Branches s others ∷ []) (level.Branches s others) refl, as_many w s.site s.mode (branches_closed s t b put));
   neat = λ h.
       let l : LevelsTidy old (level.Branches s others ∷ reverse before.levels) = subst (LevelsTidy old) (reverse-append before.levels (level.Branches s others ∷ [])) h.levels in
       let made : LandsTidy new (reverse before.ops.items) b = lands.neat h.neat in
@@ -159,21 +175,23 @@ closes_branch old new before after s t others b none on lands put comes good lig
 
 -- what is next weighs no more than the branches that are left
 pub light_next : (w : Weights) (s t : Branching) (popped : List (List Goal)) (list others : List Goal) (levels : List Level) (after : Work) → s.left ≡ popped ++ list ∷ [] → t.left ≡ popped →
-    w.own (form.Select t.site t.mode []) ≡ w.own (form.Select s.site s.mode []) → after.ops.items ≡ tail_ops s.tail → after.goals ≡ list → after.levels ≡ levels ++ level.Branches t others ∷ [] →
-    work_weight w after ≤ w.own (form.Select s.site s.mode []) + lists_weight w s.left + body_weight w others + levels_weight w levels
-light_next w s t popped list others levels after split same goal_is ops_are goals_are levels_are =
+    t.site ≡ s.site → t.mode ≡ s.mode → length t.blocks.items ≡ length s.blocks.items → after.ops.items ≡ tail_ops s.tail → after.goals ≡ list → after.levels ≡ levels ++ level.Branches t others ∷ [] →
+    work_weight w after ≤ w.own (chooses s.site s.mode (branches_of s)) + lists_weight w s.left + body_weight w others + levels_weight w levels
+light_next w s t popped list others levels after split same site mode many ops_are goals_are levels_are =
     omega (
       arith,
       ap (lists_weight w) split,
       lists_append w popped (list ∷ []),
       ap (lists_weight w) same,
-      goal_is,
+      ap (λ n. w.own (chooses n t.mode (branches_of t + 1))) site,
+      ap (λ m. w.own (chooses s.site m (branches_of t + 1))) mode,
+      as_many w s.site s.mode (branches_next s t popped list split same many),
       tail_weight w s.tail after.ops.items ops_are,
       ap (body_weight w) goals_are,
       level_added w levels after.levels (level.Branches t others) levels_are,
     )
 
-pub light_end : (w : Weights) (s : Branching) (others : List Goal) (levels : List Level) (after : Work) → after.ops.items ≡ op.Select s.site s.mode (reverse s.blocks.items) s.behind ∷ [] → after.goals ≡ others → after.levels ≡ levels →
-    work_weight w after ≤ w.own (form.Select s.site s.mode []) + lists_weight w s.left + body_weight w others + levels_weight w levels
-light_end w s others levels after ops_are goals_are levels_are =
-    omega (arith, op_alone w after.ops.items (op.Select s.site s.mode (reverse s.blocks.items) s.behind) ops_are, ap (body_weight w) goals_are, ap (levels_weight w) levels_are)
+pub light_end : (w : Weights) (s : Branching) (others : List Goal) (levels : List Level) (after : Work) → s.left ≡ [] → after.ops.items ≡ op.Select s.site s.mode (reverse s.blocks.items) s.behind ∷ [] → after.goals ≡ others → after.levels ≡ levels →
+    work_weight w after ≤ w.own (chooses s.site s.mode (branches_of s)) + lists_weight w s.left + body_weight w others + levels_weight w levels
+light_end w s others levels after none ops_are goals_are levels_are =
+    omega (arith, op_alone w after.ops.items (op.Select s.site s.mode (reverse s.blocks.items) s.behind) ops_are, as_many w s.site s.mode (branches_end s none), ap (body_weight w) goals_are, ap (levels_weight w) levels_are)

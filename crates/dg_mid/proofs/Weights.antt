@@ -1,5 +1,5 @@
 -- What code and goals weigh, by their parts.
-use Rattle.std.proofs.Common.{◌≡◌, ℕ, ◌+◌, ◌*◌, ◌≤◌, List, [], ◌∷◌, ◌++◌, refl, ap, arith}
+use Rattle.std.proofs.Common.{◌≡◌, ℕ, ◌+◌, ◌*◌, ◌≤◌, List, [], ◌∷◌, ◌++◌, length, refl, ap, arith}
 use Rattle.std.specs.Prelude.{reverse, Option, Bool}
 use Rattle.std.specs.List.{flat_map}
 use Rattle.std.proofs.lemmas.List.{reverse-append}
@@ -24,7 +24,7 @@ use Rattle.dg_mid.specs.declared.writing.Level.{Level}
 use Rattle.dg_mid.specs.Actions.{form_of, goal_of}
 use Rattle.dg_mid.specs.Writing.{gathers}
 use Rattle.dg_mid.proofs.Acts.{outs}
-use Rattle.dg_mid.specs.Weights.{Weights, terms_weight, op_weight, ops_weight, blocks_weight, lists_in, own_weight, ways_weight, goals_weight, body_weight, lists_weight, whole_weight, levels_weight, rules_weight, preds_weight, closures_weight}
+use Rattle.dg_mid.specs.Weights.{Weights, chooses, terms_weight, op_weight, ops_weight, blocks_weight, lists_in, own_weight, ways_weight, goals_weight, body_weight, lists_weight, whole_weight, levels_weight, rules_weight, preds_weight, closures_weight}
 
 -- ## Code
 
@@ -156,7 +156,7 @@ weight_forever w = omega (arith, by_layer w goal.Forever form.Forever goal.outs-
 abbrev pub asking_weight : Weights → form.Goal-F Goal → ℕ
 asking_weight w g = w.own g + 3 * w.small + 2 * w.block
 
-pub weight_select : (w : Weights) (site : ℕ) (mode : Mode) (lists : List (List Goal)) → whole_weight w (goal.Select site mode lists) ≡ asking_weight w (form.Select site mode []) + lists_weight w lists
+pub weight_select : (w : Weights) (site : ℕ) (mode : Mode) (lists : List (List Goal)) → whole_weight w (goal.Select site mode lists) ≡ asking_weight w (chooses site mode (length lists)) + lists_weight w lists
 weight_select w site mode lists = omega (arith, by_layer w (goal.Select site mode lists) (form.Select site mode lists) (goal.outs-Select site mode lists))
 
 pub weight_ask : (w : Weights) (pred : ℕ) (terms : List Term) (many : Bool) → whole_weight w (goal.Ask pred terms many) ≡ asking_weight w (form.Ask pred terms many) + terms_weight w terms

@@ -1,5 +1,5 @@
 -- What the instructions of code pass, where the goals and heads that it is written of pass it. Hold it against the Dialog manual, chapter "Control flow".
-use Rattle.std.specs.Prelude.{◌≡◌, ℕ, List, [], ◌∷◌, Bool, true, false}
+use Rattle.std.specs.Prelude.{◌≡◌, ℕ, List, [], ◌∷◌, Bool, true, false, length}
 use Rattle.dg_base.specs.declared.program.ClosureBody.{ClosureBody}
 use Rattle.dg_base.specs.declared.program.CoreProgram.{CoreProgram}
 use Rattle.dg_base.specs.declared.program.Goal.{Goal, out-Goal}
@@ -13,9 +13,9 @@ use Rattle.dg_mid.specs.declared.code.Op.{Op}
 use Rattle.dg_mid.specs.declared.code.Op.TheVariants as op
 use Rattle.dg_mid.specs.Actions.{form_of}
 use Rattle.dg_mid.specs.Code.{block_at}
-use Rattle.dg_mid.specs.Weights.{Weights, found_form, bare, IsLight}
+use Rattle.dg_mid.specs.Weights.{Weights, found_form, chooses, bare, IsLight}
 
--- Tests of a goal without the lists in it, of the variables and the head of a rule, and whether anything may be gathered.
+-- Tests of a goal with nothing in its lists, of the variables and the head of a rule, and whether anything may be gathered.
 pub record Tests : Type 0 where
   pub goal : form.Goal-F Goal → Bool
   pub head : ℕ → List Term → Bool
@@ -70,7 +70,7 @@ OpPasses tests (op.LastAsk pred terms many) = tests.goal (form.Ask pred terms ma
 OpPasses tests (op.Query a b many next) = tests.goal (form.Query a b many) ≡ true
 OpPasses tests (op.LastQuery a b many) = tests.goal (form.Query a b many) ≡ true
 OpPasses tests (op.Find place terms many next) = tests.goal (found_form place terms many) ≡ true
-OpPasses tests (op.Select site mode blocks behind) = tests.goal (form.Select site mode []) ≡ true
+OpPasses tests (op.Select site mode blocks behind) = tests.goal (chooses site mode (length blocks)) ≡ true
 OpPasses tests (op.Collect term into alt) = tests.goal (form.Collect term [] into) ≡ true
 OpPasses tests (op.TakeOut whole into) = tests.gathers ≡ true
 OpPasses tests (op.Keep term) = tests.gathers ≡ true

@@ -1,8 +1,9 @@
 -- How much room code takes, and how much the goals have for it that it is written of, whatever its parts weigh: so an engine gives bytes to them, or
 -- weighs one part alone, of which there is none in the code where the program has none.
-use Rattle.std.specs.Prelude.{◌≤◌, ℕ, ◌+◌, ◌*◌, List, [], ◌∷◌, Option, Some, None, Bool, false}
+use Rattle.std.specs.Prelude.{◌≤◌, ℕ, ◌+◌, ◌*◌, List, [], ◌∷◌, Option, Some, None, Bool, false, length, replicate}
 use Rattle.dg_base.specs.declared.program.Goal.{Goal, out-Goal}
 use Rattle.dg_base.specs.declared.program.Goal.TheOpen as form
+use Rattle.dg_base.specs.declared.program.Mode.{Mode}
 use Rattle.dg_base.specs.declared.program.Term.{Term, out-Term}
 use Rattle.dg_base.specs.declared.program.Term.TheOpen.{Term-F}
 use Rattle.dg_base.specs.declared.program.Rule.{Rule}
@@ -14,6 +15,7 @@ use Rattle.dg_base.specs.Terms.{nodes}
 use Rattle.dg_mid.specs.declared.code.Action.TheVariants as action
 use Rattle.dg_mid.specs.declared.code.Op.{Op}
 use Rattle.dg_mid.specs.declared.code.Op.TheVariants as op
+use Rattle.dg_mid.specs.declared.branches.Branching.{Branching}
 use Rattle.dg_mid.specs.declared.code.Block.{Block}
 use Rattle.dg_mid.specs.declared.code.Code.{Code}
 use Rattle.dg_mid.specs.declared.writing.Level.{Level}
@@ -23,7 +25,7 @@ use Rattle.dg_mid.specs.Actions.{form_of, terms_of}
 
 -- What the parts of code weigh.
 pub record Weights : Type 0 where
-  -- an instruction that does or asks something, begins a gathering, or chooses a branch, by its goal without the lists in it; its terms apart
+  -- an instruction that does or asks something, begins a gathering, or chooses a branch, by its goal with nothing in its lists; its terms apart
   pub own : form.Goal-F Goal → ℕ
   -- one that begins a rule, by its variables and its head, whose terms are apart
   pub enters : ℕ → List Term → ℕ
@@ -53,11 +55,15 @@ abbrev pub terms_weight : Weights → List Term → ℕ
 terms_weight w [] = 0
 terms_weight w (term ∷ terms) = nodes_weight w (nodes term) + terms_weight w terms
 
--- The goal of a query of a place or, without one, of all objects.
+-- The goal of a query of a place or, without one, of all objects, which has one term; for any other stands a goal that no query is.
 abbrev pub found_form : Option ℕ → List Term → Bool → form.Goal-F Goal
 found_form None (term ∷ []) many = form.IsObject term many
-found_form None terms many = form.Holds 0 terms many
+found_form None terms many = form.Forever
 found_form (Some place) terms many = form.Holds place terms many
+
+-- A select of so many branches, with nothing in them.
+abbrev pub chooses : ℕ → Mode → ℕ → form.Goal-F Goal
+chooses site mode n = form.Select site mode (replicate n [])
 
 abbrev pub op_weight : Weights → Op → ℕ
 op_weight w (op.Do (action.Text text)) = w.text text
@@ -67,7 +73,7 @@ op_weight w (op.LastAsk pred terms many) = w.own (form.Ask pred terms many) + te
 op_weight w (op.Query a b many next) = w.own (form.Query a b many) + terms_weight w (a ∷ option_terms b)
 op_weight w (op.LastQuery a b many) = w.own (form.Query a b many) + terms_weight w (a ∷ option_terms b)
 op_weight w (op.Find place terms many next) = w.own (found_form place terms many) + terms_weight w terms
-op_weight w (op.Select site mode blocks behind) = w.own (form.Select site mode [])
+op_weight w (op.Select site mode blocks behind) = w.own (chooses site mode (length blocks))
 op_weight w (op.Collect term into alt) = w.own (form.Collect term [] into) + terms_weight w (term ∷ into ∷ [])
 op_weight w (op.Enter vars head) = w.enters vars head + terms_weight w head
 op_weight w (op.Branch alt) = w.opening
@@ -103,11 +109,11 @@ lists_in (form.Stoppable goals) = goals ∷ []
 lists_in (form.Select site mode lists) = lists
 lists_in goal = []
 
--- A goal without the lists in it; the two ways to gather are one.
+-- A goal with nothing in its lists; the two ways to gather are one.
 abbrev pub bare : form.Goal-F Goal → form.Goal-F Goal
 bare (form.Collect a goals b) = form.Collect a [] b
 bare (form.Accumulate a goals b) = form.Collect a [] b
-bare (form.Select site mode lists) = form.Select site mode []
+bare (form.Select site mode lists) = chooses site mode (length lists)
 bare goal = goal
 
 -- What gathers has room for two instructions of gatherings.
@@ -178,13 +184,18 @@ IsLight w program code =
 
 -- ## What is being written
 
+-- How many branches a select has while it is written: those left, and those that are blocks.
+abbrev pub branches_of : Branching → ℕ
+branches_of s = length s.left + length s.blocks.items
+
 -- What is open, with room for what is still to be written of it.
 abbrev pub level_weight : Weights → Level → ℕ
 level_weight w (level.Inner x others) = op_weight w x + body_weight w others
 level_weight w (level.Other test first tail others) =
     w.opening + 2 * w.small + w.block + body_weight w test + body_weight w first + body_weight w others
 level_weight w (level.Lists left alt tail others) = w.opening + w.block + lists_weight w left + body_weight w others
-level_weight w (level.Branches s others) = w.own (form.Select s.site s.mode []) + w.block + lists_weight w s.left + body_weight w others
+level_weight w (level.Branches s others) =
+    w.own (chooses s.site s.mode (branches_of s + 1)) + w.block + lists_weight w s.left + body_weight w others
 
 abbrev pub levels_weight : Weights → List Level → ℕ
 levels_weight w [] = 0

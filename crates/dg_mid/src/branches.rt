@@ -2,14 +2,13 @@
 ghost use Rattle.std.specs.Prelude.{List, ◌+◌, ◌≤◌, ◌≡◌, [], ◌∷◌, IfOk, OnOk, reverse};
 ghost use Rattle.dg_base.specs.declared.program.Goal.{Goal};
 ghost use Rattle.dg_base.specs.declared.program.Goal.TheVariants as goal;
-ghost use Rattle.dg_base.specs.declared.program.Goal.TheOpen as form;
 ghost use Rattle.dg_base.specs.Begins.{Begins};
 ghost use Rattle.dg_mid.specs.Codes.{End};
 ghost use Rattle.dg_mid.specs.declared.code.Block.{Block};
 ghost use Rattle.dg_mid.specs.declared.code.Op.TheVariants as op;
 ghost use Rattle.dg_mid.specs.declared.writing.Level.TheVariants as level;
 ghost use Rattle.dg_mid.specs.Tidying.{BlocksTidy, LevelsTidy, TailTidy, WorkTidy};
-ghost use Rattle.dg_mid.specs.Weights.{Weights, body_weight, levels_weight, lists_weight, work_weight};
+ghost use Rattle.dg_mid.specs.Weights.{Weights, branches_of, chooses, body_weight, levels_weight, lists_weight, work_weight};
 ghost use Rattle.dg_mid.specs.Writing.{AtBranch, ComesTo, EndsAt, Moves, with_goal, with_level};
 
 use crate::code::Op;
@@ -101,7 +100,8 @@ fn at_branch(
     ensures neat { IfOk result (λ new. (blocks : List Block) →
         BlocksTidy blocks → TailTidy blocks select.tail → LevelsTidy blocks (reverse levels) → WorkTidy blocks new) }
     ensures light { IfOk result (λ new. (w : Weights) →
-        work_weight w new ≤ w.own (form.Select select.site select.mode []) + lists_weight w select.left + body_weight w others + levels_weight w levels) }
+        work_weight w new ≤ w.own (chooses select.site select.mode (branches_of select)) + lists_weight w select.left + body_weight w others +
+        levels_weight w levels) }
 {
     let mut select = select;
     let Some(list) = select.left.pop() else {

@@ -23,10 +23,10 @@ returns-clause-neat c blocks h tail l =
 
 pub returns-in_default-clause-light : goal.returns-in_default-clause-light
 returns-in_default-clause-light c w =
-    light_end w c.args.select c.args.others c.args.levels c.in_ok-behind_branches.field-0 c.in_ok-behind_branches.ensures.ops c.in_ok-behind_branches.ensures.goals c.in_ok-behind_branches.ensures.levels
+    light_end w c.args.select c.args.others c.args.levels c.in_ok-behind_branches.field-0 c.in_default.ensures.0 c.in_ok-behind_branches.ensures.ops c.in_ok-behind_branches.ensures.goals c.in_ok-behind_branches.ensures.levels
 
 pub returns-clause-light : goal.returns-clause-light
 returns-clause-light c w =
     let t : Branching = record c.args.select { left = c.pop.new.self } in
     let after : Work = record { ops = c.in_ok-ops.ops; goals = c.in-Some.list; levels = c.push.new.self } in
-    light_next w c.args.select t c.pop.new.self c.in-Some.list c.args.others c.args.levels after c.in-Some.ensures refl refl c.in_ok-ops.ensures refl c.in_ok-push.ensures.ok
+    light_next w c.args.select t c.pop.new.self c.in-Some.list c.args.others c.args.levels after c.in-Some.ensures refl refl refl refl c.in_ok-ops.ensures refl c.in_ok-push.ensures.ok
