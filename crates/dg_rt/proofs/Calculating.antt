@@ -45,7 +45,7 @@ multiplies : (p : Program) (memory : List ℕ) (x y : ℕ) → x * y ≤ 16383 �
 unfolding computed
 multiplies p memory x y le = ap word (small_word (x * y) (omega arith))
 
-draws : (p : Program) (s s1 : State) (v : ℕ) (a : Atom) (r : ℕ) → value p s a ≡ word r → 0 < r → r ≤ 32767 → put p v (1 + word_at p.world s.drawn % r) s ≡ some_state s1 → does p (acts.Random v a) s ≡ some_state (record s1 { drawn = next_drawn p.world s.drawn })
+pub draws : (p : Program) (s s1 : State) (v : ℕ) (a : Atom) (r : ℕ) → value p s a ≡ word r → 0 < r → r ≤ 32767 → put p v (1 + word_at p.world s.drawn % r) s ≡ some_state s1 → does p (acts.Random v a) s ≡ some_state (record s1 { drawn = next_drawn p.world s.drawn })
 unfolding random_drawn
 draws p s s1 v a r e some few is = rw (e, ne_eqb r 0 (λ (q : r ≡ 0). (omega arith)), le-ltb 32767 r few, is) refl
 

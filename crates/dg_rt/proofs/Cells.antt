@@ -77,7 +77,7 @@ reads_cell layout memory cells x y k h a lt =
 abbrev pub some_list : List ℕ → Option (List ℕ)
 some_list xs = Some xs
 
-may : (layout : Layout) (a : ℕ) → 64 ≤ a → a < layout.base → is_writable layout a ≡ true
+pub may : (layout : Layout) (a : ℕ) → 64 ≤ a → a < layout.base → is_writable layout a ≡ true
 may layout a low lt = rw (ne_eqb a 16 (λ (e : a ≡ 16). (omega arith)), ne_eqb a 17 (λ (e : a ≡ 17). (omega arith)), le-ltb a 64 low, lt-ltb a layout.base lt) refl
 
 -- a word is written

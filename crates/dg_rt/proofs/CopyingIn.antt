@@ -1,5 +1,5 @@
 -- The routine that lays a copy of a value on the heap does so.
-use Rattle.std.proofs.Common.{◌≡◌, ◌≢◌, ℕ, zero, suc, ◌+◌, ◌*◌, ◌<◌, ◌≤◌, true, false, List, [], ◌∷◌, drop, map, length, None, refl, ap, ◌∙◌, subst, arith, append-nil}
+use Rattle.std.proofs.Common.{◌≡◌, ◌≢◌, ℕ, zero, suc, ◌+◌, ◌*◌, ◌<◌, ◌≤◌, true, false, List, [], ◌∷◌, drop, map, length, None, refl, sym, ap, ◌∙◌, subst, arith, append-nil}
 use Rattle.std.proofs.lemmas.Bool.{eq-eqb, ne_eqb}
 use Rattle.z_lang.specs.declared.act.Act.TheVariants as acts
 use Rattle.z_lang.specs.declared.act.Atom.TheVariants as atoms
@@ -25,7 +25,7 @@ use Rattle.dg_meaning.specs.inside.Unifiers.{binding_of}
 use Rattle.dg_rt.proofs.Following.{some_state, computes, copies}
 use Rattle.dg_rt.proofs.Locals.{first, second, third, fourth, put_first, put_third, put_fourth, put_fifth, reference, reference_is_negative, added}
 use Rattle.dg_rt.proofs.CopySteps.{chars_are}
-use Rattle.dg_rt.proofs.Laying.{copied, copied_grown, copied_low, copied_shape, copied_stands, copied_shows}
+use Rattle.dg_rt.proofs.Laying.{copied, copied_grown, copied_places, copied_boxes, copied_low, copied_shape, copied_stands, copied_shows}
 use Rattle.dg_rt.proofs.UnifySteps.{steps_are}
 use Rattle.dg_rt.proofs.LaySteps.{Laid, M, in_m, Run, from_is, sub_is, three_times, five, word_2, read_1, first_less, first_is, InArea, area_back, price, Copy, simple, variable, Did, Down, On, Store, did_down, did_on, did_store, fetch}
 use Rattle.dg_rt.proofs.LayParts.{Fill, no_values, more_values, of_pair, of_closure, at_end, next_4}
@@ -221,6 +221,8 @@ module _ (p : Program) (story : List ℕ) (sh : Shape) (has : HasCaptures p stor
         grown = copied_grown sh is low m.cells c.m'.cells S st known v fine room same c.lies;
         shape = copied_shape sh is low m.cells c.m'.cells S st known v fine room same c.lies;
         low = copied_low sh is low m.cells c.m'.cells S st known v fine room same c.lies;
+        new_places = copied_places sh is low m.cells c.m'.cells S st known v fine room same c.lies;
+        new_boxes = copied_boxes sh is low m.cells c.m'.cells S st known v fine room same c.lies;
         stands = copied_stands sh is low m.cells c.m'.cells S st known v fine room same c.lies;
         shows = copied_shows sh is low m.cells c.m'.cells S st known v fine room same c.lies;
       }

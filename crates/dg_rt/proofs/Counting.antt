@@ -2,7 +2,9 @@
 use Rattle.std.proofs.Common.{◌≡◌, ◌≢◌, ℕ, suc, ◌+◌, ◌-◌, ◌*◌, ◌<◌, ◌≤◌, Bool, true, false, List, [], ◌∷◌, ◌++◌, drop, length, map, Some, refl, sym, ap, ◌∙◌, subst, arith, length-append}
 use Rattle.std.specs.Prelude.{◌==◌}
 use Rattle.std.proofs.lemmas.Bool.{eq-eqb, ne_eqb}
+use Rattle.std.specs.List.{sum_by}
 use Rattle.std.proofs.lemmas.List.{append-nil, map-append}
+use Rattle.std.proofs.lemmas.List.Sums.{sum_by-cons}
 use Rattle.dg_base.specs.declared.cells.Cell.TheVariants as cell
 use Rattle.dg_meaning.specs.Values.{Num, Word, Unknown, Object, Nil, Pair, Closure, Value, Var, Node, Values, NoMore, More, leaf}
 use Rattle.dg_meaning.specs.ValueCells.{count_of, cells_of, cells_of_all}
@@ -23,6 +25,7 @@ use Rattle.dg_rt.specs.Areas.{state}
 use Rattle.dg_rt.specs.Laying.{Formed, AllFormed}
 use Rattle.dg_rt.specs.Copies.{cell_word, words_of, Row}
 use Rattle.dg_rt.specs.CopiesIn.{HasCaptures}
+use Rattle.dg_rt.specs.Gatherings.{rows_of, AreFormed}
 use Rattle.dg_rt.specs.Moves.{TellsCells, CellsWorks}
 use Rattle.dg_rt.specs.inside.Walks.{steps}
 use Rattle.dg_rt.proofs.Cells.{reads_cell}
@@ -207,6 +210,17 @@ module _ (p : Program) (story : List ℕ) (captures : ℕ → ℕ) (has : HasCap
         weaker (omega arith) (value_on v r c (14 * sizes vs + most) fine.0 (rows_front cells r (words_of v) (rows vs) row') (omega arith) (omega arith)
         (λ x'. all_on vs i (c + copy_cells v) most fine.1 (rows_back cells r i (words_of v) (rows vs) refl row') (omega arith) (omega arith) (λ x''. by_end (r + length (rows (More v vs))) (i + length (rows vs)) (c + all_copy_cells (More v vs)) (c + copy_cells v + all_copy_cells vs) x'' most (omega arith) (omega arith) (rest x'')) x') x)
 
+  -- values one behind another
+  list_on : (vs : List Value) (r c most : ℕ) → AreFormed captures vs → Row cells r (rows_of vs) → r + length (rows_of vs) ≤ e → c + sum_by copy_cells vs < 32768 → Rest (r + length (rows_of vs)) (c + sum_by copy_cells vs) most → Rest r c (14 * sum_by size vs + most)
+  list_on [] r c most fine row le room rest x = weaker (omega arith) (by_end (r + 0) r (c + 0) c x most (omega arith) (omega arith) (rest x))
+  list_on (v ∷ vs) r c most fine row le room rest x =
+      let n' = length-append (words_of v) (rows_of vs) in
+      let a = sum_by-cons copy_cells v vs in
+      let b = sum_by-cons size v vs in
+      let i = r + length (words_of v) in
+      weaker (omega arith) (value_on v r c (14 * sum_by size vs + most) fine.0 (rows_front cells r (words_of v) (rows_of vs) row) (omega arith) (omega arith)
+      (λ x'. list_on vs i (c + copy_cells v) most fine.1 (rows_back cells r i (words_of v) (rows_of vs) refl row) (omega arith) (omega arith) (λ x''. by_end (r + length (rows_of (v ∷ vs))) (i + length (rows_of vs)) (c + sum_by copy_cells (v ∷ vs)) (c + copy_cells v + sum_by copy_cells vs) x'' most (omega arith) (omega arith) (rest x'')) x') x)
+
   -- at the end of the row
   ends : (x : ℕ) → On (drop 1 CELLS_ACTS) (at_cell e) total x 2
   unfolding behind_label
@@ -222,4 +236,13 @@ cells_works p story captures has f w memory typed output drawn cells h kept v r 
     let e = r + length (words_of v) in
     let n = copy_cells v in
     let t = value_on p story captures has f w memory typed output drawn cells h kept e within small n v r 0 2 fine row (omega arith) (omega arith) (λ x. by_end p story captures has f w memory typed output drawn cells h kept e within small n e e n (0 + n) x 2 refl (omega arith) (ends p story captures has f w memory typed output drawn cells h kept e within small n x)) 0 in
+    record { locals' = t.locals'; count = t.count; few = t.few; runs = at_label t.runs }
+
+-- So it does with the cells of values one behind another, behind what was counted.
+pub all_cells_work : (p : Program) (story : List ℕ) (captures : ℕ → ℕ) → HasCaptures p story captures → (f w : ℕ) (memory typed output : List ℕ) (drawn : ℕ) (cells : ℕ → ℕ) → Holds p.world.layout memory cells → IsKept p.world.layout.base story memory → (vs : List Value) (r c : ℕ) → AreFormed captures vs → at_cell (r + length (rows_of vs)) ≤ p.world.layout.base → at_cell (r + length (rows_of vs)) < 65536 → Row cells r (rows_of vs) → c + sum_by copy_cells vs < 32768 →
+    TellsCells p f w CELLS_ACTS memory (at_cell r ∷ at_cell (r + length (rows_of vs)) ∷ c ∷ 0 ∷ []) typed output drawn (c + sum_by copy_cells vs) (14 * sum_by size vs + 2)
+all_cells_work p story captures has f w memory typed output drawn cells h kept vs r c fine within small row room =
+    let e = r + length (rows_of vs) in
+    let n = c + sum_by copy_cells vs in
+    let t = list_on p story captures has f w memory typed output drawn cells h kept e within small n vs r c 2 fine row (omega arith) room (λ x. ends p story captures has f w memory typed output drawn cells h kept e within small n x) 0 in
     record { locals' = t.locals'; count = t.count; few = t.few; runs = at_label t.runs }

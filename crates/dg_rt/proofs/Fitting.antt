@@ -53,12 +53,12 @@ no_label l ops e h = let yes = found l ops h in cc (yes, e)
 abbrev many : ℕ
 many = 1 + length runtime
 
--- an atom fits where there are the routines of the run-time, one to begin with, and a table
+-- an atom fits where there are the routines of the run-time, one to begin with, and two tables
 abbrev fits_atom : Atom → Bool
 fits_atom (atoms.Num n) = nat_lt n 65536
 fits_atom (atoms.Var v) = nat_lt v 256
 fits_atom (atoms.Routine r) = nat_lt r many
-fits_atom (atoms.Table t) = nat_lt t 1
+fits_atom (atoms.Table t) = nat_lt t 2
 fits_atom (atoms.Text t) = false
 
 abbrev fit_args : Args → Bool
@@ -100,12 +100,12 @@ abbrev all_fit : List Routine → Bool
 all_fit [] = true
 all_fit (r ∷ rs) = (nat_lt r.locals 16 && (nat_lt (body_bytes r.body) 8000 && are_fit (ops_of_acts r.body) r.body)) && all_fit rs
 
-module _ (counts : Counts) (routines : many ≤ counts.routines) (tables : 1 ≤ counts.tables) where
+module _ (counts : Counts) (routines : many ≤ counts.routines) (tables : 2 ≤ counts.tables) where
   atom_fits : (a : Atom) → fits_atom a ≡ true → FitsAtom counts a
   atom_fits (atoms.Num n) e = ltb-true n 65536 e
   atom_fits (atoms.Var v) e = ltb-true v 256 e
   atom_fits (atoms.Routine r) e = let lt = ltb-true r many e in omega arith
-  atom_fits (atoms.Table t) e = let lt = ltb-true t 1 e in omega arith
+  atom_fits (atoms.Table t) e = let lt = ltb-true t 2 e in omega arith
   atom_fits (atoms.Text t) e = absurd (cc e)
 
   args_fit : (xs : Args) → fit_args xs ≡ true → FitArgs counts xs

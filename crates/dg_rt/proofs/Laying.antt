@@ -178,7 +178,7 @@ module _ (sh : Shape) (is : IsShape sh) (low : (x : ℕ) → x < sh.vars → sh.
   new_fixed : (k : ℕ) → sh.top ≤ k → copied.fixed k ≡ now k
   new_fixed k le = cond-false (nat_lt k sh.top) (sh.fixed k) (cells' (heap_at + k)) (le-ltb k sh.top le)
 
-  old_box : (k : ℕ) → k < sh.top → copied.box k ≡ sh.box k
+  pub old_box : (k : ℕ) → k < sh.top → copied.box k ≡ sh.box k
   old_box k lt = cond-true (nat_lt k sh.top) (sh.box k) (box_in sh.top sh.vars v k) (lt-ltb k sh.top lt)
 
   new_box : (k : ℕ) → sh.top ≤ k → copied.box k ≡ box_in sh.top sh.vars v k
@@ -195,6 +195,13 @@ module _ (sh : Shape) (is : IsShape sh) (low : (x : ℕ) → x < sh.vars → sh.
       | inr ge ↦ (let r = (new_within x ge lt).from in let l = f.0 in absurd (omega arith))
     ],
   )
+
+  -- its variables and its boxes stand behind those that were there
+  pub copied_places : (x : ℕ) → sh.vars ≤ x → x < copied.vars → sh.top ≤ copied.place x
+  copied_places x le lt = (new_within x le lt).from
+
+  pub copied_boxes : (k : ℕ) (w : Value) → copied.box k ≡ Some w → k < sh.top → sh.box k ≡ Some w
+  copied_boxes k w e lt = sym (old_box k lt) ∙ e
 
   pub copied_grown : Grown sh copied
   copied_grown = record { top = omega arith; vars = omega arith; places = old_place; others = fixed_still; fixed = λ k f. old_fixed k f.0; boxes = λ k w e. let l = is.ends k w e in old_box k (omega arith) ∙ e; told = λ place. refl }

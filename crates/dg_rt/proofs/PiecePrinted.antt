@@ -54,7 +54,7 @@ mark_then g has f w two two' body rest q locals c low high same qs most total le
 
 -- ## The routine
 
-module _ (g : Story) (has : HasRunTime g.p) (is : IsShape g.sh) (program : CoreProgram) (words objects : ℕ) (sp : Spells g.p program words objects) (f w : ℕ) (some : 24 ≤ f) (enough : 96 ≤ w) (q : Point g) where
+module _ (g : Story) (has : HasRunTime g.p) (is : IsShape g.sh) (program : CoreProgram) (words objects : ℕ) (sp : Spells g.p g.story program words objects) (f w : ℕ) (some : 24 ≤ f) (enough : 96 ≤ w) (q : Point g) where
   abbrev loc : ℕ → ℕ → List ℕ
   loc a b = a ∷ words ∷ objects ∷ b ∷ []
 
@@ -81,8 +81,8 @@ module _ (g : Story) (has : HasRunTime g.p) (is : IsShape g.sh) (program : CoreP
       (one_piece (decimal n) 19 (omega arith) (number_works g.p has 1 1 (omega arith) (omega arith) q.memory g.typed q.output g.drawn n q.cells q.holds lt q.met q.meets)))
 
   -- what is told apart by its number is printed by a routine of the program
-  spelled : (x many : ℕ) (text : ℕ → List ℕ) (s : SpellsBy g.p x many text) (n : ℕ) → n < many → PrintsPieces g.p 20 80 s.body s.body q.memory (n ∷ take s.more (0 ∷ 0 ∷ zeros)) g.typed q.output g.drawn q.cells q.met (text n ∷ []) 100
-  spelled x many text s n lt = one_piece (text n) 100 (omega arith) (s.prints q.memory g.typed q.output g.drawn n q.cells q.holds lt q.met q.meets)
+  spelled : (x many : ℕ) (text : ℕ → List ℕ) (s : SpellsBy g.p g.story x many text) (n : ℕ) → n < many → PrintsPieces g.p 20 80 s.body s.body q.memory (n ∷ take s.more (0 ∷ 0 ∷ zeros)) g.typed q.output g.drawn q.cells q.met (text n ∷ []) 100
+  spelled x many text s n lt = one_piece (text n) 100 (omega arith) (s.prints q.memory g.typed q.output g.drawn n q.cells q.holds q.kept lt q.met q.meets)
 
   a_word : (n b : ℕ) → n < 8192 → Piecewise (16384 + n) b (label_piece program (Word n))
   unfolding behind_label

@@ -13,6 +13,7 @@ use Rattle.z_lang.specs.declared.act.Routine.{Routine}
 use Rattle.z_lang.specs.State.{State, Program, value}
 use Rattle.z_lang.specs.Acts.{arguments}
 use Rattle.z_lang.specs.Runs.{ActsRun as Runs, ActsOutcome as Outcome, Returns, calls, returns, routine_entered}
+use Rattle.z_lang.specs.Standing.{IsKept}
 use Rattle.dg_rt.specs.Cells.{Holds}
 use Rattle.dg_rt.specs.Areas.{heap_at, state}
 use Rattle.dg_rt.specs.Shapes.{Shape, Shows, Stands}
@@ -20,6 +21,7 @@ use Rattle.dg_rt.specs.Gaps.{Meets}
 use Rattle.dg_rt.specs.Pieces.{PrintsPiece}
 use Rattle.dg_rt.specs.Prints.{all_pieces, PrintsPieces}
 use Rattle.dg_rt.proofs.Counted.{characters_on, written_counted, met_on, render_on}
+use Rattle.dg_rt.proofs.Static.{runs_keep}
 
 -- what is written in front of the heap changes nothing in it
 pub stands_still : {sh : Shape} {S : Substitution} (cells cells' : ℕ → ℕ) → ((k : ℕ) → heap_at ≤ k → cells' k ≡ cells k) → Stands sh cells S → Stands sh cells' S
@@ -50,9 +52,11 @@ one_piece {p} {f} {w} {acts} {memory} {locals} {typed} {output} {drawn} {cells} 
       runs = subst (λ (o : List ℕ). Runs p f w acts acts (state memory locals typed drawn output) (Returns 0) (state r.memory' r.locals' typed drawn (output ++ o)) r.count) (sym one) r.runs;
     }
 
--- What stays while pieces are printed: the program, what lies in the heap, the substitution, and the outside but for what was printed.
+-- What stays while pieces are printed: the program and its story, what lies in the heap, the substitution, and the outside but for what was printed.
 pub record Story : Type 0 where
   pub p : Program
+  pub story : List ℕ
+  pub room : 600 ≤ p.world.layout.base
   pub sh : Shape
   pub S : Substitution
   pub typed : List ℕ
@@ -63,6 +67,7 @@ pub record Point (g : Story) : Type 0 where
   pub memory : List ℕ
   pub cells : ℕ → ℕ
   pub holds : Holds g.p.world.layout memory cells
+  pub kept : IsKept g.p.world.layout.base g.story memory
   pub stands : Stands g.sh cells g.S
   pub met : Met
   pub meets : Meets cells met
@@ -83,6 +88,7 @@ module _ (g : Story) where
     memory = r.memory';
     cells = r.cells';
     holds = r.holds;
+    kept = runs_keep g.p g.story q.holds.globals g.room r.runs q.kept;
     stands = stands_still q.cells r.cells' (λ k le. r.others k (λ e. (omega arith)) (λ e. (omega arith)) (λ e. (omega arith)) (λ e. (omega arith)) (λ e. (omega arith))) q.stands;
     met = met_from q.met (all_pieces ps);
     meets = r.meets;

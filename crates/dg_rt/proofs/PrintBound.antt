@@ -24,37 +24,37 @@ by_list (Node Nil vs) other list = list Nil vs refl (omega arith)
 by_list (Node Pair vs) other list = list Pair vs refl (omega arith)
 by_list (Node (Closure c) vs) other list = other refl
 
-module _ (io : LookingThrough) (program : CoreProgram) (words objects : ℕ) (sp : Spells io.p program words objects) where
+module _ (io : LookingThrough) (story : List ℕ) (program : CoreProgram) (words objects : ℕ) (sp : Spells io.p story program words objects) where
   open io use {p, has, sh, is, S, st, n}
 
   abbrev pt : Type 0
-  pt = Point (g io program words objects sp)
+  pt = Point (g io story program words objects sp)
 
   -- runs for heads, and for tails
   abbrev Heads : ℕ → Value → Type 0
-  Heads f w = (q : pt) (x : ℕ) (a : Value) (ks : List ℕ) → Shows sh x a → Below sh S ks a → 3360 ≤ f + length ks → size (resolved S a) < size (resolved S w) → (Absent io) a → Whole io program words objects sp f q x a
+  Heads f w = (q : pt) (x : ℕ) (a : Value) (ks : List ℕ) → Shows sh x a → Below sh S ks a → 3360 ≤ f + length ks → size (resolved S a) < size (resolved S w) → (Absent io) a → Whole io story program words objects sp f q x a
 
   abbrev Tails : ℕ → List ℕ → Value → Type 0
-  Tails f ks w = (q : pt) (y b : ℕ) (a : Value) → Shows sh y a → Below sh S ks a → size (resolved S a) < size (resolved S w) → (Absent io) a → Tail io program words objects sp f q y b a
+  Tails f ks w = (q : pt) (y b : ℕ) (a : Value) → Shows sh y a → Below sh S ks a → size (resolved S a) < size (resolved S w) → (Absent io) a → Tail io story program words objects sp f q y b a
 
   -- the rest of a list that was looked up
-  rest : {u : ℕ} (f : ℕ) (q : pt) (lab : Label) (vs : Values) (ks : List ℕ) → Shows sh u (Node lab vs) → Below sh S ks (Node lab vs) → 3360 ≤ suc f + length ks → 24 ≤ f → (AllAbsent io) vs → 1 ≤ list_kind (Node lab vs) → Heads f (Node lab vs) → Tails (suc f) ks (Node lab vs) → Rest io program words objects sp (suc f) q u lab vs
+  rest : {u : ℕ} (f : ℕ) (q : pt) (lab : Label) (vs : Values) (ks : List ℕ) → Shows sh u (Node lab vs) → Below sh S ks (Node lab vs) → 3360 ≤ suc f + length ks → 24 ≤ f → (AllAbsent io) vs → 1 ≤ list_kind (Node lab vs) → Heads f (Node lab vs) → Tails (suc f) ks (Node lab vs) → Rest io story program words objects sp (suc f) q u lab vs
   rest f q lab vs ks (number m lt) below few enough absent some heads tails = absurd (omega (arith, some))
   rest f q lab vs ks (dict m lt) below few enough absent some heads tails = absurd (omega (arith, some))
   rest f q lab vs ks (object m lt) below few enough absent some heads tails = absurd (omega (arith, some))
-  rest f q lab vs ks nil below few enough absent some heads tails = nil_rest io program words objects sp (suc f) (omega arith) q 28672 vs
+  rest f q lab vs ks nil below few enough absent some heads tails = nil_rest io story program words objects sp (suc f) (omega arith) q 28672 vs
   rest f q lab vs ks (boxed k header lt box cell (pair_in {h = v} {t = t} _ x y one two sv su)) below few enough absent some heads tails =
       let less' = parts_smaller S Pair (More v (More t NoMore)) in
       let absent_v = (first_absent io) v (More t NoMore) absent in
       let absent_t = (first_absent io) t NoMore ((others_absent io) v (More t NoMore) absent) in
       let head = heads q x v (k ∷ ks) sv (under ks v k (pair v t) lt box less'.0 below) (omega arith) (less'.0 []) absent_v in
-      pair_rest io program words objects sp f q k x y v t lt one two absent head
-      (tails (behind (g io program words objects sp) q head) y x t su (below_smaller t less'.1.0 below) (less'.1.0 []) absent_t)
+      pair_rest io story program words objects sp f q k x y v t lt one two absent head
+      (tails (behind (g io story program words objects sp) q head) y x t su (below_smaller t less'.1.0 below) (less'.1.0 []) absent_t)
   rest f q lab vs ks (boxed k header lt box cell (closure_in _ place small told few' count all)) below few enough absent some heads tails = absurd (omega (arith, some))
   rest f q lab vs ks (boxed k header lt box cell (word_in _ fine all)) below few enough absent some heads tails = absurd (omega (arith, some))
 
   -- the rest of a list to which a value was walked
-  rest_of : (f : ℕ) (v : Value) (lab : Label) (vs : Values) (ks : List ℕ) → walk S v ≡ Node lab vs → Below sh S ks v → 3360 ≤ suc f + length ks → 24 ≤ f → (Absent io) v → 1 ≤ list_kind (Node lab vs) → Heads f v → Tails (suc f) ks v → RestAt io program words objects sp (suc f) lab vs
+  rest_of : (f : ℕ) (v : Value) (lab : Label) (vs : Values) (ks : List ℕ) → walk S v ≡ Node lab vs → Below sh S ks v → 3360 ≤ suc f + length ks → 24 ≤ f → (Absent io) v → 1 ≤ list_kind (Node lab vs) → Heads f v → Tails (suc f) ks v → RestAt io story program words objects sp (suc f) lab vs
   rest_of f v lab vs ks e below few enough absent some heads tails q u s =
       let whole : Below sh S ks (Node lab vs) = subst (Below sh S ks) e (below_walk S st.sound below) in
       let same : size (resolved S v) ≡ size (resolved S (Node lab vs)) = ap size ((resolved_walked io) v (Node lab vs) e) in
@@ -62,23 +62,23 @@ module _ (io : LookingThrough) (program : CoreProgram) (words objects : ℕ) (sp
       let absent' : (AllAbsent io) vs = sym is_it ∙ absent in
       rest f q lab vs ks s whole few enough absent' some (λ q' x a ks' sa ba few' less' free'. heads q' x a ks' sa ba few' (omega arith) free') (λ q' z b a sa ba less' free'. tails q' z b a sa ba (omega arith) free')
 
-  whole : (f : ℕ) (q : pt) (x : ℕ) (v : Value) (ks : List ℕ) → Shows sh x v → Below sh S ks v → 3360 ≤ suc f + length ks → 24 ≤ f → (Absent io) v → Heads f v → Tails (suc f) ks v → Whole io program words objects sp (suc f) q x v
+  whole : (f : ℕ) (q : pt) (x : ℕ) (v : Value) (ks : List ℕ) → Shows sh x v → Below sh S ks v → 3360 ≤ suc f + length ks → 24 ≤ f → (Absent io) v → Heads f v → Tails (suc f) ks v → Whole io story program words objects sp (suc f) q x v
   whole f q x v ks s below few enough absent heads tails =
-      by_list (walk S v) (λ none. whole_leaf io program words objects sp f enough q x v s none)
-      (λ lab vs e some. whole_list io program words objects sp (suc f) (omega arith) q x v lab vs s e some (rest_of f v lab vs ks e below few enough absent some heads tails))
+      by_list (walk S v) (λ none. whole_leaf io story program words objects sp f enough q x v s none)
+      (λ lab vs e some. whole_list io story program words objects sp (suc f) (omega arith) q x v lab vs s e some (rest_of f v lab vs ks e below few enough absent some heads tails))
 
-  tail : (f : ℕ) (q : pt) (y b : ℕ) (v : Value) (ks : List ℕ) → Shows sh y v → Below sh S ks v → 3360 ≤ suc f + length ks → 24 ≤ f → (Absent io) v → Heads f v → Tails (suc f) ks v → Tail io program words objects sp (suc f) q y b v
+  tail : (f : ℕ) (q : pt) (y b : ℕ) (v : Value) (ks : List ℕ) → Shows sh y v → Below sh S ks v → 3360 ≤ suc f + length ks → 24 ≤ f → (Absent io) v → Heads f v → Tails (suc f) ks v → Tail io story program words objects sp (suc f) q y b v
   tail f q y b v ks s below few enough absent heads tails =
-      by_list (walk S v) (λ none. tail_other io program words objects sp f enough q y b v s none)
-      (λ lab vs e some. tail_list io program words objects sp (suc f) (omega arith) q y b v lab vs s e some (rest_of f v lab vs ks e below few enough absent some heads tails))
+      by_list (walk S v) (λ none. tail_other io story program words objects sp f enough q y b v s none)
+      (λ lab vs e some. tail_list io story program words objects sp (suc f) (omega arith) q y b v lab vs s e some (rest_of f v lab vs ks e below few enough absent some heads tails))
 
   -- Values of so few nodes are printed, and tails.
   record All (most : ℕ) : Type 0 where
-    wholes : (f : ℕ) (q : pt) (x : ℕ) (v : Value) (ks : List ℕ) → Shows sh x v → Below sh S ks v → 3360 ≤ f + length ks → size (resolved S v) < most → (Absent io) v → Whole io program words objects sp f q x v
-    tails : (f : ℕ) (q : pt) (y b : ℕ) (v : Value) (ks : List ℕ) → Shows sh y v → Below sh S ks v → 3360 ≤ f + length ks → size (resolved S v) < most → (Absent io) v → Tail io program words objects sp f q y b v
+    wholes : (f : ℕ) (q : pt) (x : ℕ) (v : Value) (ks : List ℕ) → Shows sh x v → Below sh S ks v → 3360 ≤ f + length ks → size (resolved S v) < most → (Absent io) v → Whole io story program words objects sp f q x v
+    tails : (f : ℕ) (q : pt) (y b : ℕ) (v : Value) (ks : List ℕ) → Shows sh y v → Below sh S ks v → 3360 ≤ f + length ks → size (resolved S v) < most → (Absent io) v → Tail io story program words objects sp f q y b v
 
   -- The frames of the deepest level are enough for a piece.
-  next_wholes : (most : ℕ) → All most → (f : ℕ) (q : pt) (x : ℕ) (v : Value) (ks : List ℕ) → Shows sh x v → Below sh S ks v → 3360 ≤ f + length ks → size (resolved S v) < suc most → (Absent io) v → Whole io program words objects sp f q x v
+  next_wholes : (most : ℕ) → All most → (f : ℕ) (q : pt) (x : ℕ) (v : Value) (ks : List ℕ) → Shows sh x v → Below sh S ks v → 3360 ≤ f + length ks → size (resolved S v) < suc most → (Absent io) v → Whole io story program words objects sp f q x v
   next_wholes most all zero q x v ks s below few lt absent = let l = levels is S below in absurd (omega arith)
   next_wholes most all (suc f) q x v ks s below few lt absent =
       let deep = levels is S below in
@@ -86,7 +86,7 @@ module _ (io : LookingThrough) (program : CoreProgram) (words objects : ℕ) (sp
       (λ q' x' a ks' sa ba few' less' free'. all.wholes f q' x' a ks' sa ba few' (omega arith) free')
       (λ q' y b a sa ba less' free'. all.tails (suc f) q' y b a ks sa ba few (omega arith) free')
 
-  next_tails : (most : ℕ) → All most → (f : ℕ) (q : pt) (y b : ℕ) (v : Value) (ks : List ℕ) → Shows sh y v → Below sh S ks v → 3360 ≤ f + length ks → size (resolved S v) < suc most → (Absent io) v → Tail io program words objects sp f q y b v
+  next_tails : (most : ℕ) → All most → (f : ℕ) (q : pt) (y b : ℕ) (v : Value) (ks : List ℕ) → Shows sh y v → Below sh S ks v → 3360 ≤ f + length ks → size (resolved S v) < suc most → (Absent io) v → Tail io story program words objects sp f q y b v
   next_tails most all zero q y b v ks s below few lt absent = let l = levels is S below in absurd (omega arith)
   next_tails most all (suc f) q y b v ks s below few lt absent =
       let deep = levels is S below in
@@ -102,7 +102,7 @@ module _ (io : LookingThrough) (program : CoreProgram) (words objects : ℕ) (sp
   all_printed (suc most) = let all = all_printed most in record { wholes = next_wholes most all; tails = next_tails most all }
 
 pub print_works : PrintWorks
-print_works p has program words objects sp memory typed output drawn sh is cells h S st x v s n absent m meets =
+print_works p has story program words objects sp memory typed output drawn sh is cells h kept S st x v s n absent m meets =
     let io : LookingThrough = record { p = p; has = has; sh = sh; is = is; memory = memory; typed = typed; output = output; drawn = drawn; cells = cells; h = h; S = S; st = st; n = n } in
-    let q : Point (g io program words objects sp) = record { memory = memory; cells = cells; holds = h; stands = st; met = m; meets = meets; output = output } in
-    (all_printed io program words objects sp (suc (size (resolved S v)))).wholes 3360 q x v [] s (on_top v) (omega arith) (omega arith) absent
+    let q : Point (g io story program words objects sp) = record { memory = memory; cells = cells; holds = h; kept = kept; stands = st; met = m; meets = meets; output = output } in
+    (all_printed io story program words objects sp (suc (size (resolved S v)))).wholes 3360 q x v [] s (on_top v) (omega arith) (omega arith) absent

@@ -69,11 +69,14 @@ ending_few : (v : Value) → ending v ≤ 4
 ending_few (Var n) = omega arith
 ending_few (Node f vs) = omega arith
 
-module _ (io : LookingThrough) (program : CoreProgram) (words objects : ℕ) (sp : Spells io.p program words objects) where
+module _ (io : LookingThrough) (story : List ℕ) (program : CoreProgram) (words objects : ℕ) (sp : Spells io.p story program words objects) where
   open io use {p, has, sh, is, typed, drawn, S, st, n}
 
+  pub roomy : 600 ≤ p.world.layout.base
+  roomy = let room = has.mapped.room in omega arith
+
   abbrev pub g : Story
-  g = record { p = p; sh = sh; S = S; typed = typed; drawn = drawn }
+  g = record { p = p; story = story; room = roomy; sh = sh; S = S; typed = typed; drawn = drawn }
 
   abbrev pub loc : ℕ → ℕ → List ℕ
   loc a b = a ∷ words ∷ objects ∷ b ∷ []

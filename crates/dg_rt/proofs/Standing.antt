@@ -1,7 +1,7 @@
 -- Where the routines of the run-time stand.
 use Rattle.std.proofs.Common.{◌≡◌, Some, refl}
 use Rattle.z_lang.specs.State.{Program}
-use Rattle.dg_rt.specs.declared.numbers.TheConstants.{WALK, BIND, OCCURS, UNIFY, UNDO, COPY_OUT, COPY_IN, NEWLINE, HEAP_LIMIT, TRAIL_LIMIT, CUT, KEY_OF, NUMBER, FULL, FLAG, SET_FLAG, SEPARATE, FIRST, PRINT_MARK, PRINT_NUMBER, LETTER, PRINT_LETTERS, LIST_KIND, PRINT_PIECE, PRINT_VALUE}
+use Rattle.dg_rt.specs.declared.numbers.TheConstants.{WALK, BIND, OCCURS, UNIFY, UNDO, COPY_OUT, COPY_IN, NEWLINE, HEAP_LIMIT, TRAIL_LIMIT, CUT, KEY_OF, NUMBER, FULL, FLAG, SET_FLAG, SEPARATE, FIRST, PRINT_MARK, PRINT_NUMBER, LETTER, PRINT_LETTERS, LIST_KIND, PRINT_PIECE, PRINT_VALUE, CHARACTER, SPELL}
 use Rattle.dg_rt.specs.declared.unify.TheConstants.{WALK_ACTS, BIND_ACTS, OCCURS_ACTS, UNIFY_ACTS, UNDO_ACTS}
 use Rattle.dg_rt.specs.declared.copies.TheConstants.{COPY_OUT_ACTS, COPY_IN_ACTS}
 use Rattle.dg_rt.specs.declared.closings.TheConstants.{NEWLINE_ACTS, HEAP_LIMIT_ACTS, TRAIL_LIMIT_ACTS}
@@ -12,6 +12,7 @@ use Rattle.dg_rt.specs.declared.world.TheConstants.{FLAG_ACTS, SET_FLAG_ACTS}
 use Rattle.dg_rt.specs.declared.gaps.TheConstants.{SEPARATE_ACTS, FIRST_ACTS}
 use Rattle.dg_rt.specs.declared.pieces.TheConstants.{PRINT_MARK_ACTS, PRINT_NUMBER_ACTS, LETTER_ACTS, PRINT_LETTERS_ACTS}
 use Rattle.dg_rt.specs.declared.printing.TheConstants.{LIST_KIND_ACTS, PRINT_PIECE_ACTS, PRINT_VALUE_ACTS}
+use Rattle.dg_rt.specs.declared.spelling.TheConstants.{CHARACTER_ACTS, SPELL_ACTS}
 use Rattle.dg_rt.specs.RunTime.{routine_of, HasRunTime}
 
 module _ (p : Program) (has : HasRunTime p) where
@@ -89,3 +90,9 @@ module _ (p : Program) (has : HasRunTime p) where
 
   pub print_value_at : p.routine_at (p.names.routine PRINT_VALUE) ≡ Some (routine_of 4 PRINT_VALUE_ACTS)
   print_value_at = has.each 72 (routine_of 4 PRINT_VALUE_ACTS) refl
+
+  pub character_at : p.routine_at (p.names.routine CHARACTER) ≡ Some (routine_of 3 CHARACTER_ACTS)
+  character_at = has.each 83 (routine_of 3 CHARACTER_ACTS) refl
+
+  pub spell_at : p.routine_at (p.names.routine SPELL) ≡ Some (routine_of 3 SPELL_ACTS)
+  spell_at = has.each 84 (routine_of 3 SPELL_ACTS) refl

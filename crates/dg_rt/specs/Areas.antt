@@ -15,6 +15,30 @@ trail_at = 10315
 abbrev pub areas_end : ℕ
 areas_end = 12315
 
+-- Behind the 2,000 words that may be gathered: the first of the 500 words of kept values.
+abbrev pub kept_at : ℕ
+kept_at = 14315
+
+-- A word for each of them: which place it belongs to.
+abbrev pub owners_at : ℕ
+owners_at = 14815
+
+-- The first word of a line that is typed: two bytes, and 256 more.
+abbrev pub line_at : ℕ
+line_at = 15315
+
+-- The letters of a word that is looked for, 200 words.
+abbrev pub letters_at : ℕ
+letters_at = 15444
+
+-- The letters of the word of a program that it is compared with, 301 words.
+abbrev pub spelled_at : ℕ
+spelled_at = 15644
+
+-- The first word behind all that every story has.
+abbrev pub fixed_end : ℕ
+fixed_end = 15945
+
 -- ## Registers, as words
 
 -- How many bindings are on the trail, a reference to the first cell behind the newest mark, and how many cells are taken.
@@ -107,9 +131,9 @@ fill_reg = 39
 
 -- ## What may be written
 
--- The registers, the heap and the trail may be written.
+-- All that every story has may be written.
 pub record IsMapped (p : Program) : Type 0 where
-  pub room : at_cell areas_end ≤ p.world.layout.base
+  pub room : at_cell fixed_end ≤ p.world.layout.base
 
 -- The state of a routine: memory, its locals, and the outside.
 abbrev pub state : List ℕ → List ℕ → List ℕ → ℕ → List ℕ → State

@@ -112,10 +112,10 @@ pub record Commits (p : Program) (f w : ℕ) (memory typed output : List ℕ) (d
   pub runs : Runs p f w COMMIT_ACTS COMMIT_ACTS (state memory (0 ∷ []) typed drawn output) (Returns 0)
       (state memory' (at_place at ∷ []) typed drawn output) count
 
--- So it is wherever there is one.
+-- So it is wherever there is one, also where it has no cells yet.
 abbrev pub CommitWorks : Type 0
 CommitWorks = (p : Program) → HasRunTime p → (f w : ℕ) → 1 ≤ f → 1 ≤ w → (memory typed output : List ℕ) (drawn at : ℕ) →
-    at + 10 ≤ 10000 →
+    at ≤ 10000 →
     (cells : ℕ → ℕ) → Holds p.world.layout memory cells → cells inner_reg ≡ at_place at → (ks : List ℕ) →
     Chain cells (cells choice_reg) ks →
     Commits p f w memory typed output drawn at cells ks

@@ -53,7 +53,7 @@ pub record CopiesIn (p : Program) (story : List ℕ) (area : ℕ → ℕ) (f : �
   pub others : SameBut m.cells m'.cells lo (lo + copy_cells v)
   pub few : count + spent ≤ most
 
--- A copy was laid on top of the heap, and memory stands for it and for what it stood for, in a grown shape.
+-- A copy was laid on top of the heap, and memory stands for it and for what it stood for, in a grown shape, whose new variables and boxes lie there.
 pub record CopiedIn (p : Program) (story : List ℕ) (area : ℕ → ℕ) (typed output : List ℕ) (drawn : ℕ) (m : Reading p story area) (sh : Shape)
     (S : Substitution) (r : ℕ) (v : Value) : Type 0 where
   pub copies : CopiesIn p story area (size v) COPY_IN_ACTS typed output drawn m (0 ∷ 0 ∷ 0 ∷ 0 ∷ 0 ∷ []) r sh.top v 0 (24 * size v + 8 * letters_in v)
@@ -63,6 +63,8 @@ pub record CopiedIn (p : Program) (story : List ℕ) (area : ℕ → ℕ) (typed
   pub grown : Grown sh sh'
   pub shape : IsShape sh'
   pub low : (n : ℕ) → n < sh'.vars → sh'.place n < sh'.top
+  pub new_places : (n : ℕ) → sh.vars ≤ n → n < sh'.vars → sh.top ≤ sh'.place n
+  pub new_boxes : (k : ℕ) (w : Value) → sh'.box k ≡ Some w → k < sh.top → sh.box k ≡ Some w
   pub stands : Stands sh' copies.m'.cells S
   pub shows : Shows sh' (copy_word sh.top v) (copy_from sh.vars v)
 

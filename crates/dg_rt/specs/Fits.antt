@@ -19,6 +19,6 @@ abbrev pub AllFit : Counts → List Routine → Type 0
 AllFit counts [] = Unit {0}
 AllFit counts (r ∷ rs) = IsFit counts r × AllFit counts rs
 
--- So it is with those of the run-time, in a story that has them, a routine to begin with, and a table.
+-- So it is with those of the run-time, in a story that has them, a routine to begin with, and two tables.
 abbrev pub RuntimeFits : Type 0
-RuntimeFits = (counts : Counts) → 1 + length runtime ≤ counts.routines → 1 ≤ counts.tables → AllFit counts runtime
+RuntimeFits = (counts : Counts) → 1 + length runtime ≤ counts.routines → 2 ≤ counts.tables → AllFit counts runtime

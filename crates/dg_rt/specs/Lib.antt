@@ -20,10 +20,17 @@ pub mod Conditions
 pub mod Arithmetic
 pub mod Tables
 pub mod Changes
+pub mod Tries
 pub mod Gaps
 pub mod Pieces
 pub mod Prints
+pub mod Words
 pub mod Spaces
 pub mod Moves
+pub mod Kept
+pub mod Gatherings
+pub mod Picks
+pub mod Dictionary
+pub mod Typing
 pub mod Fits
 pub mod inside

@@ -11,6 +11,7 @@ use Rattle.z_model.specs.Flow.{zeros}
 use Rattle.z_lang.specs.declared.act.Act.{Act}
 use Rattle.z_lang.specs.State.{Program}
 use Rattle.z_lang.specs.Runs.{ActsRun as Runs, Returns}
+use Rattle.z_lang.specs.Standing.{IsKept}
 use Rattle.dg_rt.specs.declared.printing.TheConstants.{PRINT_VALUE_ACTS}
 use Rattle.dg_rt.specs.Cells.{Holds}
 use Rattle.dg_rt.specs.Areas.{last_reg, lines_reg, spaces_reg, asked_reg, upper_reg, state}
@@ -42,30 +43,30 @@ pub record PrintsPieces (p : Program) (f w : ℕ) (body acts : List Act) (memory
 
 -- ## What a program spells
 
--- The routine at an address prints each of so many pieces by its number, in 20 instructions a character, 3 a space in front of it, and 100; it may have
--- locals beside that of the number.
-pub record SpellsBy (p : Program) (x many : ℕ) (text : ℕ → List ℕ) : Type 0 where
+-- The routine at an address prints each of so many pieces by its number, in 20 instructions a character, 3 a space in front of it, and 100, where memory is
+-- the story's from its static part on; it may have locals beside that of the number.
+pub record SpellsBy (p : Program) (story : List ℕ) (x many : ℕ) (text : ℕ → List ℕ) : Type 0 where
   pub body : List Act
   pub more : ℕ
   pub few : more ≤ 14
   pub there : p.routine_at x ≡ Some (routine_of (suc more) body)
-  pub prints : (memory typed output : List ℕ) (drawn n : ℕ) (cells : ℕ → ℕ) → Holds p.world.layout memory cells → n < many → (m : Met) →
-      Meets cells m → PrintsPiece p 20 80 body memory (n ∷ take more (0 ∷ 0 ∷ zeros)) typed output drawn cells m (text n)
-      (20 * characters (text n) + 100)
+  pub prints : (memory typed output : List ℕ) (drawn n : ℕ) (cells : ℕ → ℕ) → Holds p.world.layout memory cells →
+      IsKept p.world.layout.base story memory → n < many → (m : Met) → Meets cells m →
+      PrintsPiece p 20 80 body memory (n ∷ take more (0 ∷ 0 ∷ zeros)) typed output drawn cells m (text n) (20 * characters (text n) + 100)
 
 -- One prints the words of a program by their spelling, and one its objects by their names.
-pub record Spells (p : Program) (program : CoreProgram) (words objects : ℕ) : Type 0 where
-  pub words_are : SpellsBy p words 8192 (λ n. label_piece program (Word n))
-  pub objects_are : SpellsBy p objects 4096 (λ n. label_piece program (Object n))
+pub record Spells (p : Program) (story : List ℕ) (program : CoreProgram) (words objects : ℕ) : Type 0 where
+  pub words_are : SpellsBy p story words 8192 (λ n. label_piece program (Word n))
+  pub objects_are : SpellsBy p story objects 4096 (λ n. label_piece program (Object n))
 
 -- ## Values
 
 -- A value is printed, resolved: its pieces, in 200 instructions for each node and link of it beside those for characters, with a frame and 4 words a
 -- level. The variable n, which isn't in the value, is the one for which a test of containment would look at all of it.
 abbrev pub PrintWorks : Type 0
-PrintWorks = (p : Program) → HasRunTime p → (program : CoreProgram) (words objects : ℕ) → Spells p program words objects →
+PrintWorks = (p : Program) → HasRunTime p → (story : List ℕ) (program : CoreProgram) (words objects : ℕ) → Spells p story program words objects →
     (memory typed output : List ℕ) (drawn : ℕ) (sh : Shape) → IsShape sh → (cells : ℕ → ℕ) → Holds p.world.layout memory cells →
-    (S : Substitution) → Stands sh cells S → (x : ℕ) (v : Value) → Shows sh x v → (n : ℕ) → contains n (resolved S v) ≡ false →
-    (m : Met) → Meets cells m →
+    IsKept p.world.layout.base story memory → (S : Substitution) → Stands sh cells S → (x : ℕ) (v : Value) → Shows sh x v → (n : ℕ) →
+    contains n (resolved S v) ≡ false → (m : Met) → Meets cells m →
     PrintsPieces p 3360 13440 PRINT_VALUE_ACTS PRINT_VALUE_ACTS memory (x ∷ words ∷ objects ∷ 0 ∷ []) typed output drawn cells m
     (pieces program (resolved S v)) (200 * looks S n v)

@@ -21,6 +21,14 @@ use Rattle.dg_rt.specs.declared.keeping.TheConstants.{MOVE_ACTS, CELLS_ACTS}
 use Rattle.dg_rt.specs.declared.conditions.TheConstants.{IF_NUMBER_ACTS, IF_WORD_ACTS, IF_UNKNOWN_ACTS, IF_LIST_ACTS, IF_EMPTY_ACTS, IF_NON_EMPTY_ACTS, IF_BOUND_ACTS, IF_FULL_ACTS, IF_UNBOUND_ACTS, IF_LESS_ACTS}
 use Rattle.dg_rt.specs.declared.arithmetic.TheConstants.{PLUS_ACTS, MINUS_ACTS, TIMES_ACTS, DIVIDE_ACTS, MODULO_ACTS, THROW_ACTS}
 use Rattle.dg_rt.specs.declared.changes.TheConstants.{THERE_ACTS, SET_VALUE_ACTS, SET_PARENT_ACTS, CLEAR_VALUE_ACTS, RAISE_FLAG_ACTS, LOWER_FLAG_ACTS, IF_RAISED_ACTS, IF_SET_ACTS, READ_VALUE_ACTS, PUT_ACTS}
+use Rattle.dg_rt.specs.declared.spelling.TheConstants.{CHARACTER_ACTS, SPELL_ACTS}
+use Rattle.dg_rt.specs.declared.closures.TheConstants.{CLOSURE_ACTS, IF_BODY_ACTS, ENTER_BODY_ACTS}
+use Rattle.dg_rt.specs.declared.tries.TheConstants.{SEEK_ACTS, SOUGHT_ACTS, IF_OBJECT_ACTS, TRY_ACTS, LOOK_VALUE_ACTS, LOOK_FLAG_ACTS, LAND_ACTS}
+use Rattle.dg_rt.specs.declared.kept.TheConstants.{DROP_KEPT_ACTS, KEEP_ACTS, CLEAR_KEPT_ACTS, READ_KEPT_ACTS}
+use Rattle.dg_rt.specs.declared.gathering.TheConstants.{OPEN_GATHERING_ACTS, KEEP_VALUE_ACTS, COUNT_VALUES_ACTS, TAKE_LIST_ACTS, TAKE_SUM_ACTS}
+use Rattle.dg_rt.specs.declared.picks.TheConstants.{PICK_STOPPING_ACTS, PICK_CYCLING_ACTS, PICK_PURELY_ACTS, PICK_AT_RANDOM_ACTS, PICK_THEN_AT_RANDOM_ACTS, PICK_THEN_PURELY_ACTS}
+use Rattle.dg_rt.specs.declared.dictionary.TheConstants.{WORD_LETTER_ACTS, NEXT_LETTER_ACTS, SAME_WORD_ACTS, FIND_WORD_ACTS}
+use Rattle.dg_rt.specs.declared.typing.TheConstants.{UNICODE_ACTS, READ_LINE_ACTS, SPELLED_NUMBER_ACTS, SPELLED_ACTS, LETTER_KIND_ACTS, ELEMENT_ACTS, LINE_CELLS_ACTS, WRITTEN_VALUE_ACTS, BREAK_LINE_ACTS}
 use Rattle.dg_rt.specs.Areas.{IsMapped}
 
 -- A routine of so many locals.
@@ -111,12 +119,55 @@ change_routines =
 abbrev pub reading_routines : List Routine
 reading_routines = routine_of 3 IF_RAISED_ACTS ∷ routine_of 2 IF_SET_ACTS ∷ routine_of 2 READ_VALUE_ACTS ∷ []
 
+-- Those that spell words.
+abbrev pub spelling_routines : List Routine
+spelling_routines = routine_of 3 CHARACTER_ACTS ∷ routine_of 3 SPELL_ACTS ∷ []
+
+-- Those of closures and their bodies.
+abbrev pub closure_routines : List Routine
+closure_routines = routine_of 3 CLOSURE_ACTS ∷ routine_of 3 IF_BODY_ACTS ∷ routine_of 0 ENTER_BODY_ACTS ∷ []
+
+-- Those that try objects.
+abbrev pub trying_routines : List Routine
+trying_routines =
+    routine_of 3 SEEK_ACTS ∷ routine_of 2 SOUGHT_ACTS ∷ routine_of 2 IF_OBJECT_ACTS ∷ routine_of 2 TRY_ACTS ∷ routine_of 1 LOOK_VALUE_ACTS
+    ∷ routine_of 1 LOOK_FLAG_ACTS ∷ routine_of 1 LAND_ACTS ∷ []
+
+-- Those of global variables.
+abbrev pub kept_routines : List Routine
+kept_routines = routine_of 4 DROP_KEPT_ACTS ∷ routine_of 4 KEEP_ACTS ∷ routine_of 3 CLEAR_KEPT_ACTS ∷ routine_of 3 READ_KEPT_ACTS ∷ []
+
+-- Those of what is gathered.
+abbrev pub gathering_routines : List Routine
+gathering_routines =
+    routine_of 2 OPEN_GATHERING_ACTS ∷ routine_of 2 KEEP_VALUE_ACTS ∷ routine_of 4 COUNT_VALUES_ACTS ∷ routine_of 5 TAKE_LIST_ACTS ∷ routine_of 4 TAKE_SUM_ACTS
+    ∷ []
+
+-- Those that choose a branch.
+abbrev pub pick_routines : List Routine
+pick_routines =
+    routine_of 4 PICK_STOPPING_ACTS ∷ routine_of 4 PICK_CYCLING_ACTS ∷ routine_of 4 PICK_PURELY_ACTS ∷ routine_of 4 PICK_AT_RANDOM_ACTS
+    ∷ routine_of 4 PICK_THEN_AT_RANDOM_ACTS ∷ routine_of 4 PICK_THEN_PURELY_ACTS ∷ []
+
+-- Those that find words by their letters.
+abbrev pub dictionary_routines : List Routine
+dictionary_routines =
+    routine_of 3 WORD_LETTER_ACTS ∷ routine_of 2 NEXT_LETTER_ACTS ∷ routine_of 6 SAME_WORD_ACTS ∷ routine_of 4 FIND_WORD_ACTS ∷ []
+
+-- Those of typed lines.
+abbrev pub typing_routines : List Routine
+typing_routines =
+    routine_of 1 UNICODE_ACTS ∷ routine_of 4 READ_LINE_ACTS ∷ routine_of 4 SPELLED_NUMBER_ACTS ∷ routine_of 4 SPELLED_ACTS
+    ∷ routine_of 1 LETTER_KIND_ACTS ∷ routine_of 3 ELEMENT_ACTS ∷ routine_of 5 LINE_CELLS_ACTS ∷ routine_of 2 WRITTEN_VALUE_ACTS
+    ∷ routine_of 0 BREAK_LINE_ACTS ∷ []
+
 -- All of them. The first has number 1, since a story begins with routine 0.
 abbrev pub runtime : List Routine
 runtime =
-    value_routines ++ (closing_routines ++ (frame_routines ++ (rule_routines ++ (query_routines ++ (operand_routines
-    ++ (world_routines ++ (printing_routines ++ (keeping_routines ++ (letter_routines ++ (space_routines
-    ++ (condition_routines ++ (arithmetic_routines ++ (value_printing_routines ++ (change_routines ++ reading_routines))))))))))))))
+    value_routines ++ (closing_routines ++ (frame_routines ++ (rule_routines ++ (query_routines ++ (operand_routines ++ (world_routines
+    ++ (printing_routines ++ (keeping_routines ++ (letter_routines ++ (space_routines ++ (condition_routines ++ (arithmetic_routines
+    ++ (value_printing_routines ++ (change_routines ++ (reading_routines ++ (spelling_routines ++ (closure_routines ++ (trying_routines
+    ++ (kept_routines ++ (gathering_routines ++ (pick_routines ++ (dictionary_routines ++ (typing_routines)))))))))))))))))))))))
 
 -- The run-time stands in a program: its areas may be written, and each routine has its number.
 pub record HasRunTime (p : Program) : Type 0 where

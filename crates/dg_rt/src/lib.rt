@@ -6,21 +6,30 @@ pub mod arithmetic;
 pub mod changes;
 mod choices;
 mod closings;
+pub mod closures;
 pub mod conditions;
 mod copies;
+mod dictionary;
 mod frames;
-mod gaps;
+pub mod gaps;
+pub mod gathering;
+mod goals;
 mod heap;
 mod keeping;
+pub mod kept;
 mod laws;
 pub mod numbers;
 mod operands;
+pub mod picks;
 mod pieces;
 pub mod printing;
 mod queries;
 pub mod registers;
 mod routines;
 mod rules;
+pub mod spelling;
+pub mod tries;
+mod typing;
 mod unify;
 mod words;
 pub mod world;
@@ -32,7 +41,10 @@ pub use closings::{
 };
 pub use copies::{COPY_IN_ACTS, COPY_OUT_ACTS};
 pub use frames::{CAPTURE_ACTS, ENTER_ACTS, VAR_ACTS};
-pub use gaps::{ASK_SPACES_ACTS, FIRST_ACTS, SEPARATE_ACTS};
+pub use goals::{
+    break_works, gather_works, keep_works, kept_work, line_cells_work, lines_work, list_works,
+    picks_work, sum_works, tries_work, words_work, written_works,
+};
 pub use heap::CHARGE_ACTS;
 pub use keeping::{CELLS_ACTS, MOVE_ACTS};
 pub use laws::{

@@ -248,3 +248,123 @@ pub const IF_SET: u16 = 82;
 
 /// What is set of an object.
 pub const READ_VALUE: u16 = 83;
+
+/// The character whose bytes stand at an address.
+pub const CHARACTER: u16 = 84;
+
+/// Prints a word of the program as a piece.
+pub const SPELL: u16 = 85;
+
+/// Begins the box of a closure.
+pub const CLOSURE: u16 = 86;
+
+/// Goes on where the body of a closure is entered, and else fails.
+pub const IF_BODY: u16 = 87;
+
+/// Enters that body.
+pub const ENTER_BODY: u16 = 88;
+
+/// Whether a query of objects goes on at once, or tries them one by one.
+pub const SEEK: u16 = 89;
+
+/// Behind a value that was sought.
+pub const SOUGHT: u16 = 90;
+
+/// Goes on where a value is an object, and else fails.
+pub const IF_OBJECT: u16 = 91;
+
+/// Tries an object.
+pub const TRY: u16 = 92;
+
+/// What is set of the object that is tried.
+pub const LOOK_VALUE: u16 = 93;
+
+/// Whether its flag is set.
+pub const LOOK_FLAG: u16 = 94;
+
+/// Goes on with the object that was tried.
+pub const LAND: u16 = 95;
+
+/// Drops the value of a global variable.
+pub const DROP_KEPT: u16 = 96;
+
+/// Sets it.
+pub const KEEP: u16 = 97;
+
+/// Clears it.
+pub const CLEAR_KEPT: u16 = 98;
+
+/// Reads it.
+pub const READ_KEPT: u16 = 99;
+
+/// Opens a gathering.
+pub const OPEN_GATHERING: u16 = 100;
+
+/// Gathers a value.
+pub const KEEP_VALUE: u16 = 101;
+
+/// How many values there are in a row.
+pub const COUNT_VALUES: u16 = 102;
+
+/// What was gathered, as a list.
+pub const TAKE_LIST: u16 = 103;
+
+/// What was gathered, as a sum.
+pub const TAKE_SUM: u16 = 104;
+
+/// Chooses a branch of a select: one after another, and then the last.
+pub const PICK_STOPPING: u16 = 105;
+
+/// One after another, in a circle.
+pub const PICK_CYCLING: u16 = 106;
+
+/// Any.
+pub const PICK_PURELY: u16 = 107;
+
+/// Any other than the last.
+pub const PICK_AT_RANDOM: u16 = 108;
+
+/// One after another, and then any other than the last.
+pub const PICK_THEN_AT_RANDOM: u16 = 109;
+
+/// One after another, and then any.
+pub const PICK_THEN_PURELY: u16 = 110;
+
+/// The character that begins at a place of the spellings.
+pub const WORD_LETTER: u16 = 111;
+
+/// The place behind it.
+pub const NEXT_LETTER: u16 = 112;
+
+/// Whether letters spell a word of the program.
+pub const SAME_WORD: u16 = 113;
+
+/// The first word that letters spell.
+pub const FIND_WORD: u16 = 114;
+
+/// The letter of a code.
+pub const UNICODE: u16 = 115;
+
+/// Reads a typed line.
+pub const READ_LINE: u16 = 116;
+
+/// The number that letters write.
+pub const SPELLED_NUMBER: u16 = 117;
+
+/// Writes the cells of what letters spell.
+pub const SPELLED: u16 = 118;
+
+/// What a letter is.
+pub const LETTER_KIND: u16 = 119;
+
+/// Writes the cells of an element of a list.
+pub const ELEMENT: u16 = 120;
+
+/// Writes the cells of the list that letters spell.
+pub const LINE_CELLS: u16 = 121;
+
+/// Lays the value on the heap whose cells have been written.
+pub const WRITTEN_VALUE: u16 = 122;
+
+/// What a line that was read leaves of the gap before the next piece.
+pub const BREAK_LINE: u16 = 123;

@@ -1,5 +1,8 @@
 // The registers of a story: global variables of the machine.
 
+/// The routine that comes next.
+pub const NEXT: u8 = 16;
+
 /// How many bindings are on the trail.
 pub const TRAIL: u8 = 17;
 
@@ -42,6 +45,9 @@ pub const CLASH: u8 = 29;
 /// The word of a box that begins with the cells that were taken last.
 pub const TERM: u8 = 30;
 
+/// The closure that is called, in front of its argument.
+pub const CALLED: u8 = 31;
+
 /// The first argument of a query; eleven more follow.
 pub const ARGS: u8 = 32;
 
@@ -74,3 +80,12 @@ pub const FROM: u8 = 54;
 
 /// The place in front of which a copy is laid.
 pub const FILL: u8 = 55;
+
+/// The word of a body's parameter.
+pub const PARAMETER: u8 = 64;
+
+/// How many variables of its own the body of a closure has that is entered.
+pub const OWN: u8 = 65;
+
+/// The routine with which it goes on.
+pub const ENTERED: u8 = 66;

@@ -114,3 +114,12 @@ pub const COPIED_PAIR: u16 = 28_673;
 
 /// The word of a copied variable. That of an unknown word is 1 more and the number of its letters, which follow.
 pub const COPIED_VARIABLE: u16 = 32_768;
+
+/// The first word of kept values, and the first behind them, by their addresses; a word for each of them follows.
+pub const KEPT: u16 = 28_694;
+
+/// The first word behind kept values.
+pub const KEPT_END: u16 = 29_694;
+
+/// How many words may be kept.
+pub const KEPT_WORDS: u16 = 500;
