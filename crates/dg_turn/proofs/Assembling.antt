@@ -11,7 +11,7 @@ use Rattle.dg_base.specs.declared.program.Term.TheBlock.{hidden-the_row-Term-0}
 use Rattle.dg_base.specs.declared.program.Term.TheOpen as term
 use Rattle.dg_base.specs.declared.program.Term.TheVariants.{Pair as Pair-Term, outs-Pair}
 use Rattle.dg_base.specs.Terms.{nodes}
-use Rattle.dg_meaning.specs.Cells.{captured_count, node_cells, nodes_of, cells as cells_of}
+use Rattle.dg_meaning.specs.Cells.{node_cells, nodes_of, cells as cells_of}
 use Rattle.dg_meaning.specs.ValueCells.{count_of}
 use Rattle.dg_meaning.specs.Values.{Closure, Value, Values, Node, node_parts, pair, value_of, value_of_leaf, value_of_var, captured_values}
 use Rattle.dg_mid.proofs.FlatLemmas.{nodes_are, pair_is}
@@ -20,10 +20,11 @@ use Rattle.dg_rt.specs.Shapes.{Shape, Cell, Shows, boxed, pair_in, closure_in, A
 use Rattle.dg_rt.specs.Back.{Grown}
 use Rattle.dg_rt.specs.Frames.{HoldVars}
 use Rattle.dg_rt.proofs.Grows.{grown_shows}
+use Rattle.dg_turn.specs.Told.{told_count}
 use Rattle.dg_turn.specs.Terms.{captured_of, IsNode, AreNodes}
 use Rattle.dg_turn.proofs.Rows.{InRegisters}
 use Rattle.dg_turn.proofs.Writing.{WordOf}
-use Rattle.dg_turn.proofs.Nodes.{AllAt, size, count_is, Written, AreWords, pair_count, pairs}
+use Rattle.dg_turn.proofs.Nodes.{AllAt, size, count_is, told_is, Written, AreWords, pair_count, pairs}
 
 -- ## Lists of nodes
 
@@ -195,7 +196,7 @@ parts_are : (env : List Value) (o : Option ClosureBody) → captured_values env 
 parts_are env None = refl
 parts_are env (Some body) = refl
 
-module _ (program : CoreProgram) (sh sh' : Shape) (g : Grown sh sh') (told : (place : ℕ) → sh'.captures place ≡ captured_count (slice_get program.closures place)) (env : List Value) (c : ℕ → ℕ) (total : ℕ) (few : sh.top + total ≤ 10000) (cell_at : (i : ℕ) → i < total → Cell sh' (sh.top + i) (c (heap_at + (sh.top + i)))) where
+module _ (program : CoreProgram) (sh sh' : Shape) (g : Grown sh sh') (told : (place : ℕ) → sh'.captures place ≡ told_count program place) (env : List Value) (c : ℕ → ℕ) (total : ℕ) (few : sh.top + total ≤ 10000) (cell_at : (i : ℕ) → i < total → Cell sh' (sh.top + i) (c (heap_at + (sh.top + i)))) where
   -- A node is written, and its cells are a box.
   abbrev pub LiesAs : ℕ → Value → term.Term-F Term → Type 0
   LiesAs o v y = (Written program sh env c o y × IsBox sh'.box (sh.top + o) v y) × (IsNode program y × (o + node_cells program y ≤ total))
@@ -249,10 +250,11 @@ module _ (program : CoreProgram) (sh sh' : Shape) (g : Grown sh sh') (told : (pl
       let one : Cell sh' (k + 1) (count_of parts) = subst (λ (y : ℕ). Cell sh' (k + 1) y) (written.1 ∙ sym many) second in
       let all : AllShow sh' (k + 3) parts = all_captured (o + 3) (k + 3) vs (omega arith) (omega arith) written.2 in
       let there : w ≡ 49152 + k = omega arith in
-      let few_captured = fits.1 in
+      let there_is = fits.3 in
+      let same = told_is body there_is in
       subst (Shows sh' w) (sym v)
       (subst (λ (y : ℕ). Shows sh' y (Node (Closure place) parts)) (sym there)
-      (boxed k (1 + place) (omega arith) (box ∙ ap Some v) header (closure_in k place fits.0 (many ∙ sym count ∙ sym n) (omega arith) one all)))
+      (boxed k (1 + place) (omega arith) (box ∙ ap Some v) header (closure_in k place fits.0 (many ∙ sym count ∙ sym same ∙ sym n) (omega arith) one all)))
 
   -- The word of a term stands for its value, where its nodes lie there.
   pub shown : (n : ℕ) (x : Term) (y : term.Term-F Term) → out-Term x ≡ y → length (nodes_of (x ∷ [])) ≤ n → (o : ℕ) → AllAt program Lies o (nodes_of (x ∷ [])) → (w : ℕ) → WordOf program sh env o w y → Shows sh' w (value_of program env x)

@@ -95,5 +95,6 @@ choices_left t {sh} {cells} {trail} is opens w at few back boxes high names word
       gather_is = h.gather_is ∙ ap newest (sym same);
       stops = subst (λ (l : List ℕ). StopsIn t h.saved.sh h.saved.cells h.saved.trail l c.stops) (sym same) h.stops;
       apart = h.apart;
+      fewer = h.fewer;
       older_are = subst (λ (l : List ℕ). ChoicesIn t h.saved.sh h.saved.cells h.saved.trail l h.behind cs) (sym same) h.older_are;
     }

@@ -48,7 +48,7 @@ module _ (t : Telling) (plays : Playing t) (out : Outside) (gathers : ℕ) (smal
         let k = opening in
         let c = r.cells in
         let heap_is = r.mid.state.heap in
-        opened_in t r.sh c k.cells' r.trail m (Goes block) 0 (t.p.names.routine o.alt) 0 gathers 0 [] r.mid (omega arith) refl refl o.alt_is (k.heap ∙ omega arith) k.choice k.mark k.row (λ j n0 n2 n3 n5 mid' far. k.others j n3 n5 n2 (λ low. (let q : trail_at ≤ j = far low in omega arith)))
+        opened_in t r.sh c k.cells' r.trail m (Goes block) 0 (t.p.names.routine o.alt) 0 gathers 0 [] r.mid (omega arith) refl refl o.alt_is tt (k.heap ∙ omega arith) k.choice k.mark k.row (λ j n0 n2 n3 n5 mid' far. k.others j n3 n5 n2 (λ low. (let q : trail_at ≤ j = far low in omega arith)))
 
 module _ (t : Telling) (plays : Playing t) (out : Outside) (block behind : ℕ) (m : Mid) (z : ZState) where
   branch : (o : OpensAt t out branch_routine block behind m z) → m.state.heap + 10 ≤ 10000 → Comes t out (t.p.names.routine behind) (inside (Goes block) 0 m) 30 z

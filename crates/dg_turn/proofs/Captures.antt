@@ -18,7 +18,7 @@ all_low : {sh : Shape} {k : ℕ} {vs : Values} → sh.top ≤ 10000 → k ≤ 10
 all_low top low (no_more k) = omega arith
 all_low top low (one_more k x at s a) = let lt = at.fixed.0 in let rest = all_low top (omega arith) a in omega arith
 
-closure_box : {sh : Shape} {w place : ℕ} {vs : Values} → sh.top ≤ 10000 → Shows sh w (Node (Closure place) vs) → ClosureIn sh w (values_of vs)
+pub closure_box : {sh : Shape} {w place : ℕ} {vs : Values} → sh.top ≤ 10000 → Shows sh w (Node (Closure place) vs) → ClosureIn sh w (values_of vs)
 closure_box {sh} {vs = vs} top (boxed k header lt box at (closure_in _ place small told few one all)) =
     let size = count_is vs in
     let low = all_low top (omega arith) all in

@@ -7,24 +7,26 @@ use Rattle.z_lang.specs.declared.act.Act.{Act}
 use Rattle.z_lang.specs.declared.act.Act.TheVariants as acts
 use Rattle.z_lang.specs.declared.act.Atom.TheVariants as atoms
 use Rattle.z_lang.specs.declared.act.Function.TheVariants as functions
+use Rattle.z_lang.specs.declared.act.Width.TheVariants as widths
 use Rattle.z_lang.specs.State.{State}
-use Rattle.z_lang.specs.Runs.{ActsRun, ActsOutcome, done, calls}
+use Rattle.z_lang.specs.Runs.{ActsRun, ActsOutcome, Returns, done, calls, returns}
+use Rattle.dg_rt.specs.declared.closures.TheConstants.{CLOSURE_ACTS}
 use Rattle.dg_rt.specs.inside.Walks.{steps}
 use Rattle.dg_rt.specs.Cells.{with_cell, replaced}
 use Rattle.dg_rt.specs.Areas.{heap_at, state}
 use Rattle.dg_rt.specs.Shapes.{Shape, Shows}
 use Rattle.dg_rt.specs.RunTime.{HasRunTime}
 use Rattle.dg_rt.specs.Frames.{six_numbers, HoldVars}
-use Rattle.dg_rt.proofs.Cells.{other_cell, same_cell}
-use Rattle.dg_rt.proofs.Following.{word as word_is, computes, register, puts}
+use Rattle.dg_rt.proofs.Cells.{other_cell, same_cell, writes_cell}
+use Rattle.dg_rt.proofs.Following.{word as word_is, computes, writes, register, puts, local_1, local_2, local_3}
 use Rattle.dg_rt.proofs.Locals.{adds}
 use Rattle.dg_rt.proofs.UnifySteps.{steps_are}
 use Rattle.dg_rt.proofs.Capturing.{capture_works}
 use Rattle.dg_turn.specs.Told.{Telling}
 use Rattle.dg_turn.specs.Lies.{MidIn}
-use Rattle.dg_turn.specs.Terms.{cell_act, two_numbers, capture_acts, captures_for, closure_acts, AreCaptured}
+use Rattle.dg_turn.specs.Terms.{two_numbers, capture_acts, captures_for, closure_acts, AreCaptured}
 use Rattle.dg_turn.proofs.Kept.{KeptBut, kept_then, kept_wider, beyond_kept}
-use Rattle.dg_turn.proofs.Standing.{capture_at}
+use Rattle.dg_turn.proofs.Standing.{capture_at, closure_at}
 use Rattle.dg_turn.proofs.Writing.{Begun, still, env_at, put_cell, begun_word}
 
 -- ## Six numbers
@@ -166,7 +168,7 @@ module _ (t : Telling) {outer : ℕ → ℕ} (has : HasRunTime t.p) (f w : ℕ) 
     pub kept : KeptBut (sh.top + o) (3 + length vs + 5) c cells'
     pub written : ClosureWritten cells' (sh.top + o) place vs
     pub count : ℕ
-    pub few : count ≤ 3 + 54 * captures_for (length vs)
+    pub few : count ≤ 5 + 54 * captures_for (length vs)
     pub runs : (out : ActsOutcome) (s' : State) (k : ℕ) → ActsRun t.p f w body rest (now memory') out s' k → ActsRun t.p f w body all (now memory) out s' (steps count k)
 
   pub closure : (body rest : List Act) (o place : ℕ) (vs : List ℕ) (memory : List ℕ) (c : ℕ → ℕ) → Here memory c → o + (3 + length vs) ≤ total → place < 16384 → length vs ≤ 64 → AreCaptured vs → Closed body rest (closure_acts o place vs ++ rest) o place vs memory c
@@ -177,45 +179,54 @@ module _ (t : Telling) {outer : ℕ → ℕ} (has : HasRunTime t.p) (f w : ℕ) 
       let at = sh.top + o in
       let k0 = heap_at + (sh.top + o) in
       let k1 = heap_at + (sh.top + (o + 1)) in
-      let last = capture_acts n vs ++ rest in
-      let box = acts.Compute 52 functions.Add (atoms.Var 30) (atoms.Num o) ∷ last in
-      let second = cell_act (o + 1) (atoms.Num count) ∷ box in
-      let m1 = with_cell memory k0 (1 + place) in
-      let c1 = replaced c k0 (1 + place) in
-      let first = put_cell t has f w frames_left words_left sh typed output drawn trail m start mid total room body second o (atoms.Num (1 + place)) (1 + place) memory c b (omega arith) (omega arith) refl in
-      let m2 = with_cell m1 k1 count in
-      let c2 = replaced c1 k1 count in
-      let next = put_cell t has f w frames_left words_left sh typed output drawn trail m start mid total room body box (o + 1) (atoms.Num count) count m1 c1 first.begun (omega arith) (omega arith) refl in
       let y = 49152 + at in
-      let m3 = with_cell m2 36 y in
-      let c3 = replaced c2 36 y in
-      let b3 = begun_word t has f w frames_left words_left sh typed output drawn trail m start mid total room m2 c2 y next.begun (omega arith) in
-      let put = puts t.p (now m2) c2 52 y next.begun.holds (omega arith) (omega arith) (omega arith) (omega arith) in
-      let named : c2 14 ≡ 49152 + sh.top = next.begun.at (omega arith) in
+      let m1 = with_cell memory 36 y in
+      let c1 = replaced c 36 y in
+      let b1 = begun_word t has f w frames_left words_left sh typed output drawn trail m start mid total room memory c y b (omega arith) in
+      let m2 = with_cell m1 k0 (1 + place) in
+      let c2 = replaced c1 k0 (1 + place) in
+      let b2 = (put_cell t has f w frames_left words_left sh typed output drawn trail m start mid total room [] [] o (atoms.Num (1 + place)) (1 + place) m1 c1 b1 (omega arith) (omega arith) refl).begun in
+      let m3 = with_cell m2 k1 count in
+      let c3 = replaced c2 k1 count in
+      let b3 = (put_cell t has f w frames_left words_left sh typed output drawn trail m start mid total room [] [] (o + 1) (atoms.Num count) count m2 c2 b2 (omega arith) (omega arith) refl).begun in
+      let inner : List ℕ → State = λ mem. state mem (o ∷ (1 + place) ∷ count ∷ []) typed drawn output in
+      let put = puts t.p (inner memory) c 52 y b.holds (omega arith) (omega arith) (omega arith) (omega arith) in
+      let named : c 14 ≡ 49152 + sh.top = b.at (omega arith) in
+      let box1 : c1 36 ≡ y = same_cell c 36 y in
+      let box2 : c2 36 ≡ y = other_cell c1 k0 (1 + place) 36 (λ e. (omega arith)) ∙ box1 in
+      let box3 : c3 36 ≡ y = other_cell c2 k1 count 36 (λ e. (omega arith)) ∙ box2 in
+      let begins : ActsRun t.p 0 0 CLOSURE_ACTS CLOSURE_ACTS (inner memory) (Returns 0) (inner m3) 4 =
+      done (computes t.p (inner memory) (inner m1) 52 functions.Add (atoms.Var 30) (atoms.Var 1) (49152 + sh.top) o y (register t.p (inner memory) c 30 b.holds (omega arith) (omega arith) (omega arith) ∙ ap word_is named) (local_1 t.p memory o ((1 + place) ∷ count ∷ []) typed drawn output) (adds t.p memory (49152 + sh.top) o y (omega arith) (omega arith)) put.put_is)
+      (done (writes t.p (inner m1) widths.Word (atoms.Num 33438) (atoms.Var 52) (atoms.Var 2) 33438 y (1 + place) m2 refl (register t.p (inner m1) c1 52 b1.holds (omega arith) (omega arith) (omega arith) ∙ ap word_is box1) (local_2 t.p m1 o (1 + place) (count ∷ []) typed drawn output) (writes_cell t.p.world.layout m1 c1 33438 y (1 + place) k0 b1.holds (omega arith) (omega arith)))
+      (done (writes t.p (inner m2) widths.Word (atoms.Num 33440) (atoms.Var 52) (atoms.Var 3) 33440 y count m3 refl (register t.p (inner m2) c2 52 b2.holds (omega arith) (omega arith) (omega arith) ∙ ap word_is box2) (local_3 t.p m2 o (1 + place) count [] typed drawn output) (writes_cell t.p.world.layout m2 c2 33440 y count k1 b2.holds (omega arith) (omega arith)))
+      (returns refl))) in
       let many : 6 * n ≤ count + 5 = omega arith in
       let all : count ≤ 6 * n = omega arith in
-      let r = captures body rest n vs at m3 c3 b3 (same_cell c2 36 y) (omega arith) (omega arith) are all in
+      let r = captures body rest n vs at m3 c3 b3 box3 (omega arith) (omega arith) are all in
       let at0 : at + 0 ≡ sh.top + o = omega arith in
       let at1 : at + 1 ≡ sh.top + (o + 1) = omega arith in
-      let zero_there : r.cells' k0 ≡ 1 + place = r.kept k0 (λ e. (omega arith)) (λ q. (omega arith)) ∙ other_cell c2 36 y k0 (λ e. (omega arith)) ∙ other_cell c1 k1 count k0 (λ e. (omega arith)) ∙ same_cell c k0 (1 + place) in
-      let one_there : r.cells' k1 ≡ count = r.kept k1 (λ e. (omega arith)) (λ q. (omega arith)) ∙ other_cell c2 36 y k1 (λ e. (omega arith)) ∙ same_cell c1 k1 count in
+      let zero_there : r.cells' k0 ≡ 1 + place = r.kept k0 (λ e. (omega arith)) (λ q. (omega arith)) ∙ other_cell c2 k1 count k0 (λ e. (omega arith)) ∙ same_cell c1 k0 (1 + place) in
+      let one_there : r.cells' k1 ≡ count = r.kept k1 (λ e. (omega arith)) (λ q. (omega arith)) ∙ same_cell c2 k1 count in
       let few' = r.few in
       record {
         memory' = r.memory';
         cells' = r.cells';
         begun = r.begun;
         kept = λ k ne far.
-            r.kept k ne (λ q. (let u : heap_at + (sh.top + o + (3 + count + 5)) ≤ k = far (omega arith) in omega arith)) ∙ other_cell c2 36 y k ne
-            ∙ other_cell c1 k1 count k (λ (e : k ≡ k1). (let u : heap_at + (sh.top + o + (3 + count + 5)) ≤ k = far (omega arith) in omega arith))
-            ∙ other_cell c k0 (1 + place) k (λ (e : k ≡ k0). (let u : heap_at + (sh.top + o + (3 + count + 5)) ≤ k = far (omega arith) in omega arith));
+            r.kept k ne (λ q. (let u : heap_at + (sh.top + o + (3 + count + 5)) ≤ k = far (omega arith) in omega arith))
+            ∙ other_cell c2 k1 count k (λ (e : k ≡ k1). (let u : heap_at + (sh.top + o + (3 + count + 5)) ≤ k = far (omega arith) in omega arith))
+            ∙ other_cell c1 k0 (1 + place) k (λ (e : k ≡ k0). (let u : heap_at + (sh.top + o + (3 + count + 5)) ≤ k = far (omega arith) in omega arith)) ∙ other_cell c 36 y k ne;
         written = (
           subst (λ (i : ℕ). r.cells' (heap_at + i) ≡ 1 + place) (sym at0) zero_there,
           subst (λ (i : ℕ). r.cells' (heap_at + i) ≡ count) (sym at1) one_there,
           r.values,
         );
-        count = suc (suc (suc r.count));
+        count = 5 + r.count;
         few = omega arith;
-        runs = λ out s' k q. first.runs out s' (suc (suc (steps r.count k))) (next.runs out s' (suc (steps r.count k))
-            (done (computes t.p (now m2) (now m3) 52 functions.Add (atoms.Var 30) (atoms.Num o) (49152 + sh.top) o y (register t.p (now m2) c2 30 next.begun.holds (omega arith) (omega arith) (omega arith) ∙ ap word_is named) refl (adds t.p m2 (49152 + sh.top) o y (omega arith) (omega arith)) put.put_is)
-            (r.runs out s' k q)));
+        runs = λ out s' k q.
+            let a = steps_are r.count k in
+            let d = steps_are (5 + r.count) k in
+            let sum : 5 + steps r.count k ≡ steps (5 + r.count) k = omega arith in
+            subst (ActsRun t.p f w body (closure_acts o place vs ++ rest) (now memory) out s') sum
+            (calls {f' = 0} {w' = 0} {n = 4} {n' = steps r.count k} {xs = (o, 1 + place, count)} refl refl (closure_at t.p has) (omega arith) (omega arith) begins refl (r.runs out s' k q));
       }

@@ -15,7 +15,7 @@ use Rattle.dg_turn.specs.Turns.{agreed_next, last_acts}
 use Rattle.dg_turn.proofs.Standing.{matched_at}
 
 -- what comes behind is answered
-answers : (p : Program) → HasRunTime p → (memory typed output : List ℕ) (drawn behind : ℕ) (c : ℕ → ℕ) → Holds p.world.layout memory c → (b : Bool) → c 13 ≡ 1 - bit b → let s = state memory (p.names.routine behind ∷ []) typed drawn output in ActsRun p 0 0 MATCHED_ACTS MATCHED_ACTS s (Returns (agreed_next p behind b)) s 2
+pub answers : (p : Program) → HasRunTime p → (memory typed output : List ℕ) (drawn behind : ℕ) (c : ℕ → ℕ) → Holds p.world.layout memory c → (b : Bool) → c 13 ≡ 1 - bit b → let s = state memory (p.names.routine behind ∷ []) typed drawn output in ActsRun p 0 0 MATCHED_ACTS MATCHED_ACTS s (Returns (agreed_next p behind b)) s 2
 answers p has memory typed output drawn behind c h true e = matched_works.goes p has.mapped 0 0 memory typed output drawn (p.names.routine behind) c h e
 answers p has memory typed output drawn behind c h false e = matched_works.fails p has.mapped 0 0 memory typed output drawn (p.names.routine behind) c h (λ (q : c 13 ≡ 0). (omega arith))
 

@@ -1,11 +1,12 @@
 -- A failure goes back to a choice of further rules, or ends the run: one turn of the story.
 use Rattle.std.proofs.Common.{◌≡◌, ◌≢◌, ℕ, suc, ◌+◌, ◌-◌, ◌*◌, ◌<◌, ◌≤◌, inl, inr, List, [], ◌∷◌, ◌++◌, length, refl, sym, ap, ◌∙◌, subst, arith, length-append}
 use Rattle.std.proofs.lemmas.Bool.{cases_lt}
+use Rattle.std.proofs.lemmas.List.{length-drop}
 use Rattle.dg_base.specs.declared.run.Ending.TheVariants.{Failed}
 use Rattle.dg_meaning.specs.Values.{Value}
 use Rattle.dg_mid.specs.declared.code.RuleCode.{RuleCode}
-use Rattle.dg_mid.specs.State.{Call, Choice, Mid}
-use Rattle.dg_mid.specs.Step.{first_of, back_at}
+use Rattle.dg_mid.specs.State.{Call, Way, Choice, Mid}
+use Rattle.dg_mid.specs.Step.{first_of, gathered_to, back_at}
 use Rattle.dg_mid.specs.Units.{undone}
 use Rattle.dg_mid.specs.Heights.{ChoicesNamed}
 use Rattle.z_model.specs.Run.{ZState}
@@ -21,18 +22,19 @@ use Rattle.dg_rt.specs.Choices.{GoesBack}
 use Rattle.dg_rt.proofs.Failing.{fail_works}
 use Rattle.dg_rt.proofs.Closing.{closings_work}
 use Rattle.dg_turn.specs.Told.{Telling}
-use Rattle.dg_turn.specs.Lies.{CellsAre, CallsIn, WayIn, ChoicesIn, MidIn}
+use Rattle.dg_turn.specs.Lies.{OpensFewer, StopsFewer, TakesLast, CellsAre, CallsIn, WayIn, ChoicesIn, MidIn}
 use Rattle.dg_turn.specs.Rest.{aux_at, gather_words}
 use Rattle.dg_turn.specs.Plays.{Playing, Outside, Represented, registers, CallAt, Comes}
 use Rattle.dg_turn.specs.Queries.{GoneBack, FailTurns, FailEnds}
 use Rattle.dg_turn.specs.Choices.{TakesAt, BackTurns}
 use Rattle.dg_turn.proofs.Standing.{fail_at, failed_at}
 use Rattle.dg_turn.proofs.Rows.{words_length, registers_same}
+use Rattle.dg_turn.proofs.Resting.{length_words}
 use Rattle.dg_turn.proofs.Returning.{goes_back_in}
 use Rattle.dg_turn.proofs.Moving.{Moved, moved, closes_within, closes_then}
 
 -- arguments that are put back
-args_back : (sh : Shape) (c c' : ℕ → ℕ) → ((k y : ℕ) → Cell sh k y → c (heap_at + k) ≡ y) → (v at : ℕ) (xs : List ℕ) → ((i : ℕ) → i < length xs → c' (v + i) ≡ c (heap_at + (at + i))) → CellsAre sh at xs → registers c' v (length xs) ≡ xs
+pub args_back : (sh : Shape) (c c' : ℕ → ℕ) → ((k y : ℕ) → Cell sh k y → c (heap_at + k) ≡ y) → (v at : ℕ) (xs : List ℕ) → ((i : ℕ) → i < length xs → c' (v + i) ≡ c (heap_at + (at + i))) → CellsAre sh at xs → registers c' v (length xs) ≡ xs
 args_back sh c c' word v at [] same cells = refl
 args_back sh c c' word v at (x ∷ xs) same cells =
     let v0 : v + 0 ≡ v = omega arith in
@@ -53,13 +55,13 @@ module _ (t : Telling) (plays : Playing t) (out : Outside) (m : Mid) (x : Choice
   abbrev at : ℕ
   at = x.place.height
 
-  cell_word : (k y : ℕ) → Cell r.sh k y → r.cells (heap_at + k) ≡ y
+  pub cell_word : (k y : ℕ) → Cell r.sh k y → r.cells (heap_at + k) ≡ y
   cell_word k y cell = let low = cell.fixed.0 in let top = r.mid.state.heap in let fits = r.mid.state.few in r.mid.state.stands.fixed k (omega arith) cell.fixed ∙ cell.is
 
-  field : (i k y : ℕ) → k ≡ at + i → Cell r.sh k y → r.cells (heap_at + (at + i)) ≡ y
+  pub field : (i k y : ℕ) → k ≡ at + i → Cell r.sh k y → r.cells (heap_at + (at + i)) ≡ y
   field i k y e cell = ap (λ (j : ℕ). r.cells (heap_at + j)) (sym e) ∙ cell_word k y cell
 
-  gone : GoesBack t.p 3500 19000 r.memory out.typed out.output out.drawn at r.cells h.saved.trail h.back.newer
+  pub gone : GoesBack t.p 3500 19000 r.memory out.typed out.output out.drawn at r.cells h.saved.trail h.back.newer
   gone =
       let s = r.mid.state in
       let top = s.heap in
@@ -94,17 +96,17 @@ module _ (t : Telling) (plays : Playing t) (out : Outside) (m : Mid) (x : Choice
       (λ k low n29 far. rest_of gone.cells' r.cells (λ k' le lt ne. gone.rest k' le lt ne) (λ k' le. gone.others k' le) k low n29 far)
 
   -- the routine that is answered comes next
-  to_next : (y : ℕ) → h.routine ≡ y → y < 65536 → Moved t out y gone.cells' h.saved.sh (back_at x xs m) gone.count z
+  pub to_next : (y : ℕ) → h.routine ≡ y → y < 65536 → Moved t out y gone.cells' h.saved.sh (back_at x xs m) gone.count z
   to_next y e small =
       let to : r.cells (heap_at + (at + 1)) ≡ y = field 1 (suc at) h.routine (omega arith) h.cells_are.1.0 ∙ e in
       let runs = subst (λ (i : ℕ). ActsRun t.p 3500 19000 FAIL_ACTS FAIL_ACTS (state r.memory (0 ∷ 0 ∷ 0 ∷ 0 ∷ []) out.typed out.drawn out.output) (Returns i) (state gone.memory' gone.locals' out.typed out.drawn out.output) gone.count) to gone.runs in
       moved t plays out (t.p.names.routine FAIL) m z r (routine_of 4 FAIL_ACTS) (fail_at t.p plays.has) (omega arith) y gone.count gone.memory' gone.locals' gone.cells' h.saved.sh h.saved.trail (back_at x xs m) runs gone.holds small mid_there
 
   -- the word of its routine, and what it costs
-  word_small : h.routine < 65536
+  pub word_small : h.routine < 65536
   word_small = subst (λ (y : ℕ). y < 65536) (field 1 (suc at) h.routine (omega arith) h.cells_are.1.0) (r.holds.words (heap_at + (at + 1)))
 
-  few_in_all : gone.count + 2 ≤ 6 * (m.state.trail - x.state.trail) + 34
+  pub few_in_all : gone.count + 2 ≤ 6 * (m.state.trail - x.state.trail) + 34
   few_in_all =
       let few' = gone.few in
       let total = ap length h.back.trail_is in
@@ -120,13 +122,17 @@ module _ (t : Telling) (plays : Playing t) (out : Outside) (m : Mid) (x : Choice
       record { there = go.there; count = gone.count + 2; some = omega arith; few = few_in_all; leads = go.leads; rep = go.rep }
 
   -- to a block that takes a gathering out
-  to_taking : (block : ℕ) (into : Value) → h.routine ≡ t.at_block block → Shows h.saved.sh h.next into → TakesAt t out block into (back_at x xs m) (6 * (m.state.trail - x.state.trail) + 34) z
-  to_taking block into e shows =
+  to_taking : (block : ℕ) (into : Value) → h.routine ≡ t.at_block block → Shows h.saved.sh h.next into → OpensFewer x.height xs × StopsFewer x.height x.stops → TakesAt t out block into (back_at x xs m) (6 * (m.state.trail - x.state.trail) + 34) z
+  to_taking block into e shows fewer =
+      let few = h.few_open in
+      let names = length_words m.gathered in
+      let count : length (gathered_to x.height m.gathered) ≡ x.height = length-drop (length m.gathered - x.height) m.gathered ∙ (omega arith) in
       let go = to_next (t.at_block block) e (subst (λ (y : ℕ). y < 65536) e word_small) in
       let back : go.rep.cells 8 ≡ h.next = go.cells_are 8 (λ q. (omega arith)) ∙ gone.back ∙ field 7 (suc (suc (suc (suc (suc (suc (suc at))))))) h.next (omega arith) h.cells_are.1.1.1.1.1.1.1.0 in
       record {
         comes = record { there = go.there; count = gone.count + 2; some = omega arith; few = few_in_all; leads = go.leads; rep = go.rep };
         into_is = subst (λ (s : Shape). Shows s (go.rep.cells 8) into) (sym go.shape_is) (subst (λ (y : ℕ). Shows h.saved.sh y into) (sym back) shows);
+        fewer = subst (λ (i : ℕ). OpensFewer i xs × StopsFewer i x.stops) (sym count) fewer;
       }
 
   module _ (call : Call) (rules : List RuleCode) (few : length call.args ≤ 12) (w : CallsIn t h.saved.sh h.routine h.args h.next (at_place x.place.height) h.many h.key x.state.subst call rules) where
@@ -191,8 +197,9 @@ back_turns = record {
       let h : ChoicesIn t r.sh r.cells r.trail (gather_words m.gathered) (r.cells 5) (x ∷ xs) = subst (ChoicesIn t r.sh r.cells r.trail (gather_words m.gathered) (r.cells 5)) e r.mid.choices in
       let names : ChoicesNamed m.next_tag m.state.heap (x ∷ xs) = subst (ChoicesNamed m.next_tag m.state.heap) e ordered in
       let w : (h.routine ≡ t.at_block block) × Shows h.saved.sh h.next into = subst (WayIn t h.saved.sh h.routine h.args h.next (at_place x.place.height) h.many h.key x.state.subst) way h.way in
+      let last : OpensFewer x.height xs × StopsFewer x.height x.stops = subst (λ (y : Way). TakesLast y x.height xs x.stops) way h.fewer in
       let back : m.state.trail - x.state.trail ≡ undone m.choices m = sym (ap (λ (l : List Choice). undone l m) e) in
-      subst (λ (n : ℕ). TakesAt t out block into (back_at x xs m) (6 * n + 34) z) back (to_taking t plays out m x xs z names.2 r h block into w.0 w.1);
+      subst (λ (n : ℕ). TakesAt t out block into (back_at x xs m) (6 * n + 34) z) back (to_taking t plays out m x xs z names.2 r h block into w.0 w.1 last);
 }
 
 -- ## Without a choice

@@ -4,10 +4,9 @@ use Rattle.std.specs.Prelude.{if◌then◌else◌}
 use Rattle.std.specs.List.{slice_get}
 use lib.IntN.{negsuc}
 use Rattle.std.proofs.lemmas.Int.{ints}
-use Rattle.std.proofs.lemmas.Bool.{lt-ltb, le-ltb, ne_eqb, cases_lt}
+use Rattle.std.proofs.lemmas.Bool.{lt-ltb, le-ltb, cases_lt}
 use Rattle.std.proofs.lemmas.Option.{slice_get_within}
 use Rattle.z_model.specs.Numbers.{signed_16}
-use Rattle.dg_meaning.specs.Cells.{captured_count}
 use Rattle.dg_meaning.specs.Values.{Label, Num, Word, Unknown, Object, Nil, Pair, Closure, Value, Var, Node, Values}
 use Rattle.dg_mid.specs.declared.code.BodyCode.{BodyCode}
 use Rattle.dg_mid.specs.State.{Call, Mid}
@@ -29,6 +28,8 @@ use Rattle.dg_turn.specs.Told.{Telling}
 use Rattle.dg_turn.specs.Lies.{WordsIn}
 use Rattle.dg_turn.specs.Plays.{Playing, Outside, registers}
 use Rattle.dg_turn.specs.Bodies.{FindsAt, fork_routine, body_routine, BodyAt, FindsBodies, no_body, one_body, two_parts, FoundBody, FindsNone, FindTurns}
+use Rattle.dg_turn.proofs.Staying.{mid_same}
+use Rattle.dg_turn.proofs.ToBody.{other_body}
 use Rattle.dg_turn.proofs.Rows.{registers_same}
 use Rattle.dg_turn.proofs.Moving.{moved, moves}
 
@@ -123,25 +124,22 @@ module _ (t : Telling) (plays : Playing t) (out : Outside) (call : Call) (v : Va
 
   -- ## No body
 
-  fails_then : (d : ℕ) (z there : ZState) → Leads t.p.world 4 z there → FindsNone t out m (4 * d + 5) there → FindsNone t out m (4 * suc d + 5) z
+  fails_then : (d : ℕ) (z there : ZState) → Leads t.p.world 4 z there → FindsNone t out m (4 * d + 6) there → FindsNone t out m (4 * suc d + 6) z
   fails_then d z there leads k = let few = k.few in record { there = k.there; count = 4 + k.count; few = omega arith; leads = leads_then t.p.world 4 k.count z there k.there leads k.leads; rep = k.rep }
 
-  fails : (number place depth : ℕ) (cs : List BodyCode) → FindsBodies t number place cs depth → (z : ZState) → ((n : ℕ) (parts : Values) → n < length cs → v ≢ Node (Closure (place + n)) parts) → FindsAt t out number call v m z → FindsNone t out m (4 * depth + 5) z
+  fails : (number place depth : ℕ) (cs : List BodyCode) → FindsBodies t number place cs depth → (z : ZState) → ((n : ℕ) (parts : Values) → n < length cs → v ≢ Node (Closure (place + n)) parts) → FindsAt t out number call v m z → FindsNone t out m (4 * depth + 6) z
   fails number place depth cs (no_body _ _) z none f = record { there = z; count = 0; few = omega arith; leads = leads_none t.p.world z; rep = f.rep }
   fails number place depth cs (one_body _ _ _ c b) z none f =
-      let high = plays.has.mapped.room in
       let rep = f.rep in
-      let s0 = state rep.memory [] out.typed out.drawn out.output in
       let here : place + 0 ≡ place = omega arith in
       let other : rep.cells 11 ≢ 49152 + place = no_closure v (rep.cells 11) place f.key_is (λ parts. subst (λ (i : ℕ). v ≢ Node (Closure i) parts) here (none 0 parts (omega arith))) in
-      let k = moves t plays out (t.p.names.routine number) m z rep (body_routine place c.own (captured_count (slice_get t.program.closures place)) b.block) b.is (omega arith) (t.p.names.routine FAIL) 2 (4 * depth + 5) rep.memory [] rep.cells rep.sh rep.trail m
-      (passed (tested t.p s0 comparisons.Equal (atoms.Var 27) (atoms.Num (49152 + place)) true (rep.cells 11) (49152 + place) false (register t.p s0 rep.cells 27 rep.holds (omega arith) (omega arith) (omega arith)) refl (ne_eqb (rep.cells 11) (49152 + place) other)) (returns refl))
-      rep.holds (plays.words FAIL) rep.mid (omega arith) in
+      let r = other_body t plays out number place c call v m z b f other in
+      let k = moves t plays out (t.p.names.routine number) m z rep (body_routine place c.own b.block) b.is (omega arith) (t.p.names.routine FAIL) 4 (4 * depth + 6) r.memory' [] r.cells' rep.sh rep.trail m r.runs r.holds (plays.words FAIL) (mid_same t rep.sh rep.cells r.cells' rep.trail m (λ j ne far. r.others j (λ (q : j ≡ 36). (let y : 302 < j = far.1 (omega arith) in omega arith))) rep.mid) (omega arith) in
       record { there = k.there; count = k.count; few = k.few; leads = k.leads; rep = k.rep }
   fails number place depth cs (two_parts _ left right _ d bs ds there small a b) z none f = by_test (compared comparisons.Less (f.rep.cells 11) (49152 + (place + length bs))) refl (λ y g. fails left place d bs a y (λ n parts lt. none n parts (let size = length-append bs ds in omega arith)) g)
       (λ y g. fails right (place + length bs) d ds b y (λ n parts lt e. none (length bs + n) parts (let size = length-append bs ds in omega arith) (e ∙ (let sum : place + length bs + n ≡ place + (length bs + n) = omega arith in ap (λ (i : ℕ). Node (Closure i) parts) sum))) g)
     where
-      by_test : (r : Bool) → compared comparisons.Less (f.rep.cells 11) (49152 + (place + length bs)) ≡ r → ((y : ZState) → FindsAt t out left call v m y → FindsNone t out m (4 * d + 5) y) → ((y : ZState) → FindsAt t out right call v m y → FindsNone t out m (4 * d + 5) y) → FindsNone t out m (4 * suc d + 5) z
+      by_test : (r : Bool) → compared comparisons.Less (f.rep.cells 11) (49152 + (place + length bs)) ≡ r → ((y : ZState) → FindsAt t out left call v m y → FindsNone t out m (4 * d + 6) y) → ((y : ZState) → FindsAt t out right call v m y → FindsNone t out m (4 * d + 6) y) → FindsNone t out m (4 * suc d + 6) z
       by_test true e l r = let k = forks number left right (place + length bs) z true there small f e in fails_then d z k.there k.leads (l k.there k.finds)
       by_test false e l r = let k = forks number left right (place + length bs) z false there small f e in fails_then d z k.there k.leads (r k.there k.finds)
 

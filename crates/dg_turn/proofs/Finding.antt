@@ -188,7 +188,7 @@ module _ (t : Telling) (plays : Playing t) (out : Outside) (r : RuleCode) (rs : 
       (omega arith)
 
 -- the words of registers, of which there are fewer
-row_front : (c c' : ℕ → ℕ) (at k n m : ℕ) → n ≤ m → RowIs c' at (registers c k m) → RowIs c' at (registers c k n)
+pub row_front : (c c' : ℕ → ℕ) (at k n m : ℕ) → n ≤ m → RowIs c' at (registers c k m) → RowIs c' at (registers c k n)
 row_front c c' at k zero m le h = tt
 row_front c c' at k (suc n) zero le h = absurd (omega arith)
 row_front c c' at k (suc n) (suc m) le h = (h.0, row_front c c' (suc at) (suc k) n m (omega arith) h.1)
@@ -226,7 +226,7 @@ module _ (t : Telling) (plays : Playing t) (out : Outside) (r : RuleCode) (rs : 
       } in
       let words : RowIs o.cells' (top + 0) (c0 5 ∷ a ∷ c0 4 ∷ c0 6 ∷ c0 7 ∷ c0 1 ∷ c0 29 ∷ c0 8 ∷ c0 10 ∷ c0 11 ∷ args) =
       (row.0, (row.1.0, (row.1.1.0, (row.1.1.1.0, (row.1.1.1.1.0, (row.1.1.1.1.1.0, (row.1.1.1.1.1.1.0, (row.1.1.1.1.1.1.1.0, (row.1.1.1.1.1.1.1.1.0, (row.1.1.1.1.1.1.1.1.1.0, row_front c0 o.cells' (suc (suc (suc (suc (suc (suc (suc (suc (suc (suc (top + 0))))))))))) 16 n 12 (omega arith) row.1.1.1.1.1.1.1.1.1.1)))))))))) in
-      let d = opened_in t rep.sh c0 o.cells' rep.trail m (CallsWay call (r ∷ rs)) n a (c0 8) (c0 10) (c0 11) args mid1 room (length_registers c0 16 n) refl way (o.heap ∙ omega arith) o.choice o.mark words (λ k n0 n2 n3 n5 mid' far. o.others k n3 n5 n2 (λ low. (let z' : trail_at ≤ k = far low in omega arith))) in
+      let d = opened_in t rep.sh c0 o.cells' rep.trail m (CallsWay call (r ∷ rs)) n a (c0 8) (c0 10) (c0 11) args mid1 room (length_registers c0 16 n) refl way tt (o.heap ∙ omega arith) o.choice o.mark words (λ k n0 n2 n3 n5 mid' far. o.others k n3 n5 n2 (λ low. (let z' : trail_at ≤ k = far low in omega arith))) in
       let small : found < 65536 = subst (λ (y : ℕ). y < 65536) l.found_is (rep.holds.words 12) in
       let run = subst (λ (y : ℕ). ActsRun p 3499 18000 FOUND_ACTS FOUND_ACTS (state (with_cell rep.memory 37 n) (e ∷ a ∷ b ∷ 0 ∷ []) out.typed out.drawn out.output) (Returns y) (state o.memory' o.locals' out.typed out.drawn out.output) 32) is_found o.runs in
       let k = answers t plays out r rs number call (first_of m.state.subst call) key found m z i is_key in_ l found 32 o.memory' o.locals' run in

@@ -243,6 +243,7 @@ choices_at t g opens word word' hb (c ∷ cs) e backs h u = record {
     gather_is = h.gather_is;
     stops = h.stops;
     apart = h.apart;
+    fewer = h.fewer;
     older_are = h.older_are;
   };
   under = u;
@@ -284,6 +285,7 @@ choices_drop t opens word hb c (d ∷ cs) h le =
         gather_is = o.gather_is ∙ ap newest fewer;
         stops = subst (λ (l : List ℕ). StopsIn t o.saved.sh o.saved.cells o.saved.trail l d.stops) fewer o.stops;
         apart = o.apart;
+        fewer = o.fewer;
         older_are = subst (λ (l : List ℕ). ChoicesIn t o.saved.sh o.saved.cells o.saved.trail l o.behind cs) fewer o.older_are;
       };
       under = let top = o.back.grown.top in omega arith;

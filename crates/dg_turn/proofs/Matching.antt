@@ -200,7 +200,7 @@ module _ (t : Telling) (outer : ℕ → ℕ) (has : HasRunTime t.p) (f w : ℕ) 
     all = match_acts v x (suc n) ++ rest
 
     high : 24694 ≤ t.p.world.layout.base
-    high = has.mapped.room
+    high = let room = has.mapped.room in omega arith
 
     -- the call of the first
     first_call : (r : One memory (c (v - 16)) (c (x - 16)) c m u first_most) → (o : ActsOutcome) (s' : State) (k : ℕ) → ActsRun t.p f w body (match_acts (suc v) (suc x) n ++ rest) (now r.memory') o s' k → ActsRun t.p f w body all (now memory) o s' (suc r.count + k)

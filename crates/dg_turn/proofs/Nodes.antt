@@ -21,7 +21,7 @@ use Rattle.dg_rt.specs.Frames.{HoldVars}
 use Rattle.dg_rt.proofs.Cells.{holds_with, other_cell, same_cell}
 use Rattle.dg_rt.proofs.Following.{word as word_is, register}
 use Rattle.dg_rt.proofs.UnifySteps.{steps_are}
-use Rattle.dg_turn.specs.Told.{Telling}
+use Rattle.dg_turn.specs.Told.{Telling, count_told}
 use Rattle.dg_turn.specs.Lies.{MidIn}
 use Rattle.dg_turn.specs.Terms.{word_act, words_acts, cell_act, captured_of, node_acts, nodes_acts, IsTerm, IsNode, AreNodes, capturing, all_capturing}
 use Rattle.std.proofs.lemmas.Bool.{cases_lt}
@@ -57,6 +57,11 @@ Written program sh env c o other = Unit {0}
 pub count_is : (o : Option ClosureBody) → captured_count o ≡ length (captured_of o)
 count_is None = refl
 count_is (Some body) = refl
+
+-- as many as a story tells, where it is there
+pub told_is : (o : Option ClosureBody) → count_told o < 256 → count_told o ≡ captured_count o
+told_is None few = absurd (omega arith)
+told_is (Some body) few = refl
 
 pub written_same : (program : CoreProgram) (sh : Shape) (env : List Value) (c c' : ℕ → ℕ) (o : ℕ) (x : term.Term-F Term) → ((i : ℕ) → i < node_cells program x → c' (heap_at + (sh.top + o + i)) ≡ c (heap_at + (sh.top + o + i))) → Written program sh env c o x → Written program sh env c' o x
 written_same program sh env c c' o (term.Pair head tail) same w = (

@@ -38,7 +38,8 @@ use Rattle.dg_turn.specs.Operating.{term_value, term_links, deciding_routine, In
 use Rattle.dg_turn.specs.World.{place_words, place_bytes, world_end, words_at, bytes_at, PlaceIn, FactsIn, HasWorld, flag_word, now_routine, change_in, now_most, Changing, NowTurns}
 use Rattle.dg_turn.proofs.DecidingTurn.{next_is}
 use Rattle.dg_turn.proofs.NowTurn.{ChangedBy, changing}
-use Rattle.dg_turn.proofs.Places.{before_all, table_of, bytes_of, AtPlace, stays_elsewhere, object_at, words_changed, bytes_changed}
+use Rattle.dg_turn.proofs.Sums.{before_all}
+use Rattle.dg_turn.proofs.Places.{table_of, bytes_of, AtPlace, stays_elsewhere, object_at, words_changed, bytes_changed}
 
 -- ## Where the routines stand
 
@@ -74,8 +75,8 @@ module _ (t : Telling) (plays : Playing t) (world : HasWorld t) (out : Outside) 
   By decider given change most = ChangedBy t out decider given memory cells (facts_behind change facts) (agreed_next t.p behind (is_some change)) most
 
   -- a table of words
-  by_table : (kind : PlaceKind) → slice_get (kinds_of t.program) place ≡ Some kind → place_words n kind ≡ n → (decider : ℕ) (acts : List Act) → t.p.routine_at (t.p.names.routine decider) ≡ Some (routine_of 4 acts) → (change : Option Alteration) → AtPlace place change → (most : ℕ) → ((cells' : ℕ → ℕ) (facts' : List Fact) → TableIn cells' (words_at t.program place) n facts' place → PlaceIn t.program facts' cells' place kind) → AltersTable t.p 3400 15000 acts memory out.typed out.output out.drawn (words_at t.program place) n cells facts place next change most → By decider (args.Three (atoms.Num (at_cell (words_at t.program place))) (atoms.Num n) (atoms.Routine behind)) change most
-  by_table kind is size decider acts stands change at most place_in k = record {
+  by_table : (kind : PlaceKind) → slice_get (kinds_of t.program) place ≡ Some kind → place_words n kind ≡ n → kind ≢ Global → (decider : ℕ) (acts : List Act) → t.p.routine_at (t.p.names.routine decider) ≡ Some (routine_of 4 acts) → (change : Option Alteration) → AtPlace place change → (most : ℕ) → ((cells' : ℕ → ℕ) (facts' : List Fact) → TableIn cells' (words_at t.program place) n facts' place → PlaceIn t.program facts' cells' place kind) → AltersTable t.p 3400 15000 acts memory out.typed out.output out.drawn (words_at t.program place) n cells facts place next change most → By decider (args.Three (atoms.Num (at_cell (words_at t.program place))) (atoms.Num n) (atoms.Routine behind)) change most
+  by_table kind is size other decider acts stands change at most place_in k = record {
     xs = (at_cell (words_at t.program place), n, next);
     given_is = refl;
     called = routine_of 4 acts;
@@ -85,7 +86,7 @@ module _ (t : Telling) (plays : Playing t) (world : HasWorld t) (out : Outside) 
     cells' = k.cells';
     holds = k.holds;
     inside = λ i far. (let b = before_all (place_words n) (kinds_of t.program) place kind is in k.others i (λ le. (let z : world_end t.program ≤ i = far (omega arith) in omega arith)));
-    facts_in = words_changed t.program cells k.cells' facts (facts_behind change facts) place kind is (λ q o ne. stays_elsewhere facts place q o change at ne) (place_in k.cells' (facts_behind change facts) k.table) there n size k.others;
+    facts_in = words_changed t.program cells k.cells' facts (facts_behind change facts) place kind is (λ q o ne. stays_elsewhere facts place q o change at ne) (place_in k.cells' (facts_behind change facts) k.table) there n size other k.others;
     locals' = k.locals';
     count = k.count;
     few = k.few;
@@ -127,7 +128,7 @@ module _ (t : Telling) (plays : Playing t) (world : HasWorld t) (out : Outside) 
         cells' = k.cells';
         holds = k.holds;
         inside = λ i far. (let b = before_all (place_words n) (kinds_of t.program) place Flag is in k.others i (λ (q : i ≡ w). (let z : world_end t.program ≤ i = far (omega arith) in omega arith)));
-        facts_in = words_changed t.program cells k.cells' facts (facts_behind (flag_change place sets) facts) place Flag is (λ q o ne. stays_elsewhere facts place q o (flag_change place sets) (flag_at_place sets) ne) (flag_table sets k.cells' k.is k.others) there 1 refl (λ i far. k.others i (λ (q : i ≡ w). (let z : w + 1 ≤ i = far (omega arith) in omega arith)));
+        facts_in = words_changed t.program cells k.cells' facts (facts_behind (flag_change place sets) facts) place Flag is (λ q o ne. stays_elsewhere facts place q o (flag_change place sets) (flag_at_place sets) ne) (flag_table sets k.cells' k.is k.others) there 1 refl (λ (q : Flag ≡ Global). cc) (λ i far. k.others i (λ (q : i ≡ w). (let z : w + 1 ≤ i = far (omega arith) in omega arith)));
         locals' = w_at ∷ flag_word sets ∷ next ∷ [];
         count = 2;
         few = omega arith;
@@ -212,7 +213,7 @@ module _ (t : Telling) (plays : Playing t) (world : HasWorld t) (out : Outside) 
       let sum = two_links a c in
       let most = 5 * links_of a + 5 * links_of c + 40 in
       changing t plays out (a ∷ c ∷ []) (omega arith) SET_VALUE given behind change facts m z facts_out e most (now_most t.program ObjectVar place (a ∷ c ∷ []) true m) (omega arith)
-      (λ w1 here. by_table t plays world out place behind facts w1.memory' w1.cells' w1.holds here ObjectVar is refl SET_VALUE SET_VALUE_ACTS (set_value_at t.p plays.has) change (object_at place objects ObjectVar true (two_values a c)) most (λ cells' facts' x. x)
+      (λ w1 here. by_table t plays world out place behind facts w1.memory' w1.cells' w1.holds here ObjectVar is refl (λ (q : ObjectVar ≡ Global). cc) SET_VALUE SET_VALUE_ACTS (set_value_at t.p plays.has) change (object_at place objects ObjectVar true (two_values a c)) most (λ cells' facts' x. x)
       (set_value_works t.p plays.has 3400 15000 (omega arith) (omega arith) w1.memory' out.typed out.output out.drawn w1.sh' w1.cells' S (value a) (value c) (record { shape = w1.mid.state.shape; holds = w1.holds; stands = w1.mid.state.stands; first = w1.words.0 }) w1.words.1.0 w objects place after facts [] (table_of t world place objects ObjectVar is refl) world.few (here.each place ObjectVar is)))
 
   parent_turn : slice_get (kinds_of t.program) place ≡ Some Parent → (a c : Term) → Turn Parent (a ∷ c ∷ []) true
@@ -221,11 +222,11 @@ module _ (t : Telling) (plays : Playing t) (world : HasWorld t) (out : Outside) 
       let sum = two_links a c in
       let most = 5 * links_of a + 5 * links_of c + 40 in
       changing t plays out (a ∷ c ∷ []) (omega arith) SET_PARENT given behind change facts m z facts_out e most (now_most t.program Parent place (a ∷ c ∷ []) true m) (omega arith)
-      (λ w1 here. by_table t plays world out place behind facts w1.memory' w1.cells' w1.holds here Parent is refl SET_PARENT SET_PARENT_ACTS (set_parent_at t.p plays.has) change (object_at place objects Parent true (two_values a c)) most (λ cells' facts' x. x)
+      (λ w1 here. by_table t plays world out place behind facts w1.memory' w1.cells' w1.holds here Parent is refl (λ (q : Parent ≡ Global). cc) SET_PARENT SET_PARENT_ACTS (set_parent_at t.p plays.has) change (object_at place objects Parent true (two_values a c)) most (λ cells' facts' x. x)
       (set_parent_works t.p plays.has 3400 15000 (omega arith) (omega arith) w1.memory' out.typed out.output out.drawn w1.sh' w1.cells' S (value a) (value c) (record { shape = w1.mid.state.shape; holds = w1.holds; stands = w1.mid.state.stands; first = w1.words.0 }) w1.words.1.0 w objects place after facts [] (table_of t world place objects Parent is refl) world.few (here.each place Parent is)))
 
   -- none
-  module _ (kind : PlaceKind) (is : slice_get (kinds_of t.program) place ≡ Some kind) (size : place_words objects kind ≡ objects) (place_in : (cells' : ℕ → ℕ) (facts' : List Fact) → TableIn cells' w objects facts' place → PlaceIn t.program facts' cells' place kind) (table_in : (cells' : ℕ → ℕ) (facts' : List Fact) → PlaceIn t.program facts' cells' place kind → TableIn cells' w objects facts' place) (a c : Term) where
+  module _ (kind : PlaceKind) (is : slice_get (kinds_of t.program) place ≡ Some kind) (size : place_words objects kind ≡ objects) (other : kind ≢ Global) (place_in : (cells' : ℕ → ℕ) (facts' : List Fact) → TableIn cells' w objects facts' place → PlaceIn t.program facts' cells' place kind) (table_in : (cells' : ℕ → ℕ) (facts' : List Fact) → PlaceIn t.program facts' cells' place kind → TableIn cells' w objects facts' place) (a c : Term) where
     abbrev gone : Option Alteration
     gone = object_change objects kind place false (two_values a c)
 
@@ -233,14 +234,14 @@ module _ (t : Telling) (plays : Playing t) (world : HasWorld t) (out : Outside) 
     cleared_turn all le e =
         let most = 10 * links_of a + 4 * cleared objects gone + 50 in
         changing t plays out (a ∷ c ∷ []) (omega arith) CLEAR_VALUE given behind gone facts m z facts_out e most all le
-        (λ w1 here. by_table t plays world out place behind facts w1.memory' w1.cells' w1.holds here kind is size CLEAR_VALUE CLEAR_VALUE_ACTS (clear_value_at t.p plays.has) gone (object_at place objects kind false (two_values a c)) most place_in
+        (λ w1 here. by_table t plays world out place behind facts w1.memory' w1.cells' w1.holds here kind is size other CLEAR_VALUE CLEAR_VALUE_ACTS (clear_value_at t.p plays.has) gone (object_at place objects kind false (two_values a c)) most place_in
         (clear_value_works t.p plays.has 3400 15000 (omega arith) (omega arith) w1.memory' out.typed out.output out.drawn w1.sh' w1.cells' S (value a) (record { shape = w1.mid.state.shape; holds = w1.holds; stands = w1.mid.state.stands; first = w1.words.0 }) w objects place after facts kind (resolved S (value c) ∷ []) (table_of t world place objects kind is size) world.few (table_in w1.cells' facts (here.each place kind is))))
 
   no_value_turn : slice_get (kinds_of t.program) place ≡ Some ObjectVar → (a c : Term) → Turn ObjectVar (a ∷ c ∷ []) false
-  no_value_turn is a c e = let sum = two_links a c in cleared_turn ObjectVar is refl (λ cells' facts' x. x) (λ cells' facts' x. x) a c (now_most t.program ObjectVar place (a ∷ c ∷ []) false m) (omega arith) e
+  no_value_turn is a c e = let sum = two_links a c in cleared_turn ObjectVar is refl (λ (q : ObjectVar ≡ Global). cc) (λ cells' facts' x. x) (λ cells' facts' x. x) a c (now_most t.program ObjectVar place (a ∷ c ∷ []) false m) (omega arith) e
 
   no_parent_turn : slice_get (kinds_of t.program) place ≡ Some Parent → (a c : Term) → Turn Parent (a ∷ c ∷ []) false
-  no_parent_turn is a c e = let sum = two_links a c in cleared_turn Parent is refl (λ cells' facts' x. x) (λ cells' facts' x. x) a c (now_most t.program Parent place (a ∷ c ∷ []) false m) (omega arith) e
+  no_parent_turn is a c e = let sum = two_links a c in cleared_turn Parent is refl (λ (q : Parent ≡ Global). cc) (λ cells' facts' x. x) (λ cells' facts' x. x) a c (now_most t.program Parent place (a ∷ c ∷ []) false m) (omega arith) e
 
   -- a flag of an object
   abbrev given_flag : Args

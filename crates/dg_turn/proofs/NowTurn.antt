@@ -59,13 +59,13 @@ pub record ChangedBy (t : Telling) (out : Outside) (decider : ℕ) (given : Args
   pub runs : ActsRun t.p 3400 15000 called.body called.body (routine_entered (state memory [] out.typed out.drawn out.output) called.locals xs) (Returns y) (state memory' locals' out.typed out.drawn out.output) count
 
 -- The words outside of these, and behind what is gathered those.
-abbrev joined : (ℕ → ℕ) → (ℕ → ℕ) → ℕ → ℕ
+abbrev pub joined : (ℕ → ℕ) → (ℕ → ℕ) → ℕ → ℕ
 joined outer cells k = if nat_lt k aux_end then outer k else cells k
 
-joined_low : (outer cells : ℕ → ℕ) (k : ℕ) → k < aux_end → joined outer cells k ≡ outer k
+pub joined_low : (outer cells : ℕ → ℕ) (k : ℕ) → k < aux_end → joined outer cells k ≡ outer k
 joined_low outer cells k lt = cond-true (nat_lt k aux_end) (outer k) (cells k) (lt-ltb k aux_end lt)
 
-joined_high : (outer cells : ℕ → ℕ) (k : ℕ) → aux_end ≤ k → joined outer cells k ≡ cells k
+pub joined_high : (outer cells : ℕ → ℕ) (k : ℕ) → aux_end ≤ k → joined outer cells k ≡ cells k
 joined_high outer cells k le = cond-false (nat_lt k aux_end) (outer k) (cells k) (le-ltb k aux_end le)
 
 module _ (t : Telling) (plays : Playing t) (out : Outside) (ts : List Term) (few_terms : length ts ≤ 12) (decider : ℕ) (given : Args) (behind : ℕ) (change : Option Alteration) (facts : List Fact) (m : Mid) (z : ZState) (facts_out : FactsIn t.program facts out.words) (e : InFront t out (deciding_routine t.program ts decider given) ts m z) where

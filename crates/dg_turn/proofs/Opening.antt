@@ -15,7 +15,7 @@ use Rattle.dg_turn.proofs.Growing.{grown_frames, grown_inner, apart_new, boxes_s
 use Rattle.dg_turn.proofs.Grows.{grown_mark}
 use Rattle.dg_turn.proofs.Making.{made, made_grown, made_shape, made_stands, made_low, made_known, block_cell}
 use Rattle.dg_turn.specs.Rest.{gather_words, newest, open_to}
-use Rattle.dg_turn.specs.Lies.{StopNamed, FramesIn, InnersIn, CellsAre, WayIn, arguments_of, BoxesStay, StopsIn, StopsUnder, ChoiceIn, ChoicesIn, MidIn}
+use Rattle.dg_turn.specs.Lies.{StopNamed, FramesIn, InnersIn, CellsAre, WayIn, arguments_of, BoxesStay, TakesLast, StopsIn, StopsUnder, ChoiceIn, ChoicesIn, MidIn}
 use Rattle.dg_turn.specs.Told.{Telling}
 
 -- The machine inside stands in memory.
@@ -44,10 +44,10 @@ stops_lower t sh cells trail opens hb hb' le [] h = tt
 stops_lower t sh cells trail opens hb hb' le (s ∷ ss) h = let u = h.under in omega arith
 
 pub opened_in : (t : Telling) {outer : ℕ → ℕ} (sh : Shape) (c c' : ℕ → ℕ) (trail : List ℕ) (m : Mid) (way : Way) (n routine next many key : ℕ) (args : List ℕ) → MidIn t outer sh c trail m → m.state.heap + (10 + n) ≤ 10000 → length args ≡ n → arguments_of way ≡ n →
-    WayIn t sh routine args next (at_place m.state.heap) many key m.state.subst way → c' 3 ≡ sh.top + 10 + n → c' 5 ≡ at_place sh.top → c' 2 ≡ at_place sh.top →
+    WayIn t sh routine args next (at_place m.state.heap) many key m.state.subst way → TakesLast way (length m.gathered) m.choices m.stops → c' 3 ≡ sh.top + 10 + n → c' 5 ≡ at_place sh.top → c' 2 ≡ at_place sh.top →
     RowIs c' (sh.top + 0) (c 5 ∷ routine ∷ c 4 ∷ c 6 ∷ c 7 ∷ c 1 ∷ c 29 ∷ next ∷ many ∷ key ∷ args) →
     ((k : ℕ) → k ≢ 0 → k ≢ 2 → k ≢ 3 → k ≢ 5 → IsKept k → (heap_at + sh.top ≤ k → trail_at ≤ k) → c' k ≡ c k) → Opened t outer sh c' trail way n many m
-opened_in t sh c c' trail m way n routine next many key args mid room size as_many way_is heap choice mark row others =
+opened_in t sh c c' trail m way n routine next many key args mid room size as_many way_is last heap choice mark row others =
     let s = mid.state in
     let top = s.heap in
     let vars_are = s.vars in
@@ -95,6 +95,7 @@ opened_in t sh c c' trail m way n routine next many key args mid room size as_ma
       gather_is = mid.rest.gather ∙ ap newest (sym same_open);
       stops = subst (λ (l : List ℕ). StopsIn t sh c trail l m.stops) (sym same_open) mid.stops;
       apart = mid.apart;
+      fewer = last;
       older_are = subst (λ (l : List ℕ). ChoicesIn t sh c trail l (c 5) m.choices) (sym same_open) mid.choices;
     } in
     record {

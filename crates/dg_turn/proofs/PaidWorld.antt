@@ -97,7 +97,7 @@ copied_in sh none boxes x i v nil = refl
 copied_in sh none boxes x i v (variable k lt) = absurd (omega arith)
 copied_in sh none boxes x i v (boxed k header lt box cell filled) = let e = boxes k in absurd (cc)
 
-set_copied : (x i : ℕ) (v : Value) → SetIn x (Some v) → copy_from i v ≡ v
+pub set_copied : (x i : ℕ) (v : Value) → SetIn x (Some v) → copy_from i v ≡ v
 set_copied x i v is = let sh : Shape = record { top = 0; vars = 0; place = λ k. 0; fixed = λ k. 0; box = λ k. None; captures = λ k. 0 } in copied_in sh refl (λ k. refl) x i v (is sh)
 
 module _ (g : Setting) (ps : List Print) (m : Mid) (place : ℕ) where
@@ -117,7 +117,7 @@ module _ (g : Setting) (ps : List Print) (m : Mid) (place : ℕ) where
   object_work (Node Pair vs) v us r w = omega arith
   object_work (Node (Closure c) vs) v us r w = omega arith
 
-  answer_work : (word : ℕ) (v : Value) → SetIn word (Some v) → (u va vc : Value) (r : Registers) (w : World) → set_of w.facts place u ≡ Some v → w.meters.work + unifying r.bound ((vc, v) ∷ []) ≤ effect_work (ask_object g.game (Some place) u va (vc ∷ []) true [] r w)
+  pub answer_work : (word : ℕ) (v : Value) → SetIn word (Some v) → (u va vc : Value) (r : Registers) (w : World) → set_of w.facts place u ≡ Some v → w.meters.work + unifying r.bound ((vc, v) ∷ []) ≤ effect_work (ask_object g.game (Some place) u va (vc ∷ []) true [] r w)
   answer_work word v is (Var x) va vc r w e = absurd (cc)
   answer_work word v is (Node (Num i) vs) va vc r w e = absurd (cc)
   answer_work word v is (Node (Word i) vs) va vc r w e = absurd (cc)
@@ -135,25 +135,25 @@ module _ (g : Setting) (ps : List Print) (m : Mid) (place : ℕ) where
 
   -- of an object
   module _ (a : Term) (others : List Term) (many : Bool) (next : ℕ) (ops : List Op) (e : m.ops ≡ op.Find (Some place) (a ∷ others) many next ∷ ops) where
-    abbrev now : Mid
+    abbrev pub now : Mid
     now = more (cells_of g.game.program (a ∷ others)) m
 
-    abbrev first : Value
+    abbrev pub first : Value
     first = term_value g.game.program m a
 
-    abbrev given : List Value
+    abbrev pub given : List Value
     given = map (term_value g.game.program m) others
 
-    abbrev looked_at : World
+    abbrev pub looked_at : World
     looked_at = worked (looked_up (registers_of now) first) (world_of ps now)
 
-    abbrev asked_work : ℕ
+    abbrev pub asked_work : ℕ
     asked_work = effect_work (ask_object g.game (Some place) (walk m.state.subst first) first given true [] (registers_of now) looked_at)
 
-    asks_by : (kind : PlaceKind) → slice_get (kinds_of g.game.program) place ≡ Some kind → ask_place g.game place (Some kind) (first ∷ given) true [] (registers_of now) (world_of ps now) ≡ ask_objects g.game (Some place) (first ∷ given) true [] (registers_of now) (world_of ps now) → effect_work (ask_place g.game place (slice_get (kinds_of g.game.program) place) (first ∷ given) true [] (registers_of now) (world_of ps now)) ≡ asked_work
+    pub asks_by : (kind : PlaceKind) → slice_get (kinds_of g.game.program) place ≡ Some kind → ask_place g.game place (Some kind) (first ∷ given) true [] (registers_of now) (world_of ps now) ≡ ask_objects g.game (Some place) (first ∷ given) true [] (registers_of now) (world_of ps now) → effect_work (ask_place g.game place (slice_get (kinds_of g.game.program) place) (first ∷ given) true [] (registers_of now) (world_of ps now)) ≡ asked_work
     asks_by kind is objects = ap (λ (k : Option PlaceKind). effect_work (ask_place g.game place k (first ∷ given) true [] (registers_of now) (world_of ps now))) is ∙ ap effect_work objects
 
-    pays : (all : ℕ) → effect_work (ask_place g.game place (slice_get (kinds_of g.game.program) place) (first ∷ given) true [] (registers_of now) (world_of ps now)) ≡ asked_work → all ≤ 800 * (1 + (writing (a ∷ others) + asked_work)) → all ≤ paid g ps (Runs m)
+    pub pays : (all : ℕ) → effect_work (ask_place g.game place (slice_get (kinds_of g.game.program) place) (first ∷ given) true [] (registers_of now) (world_of ps now)) ≡ asked_work → all ≤ 800 * (1 + (writing (a ∷ others) + asked_work)) → all ≤ paid g ps (Runs m)
     pays all is le = let k = ap (λ (l : List Op). units_of g ps l m) e in omega arith
 
   flag_paid : (a : Term) (many : Bool) (next : ℕ) (ops : List Op) → m.ops ≡ op.Find (Some place) (a ∷ []) many next ∷ ops → slice_get (kinds_of g.game.program) place ≡ Some ObjectFlag → AreNodes g.game.program (nodes_of (a ∷ [])) → written_in g.game.program (a ∷ []) + 5 * term_links g.game.program m a + 60 ≤ paid g ps (Runs m)
@@ -162,7 +162,7 @@ module _ (g : Setting) (ps : List Print) (m : Mid) (place : ℕ) where
       let w = object_work (walk m.state.subst (term_value g.game.program m a)) (term_value g.game.program m a) [] (registers_of (now a [] many next ops e)) (looked_at a [] many next ops e) in
       pays a [] many next ops e (written_in g.game.program (a ∷ []) + 5 * term_links g.game.program m a + 60) (asks_by a [] many next ops e ObjectFlag is refl) (omega arith)
 
-  objects_of : (kind : PlaceKind) → HasValues kind → (us : List Value) (r : Registers) (w : World) → ask_place g.game place (Some kind) us true [] r w ≡ ask_objects g.game (Some place) us true [] r w
+  pub objects_of : (kind : PlaceKind) → HasValues kind → (us : List Value) (r : Registers) (w : World) → ask_place g.game place (Some kind) us true [] r w ≡ ask_objects g.game (Some place) us true [] r w
   objects_of Flag has us r w = absurd has
   objects_of ObjectFlag has us r w = absurd has
   objects_of ObjectVar has us r w = refl
@@ -182,7 +182,7 @@ module _ (g : Setting) (ps : List Print) (m : Mid) (place : ℕ) where
     abbrev wld : World
     wld = looked_at a (c ∷ []) many next ops e
 
-    asked_so : effect_work (ask_place g.game place (slice_get (kinds_of g.game.program) place) (va ∷ vc ∷ []) true [] reg (world_of ps (now a (c ∷ []) many next ops e))) ≡ asked_work a (c ∷ []) many next ops e
+    pub asked_so : effect_work (ask_place g.game place (slice_get (kinds_of g.game.program) place) (va ∷ vc ∷ []) true [] reg (world_of ps (now a (c ∷ []) many next ops e))) ≡ asked_work a (c ∷ []) many next ops e
     asked_so = asks_by a (c ∷ []) many next ops e kind is (objects_of kind has (va ∷ vc ∷ []) reg (world_of ps (now a (c ∷ []) many next ops e)))
 
     read_paid : reading_most g.game.program a c m ≤ paid g ps (Runs m)

@@ -11,25 +11,17 @@ use Rattle.dg_meaning.specs.Values.{Num, Word, Unknown, Object, Nil, Pair, Closu
 use Rattle.dg_meaning.specs.Facts.{Fact, value_at, takes, Alteration, Sets, Clears, ClearsAll, kinds_of}
 use Rattle.dg_meaning.specs.Changes.{sets_if_taken, object_set, if_there, object_change, global_change, flag_change, change_of}
 use Rattle.dg_rt.specs.Tables.{byte_at, IsTable, AreBytes}
+use Rattle.dg_rt.specs.Areas.{line_at, fixed_end}
 use Rattle.dg_rt.specs.Changes.{TableIn, FlagsIn, facts_behind}
 use Rattle.dg_rt.proofs.Altered.{set_elsewhere, cleared_elsewhere, others_stay, table_stays, flags_stay}
 use Rattle.dg_turn.specs.Told.{Telling}
-use Rattle.dg_turn.specs.World.{world_at, place_words, place_bytes, all_words, words_at, bytes_at, PlaceIn, FactsIn, HasWorld}
+use Rattle.dg_turn.specs.Rest.{aux_end}
+use Rattle.dg_turn.specs.World.{world_at, place_words, place_bytes, all_words, words_at, bytes_at, PlaceIn, AreGlobal, KeptFacts, FactsIn, HasWorld}
+use Rattle.dg_rt.specs.Kept.{Block, NoEntry}
+use Rattle.dg_turn.proofs.GlobalFacts.{none_among, none_behind, kept_stay}
+use Rattle.dg_turn.proofs.Sums.{before_all, before_later}
 
--- ## Sums
-
--- What lies in front of a place, and it, is part of all.
-pub before_all : (f : PlaceKind → ℕ) (kinds : List PlaceKind) (place : ℕ) (kind : PlaceKind) → slice_get kinds place ≡ Some kind → sum_by f (take place kinds) + f kind ≤ sum_by f kinds
-before_all f [] place kind e = absurd (cc)
-before_all f (k ∷ ks) zero kind e = let same : k ≡ kind = cc in let q = ap f same in let none : sum_by f [] ≡ 0 = refl in let sum = sum_by-cons f k ks in omega arith
-before_all f (k ∷ ks) (suc place) kind e = let r = before_all f ks place kind e in let sum = sum_by-cons f k ks in let front = sum_by-cons f k (take place ks) in omega arith
-
--- So it is of what lies in front of a later one.
-before_later : (f : PlaceKind → ℕ) (kinds : List PlaceKind) (place q : ℕ) (kind : PlaceKind) → slice_get kinds place ≡ Some kind → place < q → sum_by f (take place kinds) + f kind ≤ sum_by f (take q kinds)
-before_later f [] place q kind e lt = absurd (cc)
-before_later f (k ∷ ks) place zero kind e lt = absurd (omega arith)
-before_later f (k ∷ ks) zero (suc q) kind e lt = let same : k ≡ kind = cc in let r = ap f same in let none : sum_by f [] ≡ 0 = refl in let front = sum_by-cons f k (take q ks) in omega arith
-before_later f (k ∷ ks) (suc place) (suc q) kind e lt = let r = before_later f ks place q kind e (omega arith) in let one = sum_by-cons f k (take place ks) in let two = sum_by-cons f k (take q ks) in omega arith
+-- ## Tables
 
 module _ (t : Telling) (world : HasWorld t) where
   abbrev n : ℕ
@@ -138,8 +130,9 @@ module _ (program : CoreProgram) (cells cells' : ℕ → ℕ) (facts facts' : Li
   all = world_at + all_words objects ks
 
   -- the place that has changed, and each other one
-  each_by : ((q : ℕ) (k : PlaceKind) → q ≢ place → slice_get ks q ≡ Some k → PlaceIn program facts' cells' q k) → FactsIn program facts' cells'
-  each_by others = record {
+  each_by : KeptFacts program facts' cells' → ((q : ℕ) (k : PlaceKind) → q ≢ place → slice_get ks q ≡ Some k → PlaceIn program facts' cells' q k) → FactsIn program facts' cells'
+  each_by kept others = record {
+    kept = kept;
     each = λ q k e. elim (cases_order q place) [
       | inl same ↦ subst (λ (i : ℕ). PlaceIn program facts' cells' i k) (sym same) (subst (PlaceIn program facts' cells' place) (let found : Some kind ≡ Some k = sym is ∙ ap (slice_get ks) (sym same) ∙ e in cc) there)
       | inr (inl lt) ↦ others q k (λ (s : q ≡ place). (omega arith)) e
@@ -162,7 +155,7 @@ module _ (program : CoreProgram) (cells cells' : ℕ → ℕ) (facts facts' : Li
   byte_same j e = rw e refl
 
   -- What lies in words has changed at one place.
-  module _ (k : ℕ) (size : place_words objects kind ≡ k) (others : (i : ℕ) → (words_at program place ≤ i → words_at program place + k ≤ i) → cells' i ≡ cells i) where
+  module _ (k : ℕ) (size : place_words objects kind ≡ k) (other : kind ≢ Global) (others : (i : ℕ) → (words_at program place ≤ i → words_at program place + k ≤ i) → cells' i ≡ cells i) where
     -- two tables are apart
     apart : (q : ℕ) (kind' : PlaceKind) → q ≢ place → slice_get ks q ≡ Some kind' → (i : ℕ) → words_at program q ≤ i → i < words_at program q + place_words objects kind' → cells' i ≡ cells i
     apart q kind' ne e i low lt = elim (cases_order q place) [
@@ -182,7 +175,14 @@ module _ (program : CoreProgram) (cells cells' : ℕ → ℕ) (facts facts' : Li
     stay q Global ne e = tt
 
     pub words_changed : FactsIn program facts' cells'
-    words_changed = each_by stay
+    words_changed = each_by kept stay
+      where
+        away : (q : ℕ) → slice_get ks q ≡ Some Global → q ≢ place
+        away q e = λ (same : q ≡ place). (let found : Some kind ≡ Some Global = sym is ∙ ap (slice_get ks) (sym same) ∙ e in other (cc))
+
+        kept : KeptFacts program facts' cells'
+        kept = kept_stay program facts facts' cells cells' (λ q e. elsewhere q 0 (away q e)) (λ i lo hi. others i (λ le. absurd (omega arith)))
+            (λ q e. (apart q Global (away q e) e (words_at program q) (omega arith) (omega arith), apart q Global (away q e) e (words_at program q + 1) (omega arith) (omega arith))) h.kept
 
   -- What lies in bytes has.
   module _ (flag : kind ≡ ObjectFlag) (bytes : (j : ℕ) → (bytes_at program place ≤ j → bytes_at program place + objects ≤ j) → byte_at cells' j ≡ byte_at cells j) (others : (i : ℕ) → (bytes_at program place ≤ 2 * i + 1 → bytes_at program place + objects ≤ 2 * i) → cells' i ≡ cells i) where
@@ -207,23 +207,79 @@ module _ (program : CoreProgram) (cells cells' : ℕ → ℕ) (facts facts' : Li
     flag_stay q Global ne e = tt
 
     pub bytes_changed : FactsIn program facts' cells'
-    bytes_changed = each_by flag_stay
+    bytes_changed = each_by kept flag_stay
+      where
+        away : (q : ℕ) → slice_get ks q ≡ Some Global → q ≢ place
+        away q e = λ (same : q ≡ place). (let found : Some ObjectFlag ≡ Some Global = sym flag_is ∙ ap (slice_get ks) (sym same) ∙ e in cc)
+
+        kept : KeptFacts program facts' cells'
+        kept = kept_stay program facts facts' cells cells' (λ q e. elsewhere q 0 (away q e)) (λ i lo hi. others i (λ le. absurd (omega arith)))
+            (λ q e. (words_apart q Global e (words_at program q) (omega arith) (omega arith), words_apart q Global e (words_at program q + 1) (omega arith) (omega arith))) h.kept
 
 -- ## Words stay
 
--- The facts are those that words from the world on say.
-pub facts_same : (program : CoreProgram) (facts : List Fact) (words words' : ℕ → ℕ) → ((k : ℕ) → world_at ≤ k → words' k ≡ words k) → FactsIn program facts words → FactsIn program facts words'
-facts_same program facts words words' same h = record { each = λ place kind e. by_kind place kind (h.each place kind e) }
+-- The facts are those that words from the world on say; those of lines and letters stand for none.
+pub facts_apart : (program : CoreProgram) (facts : List Fact) (words words' : ℕ → ℕ) → ((k : ℕ) → aux_end ≤ k → (line_at ≤ k → fixed_end ≤ k) → words' k ≡ words k) → FactsIn program facts words → FactsIn program facts words'
+facts_apart program facts words words' same h = record {
+  each = λ place kind e. by_kind place kind (h.each place kind e);
+  kept = kept_stay program facts facts words words' (λ place e. refl) (λ k lo hi. same k lo (λ q. absurd (omega arith)))
+      (λ place e. (same (words_at program place) (omega arith) (λ q. (omega arith)), same (words_at program place + 1) (omega arith) (λ q. (omega arith)))) h.kept;
+}
   where
     n : ℕ
     n = length program.objects
 
     by_kind : (place : ℕ) (kind : PlaceKind) → PlaceIn program facts words place kind → PlaceIn program facts words' place kind
-    by_kind place Flag old = table_stays words words' (words_at program place) 1 place facts facts (λ o. refl) (λ o lt. same (words_at program place + o) (omega arith)) old
+    by_kind place Flag old = table_stays words words' (words_at program place) 1 place facts facts (λ o. refl) (λ o lt. same (words_at program place + o) (omega arith) (λ q. (omega arith))) old
     by_kind place ObjectFlag old = flags_stay words words' (bytes_at program place) n place facts facts (λ o. refl) (λ o lt. byte_is (bytes_at program place + o) (omega arith)) old
       where
         byte_is : (j : ℕ) → 2 * world_at ≤ j → byte_at words' j ≡ byte_at words j
-        byte_is j le = let e = same (j / 2) (omega arith) in rw e refl
-    by_kind place ObjectVar old = table_stays words words' (words_at program place) n place facts facts (λ o. refl) (λ o lt. same (words_at program place + o) (omega arith)) old
-    by_kind place Parent old = table_stays words words' (words_at program place) n place facts facts (λ o. refl) (λ o lt. same (words_at program place + o) (omega arith)) old
+        byte_is j le = let e = same (j / 2) (omega arith) (λ q. (omega arith)) in rw e refl
+    by_kind place ObjectVar old = table_stays words words' (words_at program place) n place facts facts (λ o. refl) (λ o lt. same (words_at program place + o) (omega arith) (λ q. (omega arith))) old
+    by_kind place Parent old = table_stays words words' (words_at program place) n place facts facts (λ o. refl) (λ o lt. same (words_at program place + o) (omega arith) (λ q. (omega arith))) old
     by_kind place Global old = tt
+
+-- So are those that words from the world on say.
+pub facts_same : (program : CoreProgram) (facts : List Fact) (words words' : ℕ → ℕ) → ((k : ℕ) → aux_end ≤ k → words' k ≡ words k) → FactsIn program facts words → FactsIn program facts words'
+facts_same program facts words words' same h = facts_apart program facts words words' (λ k le far. same k le) h
+
+-- ## A global variable changes
+
+module _ (program : CoreProgram) (facts facts' : List Fact) (cells cells' : ℕ → ℕ) (place : ℕ) (is : slice_get (kinds_of program) place ≡ Some Global) (elsewhere : (q o : ℕ) → q ≢ place → value_at facts' q o ≡ value_at facts q o) (bs : List Block) (of_places : AreGlobal program bs) (others : (i : ℕ) → world_at ≤ i → i ≢ words_at program place → i ≢ words_at program place + 1 → NoEntry i bs → cells' i ≡ cells i) (kept : KeptFacts program facts' cells') (h : FactsIn program facts cells) where
+  abbrev size : ℕ
+  size = length program.objects
+
+  abbrev all_kinds : List PlaceKind
+  all_kinds = kinds_of program
+
+  away : (q : ℕ) (kind : PlaceKind) → slice_get all_kinds q ≡ Some kind → kind ≢ Global → q ≢ place
+  away q kind e other = λ (same : q ≡ place). (let found : Some kind ≡ Some Global = sym e ∙ ap (slice_get all_kinds) same ∙ is in other (cc))
+
+  -- words of a place of another kind
+  word_stays : (q : ℕ) (kind : PlaceKind) → slice_get all_kinds q ≡ Some kind → kind ≢ Global → (i : ℕ) → words_at program q ≤ i → i < words_at program q + place_words size kind → cells' i ≡ cells i
+  word_stays q kind e other i lo hi =
+      let none = none_among program bs of_places q kind e other i lo hi in
+      elim (cases_order q place) [
+        | inl same ↦ absurd (away q kind e other same)
+        | inr (inl before) ↦ (let c = before_later (place_words size) all_kinds q place kind e before in others i (omega arith) (λ x. omega arith) (λ x. omega arith) none)
+        | inr (inr behind) ↦ (let c = before_later (place_words size) all_kinds place q Global is behind in others i (omega arith) (λ x. omega arith) (λ x. omega arith) none)
+      ]
+
+  byte_stays : (q j : ℕ) → bytes_at program q ≤ j → byte_at cells' j ≡ byte_at cells j
+  byte_stays q j le =
+      let b = before_all (place_words size) all_kinds place Global is in
+      let e = others (j / 2) (omega arith) (λ x. omega arith) (λ x. omega arith) (none_behind program bs of_places (j / 2) (omega arith)) in
+      rw e refl
+
+  table_stay : (q k : ℕ) (kind : PlaceKind) → slice_get all_kinds q ≡ Some kind → kind ≢ Global → place_words size kind ≡ k → TableIn cells (words_at program q) k facts q → TableIn cells' (words_at program q) k facts' q
+  table_stay q k kind e other same old = table_stays cells cells' (words_at program q) k q facts facts' (λ o. elsewhere q o (away q kind e other)) (λ o lt. word_stays q kind e other (words_at program q + o) (omega arith) (omega arith)) old
+
+  each_place : (q : ℕ) (kind : PlaceKind) → slice_get all_kinds q ≡ Some kind → PlaceIn program facts' cells' q kind
+  each_place q Flag e = table_stay q 1 Flag e (λ (x : Flag ≡ Global). cc) refl (h.each q Flag e)
+  each_place q ObjectFlag e = flags_stay cells cells' (bytes_at program q) size q facts facts' (λ o. elsewhere q o (away q ObjectFlag e (λ (x : ObjectFlag ≡ Global). cc))) (λ o lt. byte_stays q (bytes_at program q + o) (omega arith)) (h.each q ObjectFlag e)
+  each_place q ObjectVar e = table_stay q size ObjectVar e (λ (x : ObjectVar ≡ Global). cc) refl (h.each q ObjectVar e)
+  each_place q Parent e = table_stay q size Parent e (λ (x : Parent ≡ Global). cc) refl (h.each q Parent e)
+  each_place q Global e = tt
+
+  pub facts_with : FactsIn program facts' cells'
+  facts_with = record { each = each_place; kept = kept }

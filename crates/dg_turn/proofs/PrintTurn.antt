@@ -18,7 +18,8 @@ use Rattle.z_lang.specs.declared.act.Args.TheVariants as args
 use Rattle.z_lang.specs.declared.act.Atom.TheVariants as atoms
 use Rattle.z_lang.specs.declared.act.Routine.{Routine}
 use Rattle.z_lang.specs.State.{State}
-use Rattle.z_lang.specs.Runs.{Returns, calls, returns}
+use Rattle.z_lang.specs.Runs.{Returns, Rests, rests, calls, returns}
+use Rattle.z_lang.specs.Standing.{IsKept}
 use Rattle.dg_rt.specs.declared.numbers.TheConstants.{PRINT_VALUE}
 use Rattle.dg_rt.specs.declared.printing.TheConstants.{PRINT_VALUE_ACTS}
 use Rattle.dg_rt.specs.inside.Walks.{steps}
@@ -30,6 +31,7 @@ use Rattle.dg_rt.proofs.Absent.{next_absent}
 use Rattle.dg_rt.proofs.Following.{register}
 use Rattle.dg_rt.proofs.PrintBound.{print_works}
 use Rattle.dg_rt.proofs.Standing.{print_value_at}
+use Rattle.dg_rt.proofs.Static.{runs_keep}
 use Rattle.dg_rt.proofs.UnifySteps.{steps_are}
 use Rattle.dg_turn.specs.Told.{Telling}
 use Rattle.dg_turn.specs.Plays.{Playing, Outside, Represented, Comes, Closes}
@@ -74,7 +76,7 @@ module _ (t : Telling) (plays : Playing t) (out : Outside) (a : Term) (words obj
       let few = k.few in
       closes t plays out e.x m z r routine e.there (omega arith) k.count (10 + closing_most) ending.HeapLimit k.memory' k.locals' k.runs (omega arith)
 
-  module _ (room : m.state.heap + n ≤ 10000) (met : Met) (meets : Meets out.words met) (spells : Spells t.p t.program (t.p.names.routine words) (t.p.names.routine objects)) where
+  module _ (room : m.state.heap + n ≤ 10000) (met : Met) (meets : Meets out.words met) (spells : Spells t.p t.story t.program (t.p.names.routine words) (t.p.names.routine objects)) where
     abbrev w1 : Wrote t out.words 3500 19000 routine.body rest routine.body r.sh r.memory out.typed out.output out.drawn r.cells r.trail m n 32 (va ∷ []) (written_in t.program ts + 6)
     w1 = writes_terms t plays.has 3500 19000 r.sh r.memory out.typed out.output out.drawn r.cells r.trail m r.holds r.mid routine.body (omega arith) (omega arith) rest 32 ts (omega arith) (omega arith) (λ q. (omega arith)) e.nodes room
 
@@ -83,6 +85,12 @@ module _ (t : Telling) (plays : Playing t) (out : Outside) (a : Term) (words obj
 
     abbrev es : List Print
     es = term_pieces t.program m a
+
+    -- static memory is the story's behind the term
+    kept : IsKept t.p.world.layout.base t.story w1.memory'
+    kept =
+        let high = plays.has.mapped.room in
+        runs_keep t.p t.story r.holds.globals (omega arith) (w1.runs (Rests rest) (now w1.memory') 0 rests) r.kept
 
     -- no variable of the next number stands in the value
     absent : contains m.state.vars (resolved S va) ≡ false
@@ -105,7 +113,7 @@ module _ (t : Telling) (plays : Playing t) (out : Outside) (a : Term) (words obj
 
     prints : Comes t (all_printed met es out) y (more n m) (print_most t.program met a m) z
     prints =
-        turn (print_works t.p plays.has t.program (t.p.names.routine words) (t.p.names.routine objects) spells w1.memory' out.typed out.output out.drawn w1.sh' w1.mid.state.shape w1.cells' w1.holds S w1.mid.state.stands x1 va w1.words.0 m.state.vars absent met (meets_here out.words w1.cells' met w1.mid.rest.outside meets))
+        turn (print_works t.p plays.has t.story t.program (t.p.names.routine words) (t.p.names.routine objects) spells w1.memory' out.typed out.output out.drawn w1.sh' w1.mid.state.shape w1.cells' w1.holds kept S w1.mid.state.stands x1 va w1.words.0 m.state.vars absent met (meets_here out.words w1.cells' met w1.mid.rest.outside meets))
 
 pub print_turns : PrintTurns
 print_turns = record {

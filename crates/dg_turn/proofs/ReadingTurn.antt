@@ -54,13 +54,13 @@ use Rattle.dg_turn.proofs.Terms.{writes_terms, meets_terms}
 -- ## Where the routines stand
 
 module _ (p : Program) (has : HasRunTime p) where
-  if_raised_at : p.routine_at (p.names.routine IF_RAISED) ≡ Some (routine_of 3 IF_RAISED_ACTS)
+  pub if_raised_at : p.routine_at (p.names.routine IF_RAISED) ≡ Some (routine_of 3 IF_RAISED_ACTS)
   if_raised_at = has.each (IF_RAISED - 1) (routine_of 3 IF_RAISED_ACTS) refl
 
   if_set_at : p.routine_at (p.names.routine IF_SET) ≡ Some (routine_of 2 IF_SET_ACTS)
   if_set_at = has.each (IF_SET - 1) (routine_of 2 IF_SET_ACTS) refl
 
-  read_value_at : p.routine_at (p.names.routine READ_VALUE) ≡ Some (routine_of 2 READ_VALUE_ACTS)
+  pub read_value_at : p.routine_at (p.names.routine READ_VALUE) ≡ Some (routine_of 2 READ_VALUE_ACTS)
   read_value_at = has.each (READ_VALUE - 1) (routine_of 2 READ_VALUE_ACTS) refl
 
 -- ## Flags
@@ -111,7 +111,7 @@ flag_turns t plays world out place a behind facts m z is facts_out e =
 
 -- ## Values
 
-word_small : (x : ℕ) (set : Option Value) → SetIn x set → x < 65536
+pub word_small : (x : ℕ) (set : Option Value) → SetIn x set → x < 65536
 word_small x None e = omega arith
 word_small x (Some v) is = let low = set_low x v is in omega arith
 

@@ -5,8 +5,9 @@ use Rattle.std.proofs.lemmas.List.{length-drop}
 use Rattle.dg_meaning.specs.World.{Gathering, gathered_size}
 use Rattle.dg_mid.specs.Step.{gathered_to}
 use Rattle.dg_rt.specs.Copies.{Row}
+use Rattle.dg_rt.specs.Gatherings.{rows_of}
 use Rattle.dg_turn.specs.Told.{Telling}
-use Rattle.dg_turn.specs.Rest.{aux_at, gather_words, newest, open_to, rows_of, GatheringsIn, RestIn}
+use Rattle.dg_turn.specs.Rest.{aux_at, gather_words, newest, open_to, GatheringsIn, RestIn}
 
 -- ## The oldest, so many
 

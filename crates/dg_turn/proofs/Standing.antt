@@ -1,7 +1,7 @@
 -- Where the routines stand that turns call.
 use Rattle.std.proofs.Common.{◌≡◌, Some, refl}
 use Rattle.z_lang.specs.State.{Program}
-use Rattle.dg_rt.specs.declared.numbers.TheConstants.{CHARGE, VAR, ENTER, OPEN, FAIL, FAILED, CAPTURE, COMMIT, FOUND, NONE, MATCH, MATCHED, LEAVE, ASK, TAIL_CALL, BODY, OPEN_INNER, UNSTOP, DONE, STOPPED, ASK_SPACES}
+use Rattle.dg_rt.specs.declared.numbers.TheConstants.{CHARGE, VAR, ENTER, OPEN, FAIL, FAILED, CAPTURE, COMMIT, FOUND, NONE, MATCH, MATCHED, LEAVE, ASK, TAIL_CALL, BODY, OPEN_INNER, UNSTOP, DONE, STOPPED, ASK_SPACES, CLOSURE, IF_BODY, ENTER_BODY}
 use Rattle.dg_rt.specs.declared.closings.TheConstants.{DONE_ACTS, FAILED_ACTS, STOPPED_ACTS}
 use Rattle.dg_rt.specs.declared.heap.TheConstants.{CHARGE_ACTS}
 use Rattle.dg_rt.specs.declared.frames.TheConstants.{VAR_ACTS, CAPTURE_ACTS, ENTER_ACTS}
@@ -9,6 +9,7 @@ use Rattle.dg_rt.specs.declared.choices.TheConstants.{OPEN_ACTS, FAIL_ACTS, COMM
 use Rattle.dg_rt.specs.declared.rules.TheConstants.{FOUND_ACTS, NONE_ACTS, MATCH_ACTS, MATCHED_ACTS}
 use Rattle.dg_rt.specs.declared.queries.TheConstants.{LEAVE_ACTS, ASK_ACTS, TAIL_CALL_ACTS, BODY_ACTS}
 use Rattle.dg_rt.specs.declared.gaps.TheConstants.{ASK_SPACES_ACTS}
+use Rattle.dg_rt.specs.declared.closures.TheConstants.{CLOSURE_ACTS, IF_BODY_ACTS, ENTER_BODY_ACTS}
 use Rattle.dg_rt.specs.RunTime.{routine_of, HasRunTime}
 
 module _ (p : Program) (has : HasRunTime p) where
@@ -74,3 +75,12 @@ module _ (p : Program) (has : HasRunTime p) where
 
   pub ask_spaces_at : p.routine_at (p.names.routine ASK_SPACES) ≡ Some (routine_of 2 ASK_SPACES_ACTS)
   ask_spaces_at = has.each 53 (routine_of 2 ASK_SPACES_ACTS) refl
+
+  pub closure_at : p.routine_at (p.names.routine CLOSURE) ≡ Some (routine_of 3 CLOSURE_ACTS)
+  closure_at = has.each 85 (routine_of 3 CLOSURE_ACTS) refl
+
+  pub if_body_at : p.routine_at (p.names.routine IF_BODY) ≡ Some (routine_of 3 IF_BODY_ACTS)
+  if_body_at = has.each 86 (routine_of 3 IF_BODY_ACTS) refl
+
+  pub enter_body_at : p.routine_at (p.names.routine ENTER_BODY) ≡ Some (routine_of 0 ENTER_BODY_ACTS)
+  enter_body_at = has.each 87 (routine_of 0 ENTER_BODY_ACTS) refl

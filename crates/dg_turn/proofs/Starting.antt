@@ -21,11 +21,11 @@ use Rattle.dg_turn.specs.Starts.{set_word, FitsPlace, StartTerms, StartsFit}
 
 -- ## Values
 
-abbrev IsNoPair : term.Term-F Term → Type 0
+abbrev pub IsNoPair : term.Term-F Term → Type 0
 IsNoPair (term.Pair head tail) = ⊥
 IsNoPair other = Unit {0}
 
-leaf_is : (x : Term) → IsNoPair (out-Term x) → start_value x ≡ value_of_leaf no_program [] (out-Term x)
+pub leaf_is : (x : Term) → IsNoPair (out-Term x) → start_value x ≡ value_of_leaf no_program [] (out-Term x)
 unfolding out-Term denote.Hole.Carrier.out
 leaf_is (Pair' s head k tail) h = absurd h
 leaf_is x h = refl
@@ -45,7 +45,7 @@ leaf_stands (term.Closure c) simple few = absurd simple
 simple_stands : (x : Term) → IsSimple (out-Term x) → IsTerm (out-Term x) → Stood (start_value x)
 simple_stands x simple few = let l = leaf_stands (out-Term x) simple few in subst Stood (sym (leaf_is x l.1)) l.0
 
-of_object : (x : term.Term-F Term) → IsObject x → IsSimple x
+pub of_object : (x : term.Term-F Term) → IsObject x → IsSimple x
 of_object (term.Num n) o = absurd o
 of_object (term.Word n) o = absurd o
 of_object (term.Object n) o = tt
@@ -54,7 +54,7 @@ of_object (term.Var n) o = absurd o
 of_object (term.Pair head tail) o = absurd o
 of_object (term.Closure c) o = absurd o
 
-of_nothing : (x : term.Term-F Term) → IsNothing x → IsSimple x
+pub of_nothing : (x : term.Term-F Term) → IsNothing x → IsSimple x
 of_nothing (term.Num n) o = absurd o
 of_nothing (term.Word n) o = absurd o
 of_nothing (term.Object n) o = absurd o
@@ -77,7 +77,7 @@ abbrev IsStarted : (ℕ × Term → Type 0) → (ℕ × Term → Type 0) → ℕ
 IsStarted P Q o None = Unit {0}
 IsStarted P Q o (Some v) = Started P Q o v
 
-abbrev fact_of : ℕ → ℕ × Term → Fact
+abbrev pub fact_of : ℕ → ℕ × Term → Fact
 fact_of p start = record { place = p; object = start.0; value = start_value start.1 }
 
 -- at the place of the starts
@@ -89,11 +89,11 @@ starts_here P Q p o (start ∷ starts) rest all alls none =
     (λ e. starts_here P Q p o starts rest (All-tail P start starts all) (All-tail Q start starts alls) none)
 
 -- at another one
-starts_elsewhere : (p q o : ℕ) (starts : List (ℕ × Term)) (rest : List Fact) → p ≢ q → value_at (map (fact_of p) starts ++ rest) q o ≡ value_at rest q o
+pub starts_elsewhere : (p q o : ℕ) (starts : List (ℕ × Term)) (rest : List Fact) → p ≢ q → value_at (map (fact_of p) starts ++ rest) q o ≡ value_at rest q o
 starts_elsewhere p q o [] rest ne = refl
 starts_elsewhere p q o (start ∷ starts) rest ne = cond-false (nat_eq p q && nat_eq start.0 o) (Some (start_value start.1)) (value_at (map (fact_of p) starts ++ rest) q o) (rw (ne_eqb p q ne) refl) ∙ starts_elsewhere p q o starts rest ne
 
-behind : (places : List Place) (n q o : ℕ) → q < n → value_at (starts_from n places) q o ≡ None
+pub behind : (places : List Place) (n q o : ℕ) → q < n → value_at (starts_from n places) q o ≡ None
 behind [] n q o lt = refl
 behind (place ∷ places) n q o lt = starts_elsewhere n q o place.start (starts_from (n + 1) places) (λ (e : n ≡ q). (omega arith)) ∙ behind places (n + 1) q o (omega arith)
 

@@ -50,14 +50,14 @@ module _ (n : ℕ) (facts : List Fact) where
   bytes_long place o zero = refl
   bytes_long place o (suc k) = ap suc (bytes_long place (suc o) k)
 
-  table_long : (place : ℕ) (kind : PlaceKind) → length (words_of_place n facts place kind) ≡ place_words n kind
+  pub table_long : (place : ℕ) (kind : PlaceKind) → length (words_of_place n facts place kind) ≡ place_words n kind
   table_long place Flag = refl
   table_long place ObjectFlag = refl
   table_long place ObjectVar = words_long place 0 n
   table_long place Parent = words_long place 0 n
   table_long place Global = refl
 
-  flags_long : (place : ℕ) (kind : PlaceKind) → length (bytes_of_place n facts place kind) ≡ place_bytes n kind
+  pub flags_long : (place : ℕ) (kind : PlaceKind) → length (bytes_of_place n facts place kind) ≡ place_bytes n kind
   flags_long place Flag = refl
   flags_long place ObjectFlag = bytes_long place 0 n
   flags_long place ObjectVar = refl
@@ -112,7 +112,7 @@ flags_stand facts words place b n fits row = record {
 }
 
 pub world_stands : WorldStands
-world_stands program facts words fits h = record { each = λ place kind e. by_kind place kind e (fits place kind e) }
+world_stands program facts words fits h = record { each = λ place kind e. by_kind place kind e (fits place kind e); kept = h.kept }
   where
     n : ℕ
     n = length program.objects

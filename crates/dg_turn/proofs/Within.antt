@@ -10,20 +10,21 @@ use Rattle.dg_mid.specs.State.{Mid}
 use Rattle.dg_rt.specs.Areas.{heap_at, trail_at}
 use Rattle.dg_rt.specs.Shapes.{Shape}
 use Rattle.dg_rt.specs.Copies.{cell_word, words_of, Row}
+use Rattle.dg_rt.specs.Gatherings.{rows_of}
 use Rattle.dg_rt.proofs.Backs.{grown_none, back_grown, trail_stays}
 use Rattle.dg_turn.specs.Told.{Telling}
-use Rattle.dg_turn.specs.Rest.{aux_at, aux_end, gather_words, rows_of, GatheringsIn}
+use Rattle.dg_turn.specs.Rest.{aux_at, aux_end, gather_words, GatheringsIn}
 use Rattle.dg_turn.specs.Lies.{StopNamed, FramesIn, InnersIn, MidIn}
 use Rattle.dg_turn.proofs.Staying.{IsKept, low_kept, high_kept, rest_kept}
 use Rattle.dg_turn.proofs.Growing.{stops_at, choices_at, stands_same}
 
 -- ## What is gathered
 
-rows_length : (vs : List Value) → length (rows_of vs) ≡ sum_by (λ v. length (cells_of v)) vs
+pub rows_length : (vs : List Value) → length (rows_of vs) ≡ sum_by (λ v. length (cells_of v)) vs
 rows_length [] = refl
 rows_length (v ∷ vs) = length-append (words_of v) (rows_of vs) ∙ (let a = length-map (cells_of v) cell_word in let b = rows_length vs in let c = sum_by-cons (λ (u : Value). length (cells_of u)) v vs in omega arith)
 
-row_within : (cells cells' : ℕ → ℕ) (j end : ℕ) (xs : List ℕ) → j + length xs ≤ end → ((k : ℕ) → j ≤ k → k < end → cells' k ≡ cells k) → Row cells j xs → Row cells' j xs
+pub row_within : (cells cells' : ℕ → ℕ) (j end : ℕ) (xs : List ℕ) → j + length xs ≤ end → ((k : ℕ) → j ≤ k → k < end → cells' k ≡ cells k) → Row cells j xs → Row cells' j xs
 row_within cells cells' j end [] le same h = tt
 row_within cells cells' j end (x ∷ xs) le same h = (same j (omega arith) (omega arith) ∙ h.0, row_within cells cells' (suc j) end xs (omega arith) (λ k low lt. same k (omega arith) lt) h.1)
 

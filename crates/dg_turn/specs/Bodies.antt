@@ -8,7 +8,7 @@ use Rattle.dg_base.specs.declared.run.Ending.TheVariants.{HeapLimit, TrailLimit}
 use Rattle.dg_base.specs.Goals.{option_terms}
 use Rattle.dg_meaning.specs.Values.{Closure, Value, Node, Values, value_of}
 use Rattle.dg_meaning.specs.Copies.{values_of}
-use Rattle.dg_meaning.specs.Cells.{captured_count, nodes_of, cells}
+use Rattle.dg_meaning.specs.Cells.{nodes_of, cells}
 use Rattle.dg_meaning.specs.Moves.{new_vars}
 use Rattle.dg_meaning.specs.Substitutions.{walk, links}
 use Rattle.dg_meaning.specs.Unify.{Unified, Equations, solve}
@@ -23,8 +23,8 @@ use Rattle.z_lang.specs.declared.act.Args.TheVariants as args
 use Rattle.z_lang.specs.declared.act.Atom.TheVariants as atoms
 use Rattle.z_lang.specs.declared.act.Comparison.TheVariants as comparisons
 use Rattle.z_lang.specs.declared.act.Routine.{Routine}
-use Rattle.dg_rt.specs.declared.numbers.TheConstants.{WALK, FAIL, VAR, TAIL_CALL, BODY, KEY_OF}
-use Rattle.dg_rt.specs.declared.registers.TheConstants.{BACK, MANY, KEY, CLASH, ARGS, PARAMETERS}
+use Rattle.dg_rt.specs.declared.numbers.TheConstants.{WALK, FAIL, TAIL_CALL, KEY_OF, IF_BODY}
+use Rattle.dg_rt.specs.declared.registers.TheConstants.{BACK, MANY, KEY, PARAMETERS, WORD}
 use Rattle.dg_rt.specs.Areas.{back_reg, many_reg, key_reg, args_reg, parameters_reg}
 use Rattle.dg_rt.specs.Shapes.{Shows}
 use Rattle.dg_rt.specs.Rules.{KeyIs}
@@ -36,7 +36,7 @@ use Rattle.dg_turn.specs.Lies.{bit_of, WordsIn}
 use Rattle.dg_turn.specs.Plays.{Playing, Outside, Represented, registers, Comes, Closes}
 use Rattle.dg_turn.specs.Terms.{terms_acts, AreNodes, written_in}
 use Rattle.dg_turn.specs.LastQueries.{left_at, next_of}
-use Rattle.dg_turn.specs.Turns.{HEAD, agreed_next, match_acts, last_acts}
+use Rattle.dg_turn.specs.Turns.{agreed_next}
 
 -- ## Asking
 
@@ -140,22 +140,16 @@ fork_routine place left right =
     routine_of 0 (acts.When (record { comparison = comparisons.Less; first = atoms.Var KEY; second = atoms.Num (49152 + place); answer = true }) 0
     ∷ acts.Return (atoms.Routine right) ∷ acts.Label 0 ∷ acts.Return (atoms.Routine left) ∷ [])
 
--- The routine that enters the body of a closure that captures so many values, and goes on at its block; it fails with another key. The parameter, where
--- there is an argument, is the first of its own variables.
-abbrev pub body_routine : (place own captured block : ℕ) → Routine
-body_routine place own captured block =
-    routine_of 0 (acts.When (record { comparison = comparisons.Equal; first = atoms.Var KEY; second = atoms.Num (49152 + place); answer = true }) 0
-    ∷ acts.Return (atoms.Routine FAIL) ∷ acts.Label 0 ∷ acts.Call None (atoms.Routine BODY) (args.Two (atoms.Num own) (atoms.Var CALLED))
-    ∷ acts.Copy CLASH (atoms.Num 0)
-    ∷ acts.When (record { comparison = comparisons.Equal; first = atoms.Var PARAMETERS; second = atoms.Num 0; answer = true }) 1
-    ∷ acts.Call (Some HEAD) (atoms.Routine VAR) (args.One (atoms.Num captured))
-    ∷ (match_acts ARGS HEAD 1 ++ (acts.Label 1 ∷ last_acts block)))
+-- The routine of the body of a closure: where it is the one that is asked, it is entered and goes on at its block; else it fails.
+abbrev pub body_routine : (place own block : ℕ) → Routine
+body_routine place own block =
+    routine_of 0 (acts.Call (Some WORD) (atoms.Routine IF_BODY) (args.Three (atoms.Num (49152 + place)) (atoms.Num own) (atoms.Routine block))
+    ∷ acts.Return (atoms.Var WORD) ∷ [])
 
 -- The routine of a number enters the body of a closure.
 pub record BodyAt (t : Telling) (number place : ℕ) (c : BodyCode) : Type 0 where
   pub block : ℕ
-  pub is : t.p.routine_at (t.p.names.routine number) ≡
-      Some (body_routine place c.own (captured_count (slice_get t.program.closures place)) block)
+  pub is : t.p.routine_at (t.p.names.routine number) ≡ Some (body_routine place c.own block)
   pub block_is : t.p.names.routine block ≡ t.at_block c.block
   pub small : place < 16384
   pub few : c.own ≤ 300
@@ -196,7 +190,7 @@ pub record FindTurns : Type 0 where
   pub fails : (t : Telling) → Playing t → (out : Outside) (number place depth : ℕ) (cs : List BodyCode) → FindsBodies t number place cs depth →
       (call : Call) (v : Value) (m : Mid) (z : ZState) →
       ((n : ℕ) (parts : Values) → n < length cs → v ≢ Node (Closure (place + n)) parts) → FindsAt t out number call v m z →
-      FindsNone t out m (4 * depth + 5) z
+      FindsNone t out m (4 * depth + 6) z
 
 -- ## Entering
 
@@ -230,7 +224,7 @@ pub record BodyTurns : Type 0 where
       (body_most t.program (values_of parts) c.own call m) z
   pub meets_heap : (t : Telling) → Playing t → (out : Outside) (number place : ℕ) (c : BodyCode) (call : Call) (parts : Values) (m : Mid) (z : ZState) →
       BodyAt t number place c → FindsAt t out number call (Node (Closure place) parts) m z → 10000 < m.state.heap + (6 + c.own) →
-      Closes t out HeapLimit (15 + closing_most) z
+      Closes t out HeapLimit (25 + closing_most) z
   pub meets_trail : (t : Telling) → Playing t → (out : Outside) (number place : ℕ) (c : BodyCode) (call : Call) (parts : Values) (m : Mid)
       (z : ZState) → BodyAt t number place c → length call.args ≤ 1 → call.cut.height ≡ m.state.heap →
       FindsAt t out number call (Node (Closure place) parts) m z → m.state.heap + (6 + c.own) ≤ 10000 →

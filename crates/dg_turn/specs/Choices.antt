@@ -1,5 +1,5 @@
 -- Choices of blocks that are opened, and going back to one, as turns. Hold it against `does` and `goes_back` of dg_mid/specs/Step.antt.
-use Rattle.std.specs.Prelude.{◌≡◌, ℕ, ◌+◌, ◌*◌, ◌<◌, ◌≤◌, List, [], ◌∷◌, Some, None}
+use Rattle.std.specs.Prelude.{◌≡◌, ℕ, ◌+◌, ◌*◌, ◌<◌, ◌≤◌, List, [], ◌∷◌, length, Some, None}
 use Rattle.dg_base.specs.declared.run.Ending.TheVariants.{HeapLimit}
 use Rattle.dg_meaning.specs.Values.{Value}
 use Rattle.dg_mid.specs.State.{Goes, Takes, Choice, Mid, Fails, place_of}
@@ -18,6 +18,7 @@ use Rattle.dg_rt.specs.Shapes.{Shows}
 use Rattle.dg_rt.specs.RunTime.{routine_of}
 use Rattle.dg_rt.specs.Closings.{closing_most}
 use Rattle.dg_turn.specs.Told.{Telling}
+use Rattle.dg_turn.specs.Lies.{OpensFewer, StopsFewer}
 use Rattle.dg_turn.specs.Plays.{Playing, Outside, Represented, Comes, Closes}
 
 -- ## Opening
@@ -72,10 +73,12 @@ pub record OnceTurns : Type 0 where
 
 -- ## Going back
 
--- The player is back at a choice that takes out a gathering for a value: a word that stands for it is in the register of what comes behind a query.
+-- The player is back at a choice that takes out a gathering for a value: a word that stands for it is in the register of what comes behind a query, and
+-- the choices and stoppable parts that are left were opened where fewer gatherings were open.
 pub record TakesAt (t : Telling) (out : Outside) (block : ℕ) (into : Value) (m : Mid) (most : ℕ) (z : ZState) : Type 0 where
   pub comes : Comes t out (t.at_block block) m most z
   pub into_is : Shows comes.rep.sh (comes.rep.cells back_reg) into
+  pub fewer : OpensFewer (length m.gathered) m.choices × StopsFewer (length m.gathered) m.stops
 
 -- In one turn a failure goes back to a choice that goes on with a block, or takes out a gathering there, in 6 instructions for each binding that is
 -- undone and 34.

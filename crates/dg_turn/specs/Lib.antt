@@ -1,5 +1,7 @@
 pub mod Told
 pub mod Rest
+pub mod Layout
+pub mod Tries
 pub mod Lies
 pub mod Plays
 pub mod Terms
@@ -13,7 +15,15 @@ pub mod Stopping
 pub mod Bodies
 pub mod Texts
 pub mod World
+pub mod Globals
+pub mod Sites
 pub mod Starts
+pub mod Seeking
 pub mod Operating
 pub mod Prints
+pub mod Gatherings
 pub mod Paid
+pub mod GatheringsPaid
+pub mod Names
+pub mod Typing
+pub mod TypingPaid

@@ -1,16 +1,15 @@
 -- How what a machine of register code is in lies in a story's memory. Hold it against dg_mid/specs/State.antt.
 use Rattle.std.specs.Prelude.{◌≡◌, ℕ, suc, ◌+◌, ◌*◌, ◌<◌, ◌≤◌, List, [], ◌∷◌, ◌++◌, length, Bool, true, false, Option, Some, None}
-use Rattle.std.specs.List.{slice_get}
 use Rattle.dg_meaning.specs.Values.{Value}
 use Rattle.dg_meaning.specs.Substitutions.{Substitution}
 use Rattle.dg_meaning.specs.inside.Unifiers.{binding_of}
-use Rattle.dg_meaning.specs.Cells.{captured_count}
 use Rattle.dg_unify.specs.Store.{State}
 use Rattle.dg_mid.specs.declared.code.RuleCode.{RuleCode}
-use Rattle.dg_mid.specs.State.{Place, Frame, Call, Way, Goes, Takes, Calls, Tries, Stop, Choice, Mid}
+use Rattle.dg_mid.specs.State.{Place, Frame, Call, Find, Way, Goes, Takes, Calls, Tries, Stop, Choice, Mid}
 use Rattle.dg_mid.specs.Step.{first_of}
-use Rattle.dg_turn.specs.Told.{Telling, FirstIs, RulesAt}
+use Rattle.dg_turn.specs.Told.{Telling, told_count, FirstIs, RulesAt}
 use Rattle.dg_turn.specs.Rest.{gather_words, newest, open_to, RestIn}
+use Rattle.dg_turn.specs.Tries.{Sought, sought_at, sought_terms, tries_routine, AreLeft}
 use Rattle.dg_rt.specs.Areas.{trail_reg, mark_reg, heap_reg, frame_reg, choice_reg, inner_reg, stop_reg}
 use Rattle.dg_rt.specs.Shapes.{Shape, IsShape, Cell, Shows, Stands}
 use Rattle.dg_rt.specs.Back.{at_place, Saved, GivesBack, OnTrail}
@@ -106,7 +105,7 @@ pub record StateIn (t : Telling) (sh : Shape) (cells : ℕ → ℕ) (trail : Lis
   pub trail_len : length trail ≡ s.trail
   pub few : s.heap ≤ 10000
   pub few_trail : s.trail ≤ 2000
-  pub told : (place : ℕ) → sh.captures place ≡ captured_count (slice_get t.program.closures place)
+  pub told : (place : ℕ) → sh.captures place ≡ told_count t.program place
 
 -- ## Calls and ways
 
@@ -138,12 +137,23 @@ pub record CallsIn (t : Telling) (sh : Shape) (routine : ℕ) (args : List ℕ) 
   pub call_is : CallIn t sh args next cut many call
   pub key_is : FirstIs (first_of S call) key
 
--- The same of each way on. One of objects has no words yet.
+-- What a choice of further objects goes on with: the routine that tries the first of them, whose number is the key, and the arguments.
+pub record TriesIn (t : Telling) (sh : Shape) (routine : ℕ) (args : List ℕ) (key : ℕ) (f : Find) (objects : List ℕ) : Type 0 where
+  pub sought : Sought
+  pub sought_is : sought_at t.program f.place ≡ Some sought
+  pub count : length f.args ≡ sought_terms sought
+  pub next : ℕ
+  pub next_is : t.p.names.routine next ≡ t.at_block f.next
+  pub is : t.p.routine_at routine ≡ Some (tries_routine t.program sought f.many next)
+  pub args_are : WordsIn sh args f.args
+  pub objects_are : AreLeft (length t.program.objects) key objects
+
+-- The same of each way on.
 abbrev pub WayIn : Telling → Shape → (routine : ℕ) → (args : List ℕ) → (next cut many key : ℕ) → Substitution → Way → Type 0
 WayIn t sh routine args next cut many key S (Goes b) = routine ≡ t.at_block b
 WayIn t sh routine args next cut many key S (Takes b into) = (routine ≡ t.at_block b) × Shows sh next into
 WayIn t sh routine args next cut many key S (Calls call rules) = CallsIn t sh routine args next cut many key S call rules
-WayIn t sh routine args next cut many key S (Tries f objects) = ⊥
+WayIn t sh routine args next cut many key S (Tries f objects) = TriesIn t sh routine args key f objects
 
 -- ## Stoppable parts
 
@@ -206,6 +216,20 @@ abbrev pub AreApart : List Stop → List Choice → Type 0
 AreApart [] cs = Unit {0}
 AreApart (s ∷ ss) cs = EndsBefore s.place.height s.height cs × AreApart ss cs
 
+-- The newest of some choices, and of some stoppable parts, was opened where fewer gatherings were open than so many.
+abbrev pub OpensFewer : ℕ → List Choice → Type 0
+OpensFewer n [] = Unit {0}
+OpensFewer n (c ∷ cs) = c.height < n
+
+abbrev pub StopsFewer : ℕ → List Stop → Type 0
+StopsFewer n [] = Unit {0}
+StopsFewer n (s ∷ ss) = s.height < n
+
+-- So it is in front of a choice that takes the newest of so many gatherings out.
+abbrev pub TakesLast : Way → ℕ → List Choice → List Stop → Type 0
+TakesLast (Takes b into) n cs ss = OpensFewer n cs × StopsFewer n ss
+TakesLast way n cs ss = Unit {0}
+
 -- A choice lies in ten cells and those of its arguments, from its height on; undoing gives back memory there, which stands for what it restores. It
 -- keeps the stoppable part around, and the newest gathering of so many.
 pub record ChoiceIn (older : Saved → ℕ → Type 0) (t : Telling) (sh : Shape) (cells : ℕ → ℕ) (trail : List ℕ) (opens : List ℕ) (word : ℕ)
@@ -236,6 +260,7 @@ pub record ChoiceIn (older : Saved → ℕ → Type 0) (t : Telling) (sh : Shape
   pub gather_is : gather ≡ newest (open_to c.height opens)
   pub stops : StopsIn t saved.sh saved.cells saved.trail (open_to c.height opens) c.stops
   pub apart : AreApart c.stops cs
+  pub fewer : TakesLast c.way c.height cs c.stops
   pub older_are : older saved behind
 
 -- So do all of them, the newest first; 0 is none. Of the older ones it is said over the memory that going back to the newer one gives.

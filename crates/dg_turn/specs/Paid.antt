@@ -12,7 +12,7 @@ use Rattle.dg_base.specs.declared.program.TestKind.{TestKind}
 use Rattle.dg_base.specs.Goals.{option_terms}
 use Rattle.dg_base.specs.Sound.{IsPrintable}
 use Rattle.dg_meaning.specs.Values.{Value}
-use Rattle.dg_meaning.specs.Facts.{kinds_of}
+use Rattle.dg_meaning.specs.Facts.{kinds_of, value_at}
 use Rattle.dg_meaning.specs.Numbers.{calculated, thrown}
 use Rattle.dg_meaning.specs.Choosing.{die}
 use Rattle.dg_meaning.specs.World.{Print}
@@ -35,7 +35,8 @@ use Rattle.dg_turn.specs.Rules.{keyed}
 use Rattle.dg_turn.specs.Queries.{asking_most}
 use Rattle.dg_turn.specs.Bodies.{querying_most, body_most}
 use Rattle.dg_turn.specs.Texts.{gap_n_most}
-use Rattle.dg_turn.specs.World.{now_most, set_in, reading_most, answering_most, HasValues}
+use Rattle.dg_turn.specs.World.{now_most, set_in, reading_most, answering_most, HasValues, change_in}
+use Rattle.dg_turn.specs.Globals.{kept_behind, global_most, global_read_most, global_copied_most}
 
 -- What a step may cost.
 abbrev pub paid : Setting → List Print → Status → ℕ
@@ -134,3 +135,18 @@ pub record WorldIsPaid : Type 0 where
       (word : ℕ) (v : Value) → m.ops ≡ op.Find (Some place) (a ∷ c ∷ []) many next ∷ ops →
       slice_get (kinds_of g.game.program) place ≡ Some kind → HasValues kind → AreNodes g.game.program (nodes_of (a ∷ c ∷ [])) →
       set_in g.game.program m.lasting.facts place a m ≡ Some v → SetIn word (Some v) → answering_most g.game.program a c v m ≤ paid g ps (Runs m)
+
+-- So are those of a change and of a query of a global variable, and of unifying a copy of what is set.
+pub record GlobalsArePaid : Type 0 where
+  pub now : (g : Setting) (ps : List Print) (m : Mid) (place : ℕ) (a : Term) (sets : Bool) (ops : List Op) →
+      m.ops ≡ op.Do (action.Now place (a ∷ []) sets) ∷ ops → slice_get (kinds_of g.game.program) place ≡ Some Global →
+      AreNodes g.game.program (nodes_of (a ∷ [])) →
+      let change = change_in g.game.program Global place (a ∷ []) sets m in
+      global_most g.game.program a (kept_behind g.game.program change m.lasting.facts) m ≤ paid g ps (Runs m)
+  pub read : (g : Setting) (ps : List Print) (m : Mid) (place : ℕ) (a : Term) (many : Bool) (next : ℕ) (ops : List Op) →
+      m.ops ≡ op.Find (Some place) (a ∷ []) many next ∷ ops → AreNodes g.game.program (nodes_of (a ∷ [])) →
+      global_read_most g.game.program a ≤ paid g ps (Runs m)
+  pub copy : (g : Setting) (ps : List Print) (m : Mid) (place : ℕ) (a : Term) (v : Value) (many : Bool) (next : ℕ) (ops : List Op) →
+      m.ops ≡ op.Find (Some place) (a ∷ []) many next ∷ ops → slice_get (kinds_of g.game.program) place ≡ Some Global →
+      AreNodes g.game.program (nodes_of (a ∷ [])) → value_at m.lasting.facts place 0 ≡ Some v →
+      global_copied_most g.game.program a v m ≤ paid g ps (Runs m)

@@ -52,7 +52,7 @@ print_most program met a m =
 -- In one turn the value of a term is printed, or the heap's limit is met: `effect` of (print).
 pub record PrintTurns : Type 0 where
   pub prints : (t : Telling) → Playing t → (out : Outside) (a : Term) (words objects behind : ℕ) (m : Mid) (z : ZState) (met : Met) →
-      Spells t.p t.program (t.p.names.routine words) (t.p.names.routine objects) →
+      Spells t.p t.story t.program (t.p.names.routine words) (t.p.names.routine objects) →
       InFront t out (print_routine t.program a words objects behind) (a ∷ []) m z → m.state.heap + cells t.program (a ∷ []) ≤ 10000 →
       Meets out.words met →
       Comes t (all_printed met (term_pieces t.program m a) out) (t.p.names.routine behind) (more (cells t.program (a ∷ [])) m)

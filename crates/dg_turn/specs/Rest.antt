@@ -1,15 +1,12 @@
 -- What lies in memory beside frames, the store and choices: what is gathered, and what turns of this crate leave as it is. Hold it against
 -- dg_meaning/specs/World.antt, and docs/LANGUAGE.md, where it says what a limit counts.
-use Rattle.std.specs.Prelude.{◌≡◌, ◌≢◌, ℕ, ◌+◌, ◌-◌, ◌<◌, ◌≤◌, List, [], ◌∷◌, ◌++◌, length, drop}
-use Rattle.std.specs.List.{slice_get}
-use Rattle.dg_meaning.specs.Values.{Value}
-use Rattle.dg_meaning.specs.Cells.{captured_count}
+use Rattle.std.specs.Prelude.{◌≡◌, ◌≢◌, ℕ, ◌+◌, ◌-◌, ◌<◌, ◌≤◌, List, [], ◌∷◌, length, drop}
 use Rattle.dg_meaning.specs.World.{Gathering, gathered_size}
 use Rattle.dg_rt.specs.Cells.{at_cell}
 use Rattle.dg_rt.specs.Areas.{areas_end, gather_reg}
-use Rattle.dg_rt.specs.Laying.{Formed}
-use Rattle.dg_rt.specs.Copies.{words_of, Row}
-use Rattle.dg_turn.specs.Told.{Telling}
+use Rattle.dg_rt.specs.Copies.{Row}
+use Rattle.dg_rt.specs.Gatherings.{rows_of, AreFormed}
+use Rattle.dg_turn.specs.Told.{Telling, told_count}
 
 -- ## Gatherings
 
@@ -34,22 +31,12 @@ newest (x ∷ xs) = x
 abbrev pub open_to : ℕ → List ℕ → List ℕ
 open_to n xs = drop (length xs - n) xs
 
--- The words of values in a row.
-abbrev pub rows_of : List Value → List ℕ
-rows_of [] = []
-rows_of (v ∷ vs) = words_of v ++ rows_of vs
-
--- So is each of some values formed as those of a program are.
-abbrev pub AreFormed : (ℕ → ℕ) → List Value → Type 0
-AreFormed captures [] = Unit {0}
-AreFormed captures (v ∷ vs) = Formed captures v × AreFormed captures vs
-
 -- A gathering lies behind the others: a header of two words, the name of the one before it and the address behind its values, and the values.
 pub record GatheringIn (t : Telling) (cells : ℕ → ℕ) (x : Gathering) (others : List Gathering) : Type 0 where
   pub before : cells (aux_at + gathered_size others) ≡ newest (gather_words others)
   pub end : cells (aux_at + gathered_size others + 1) ≡ at_cell (aux_at + gathered_size (x ∷ others))
   pub values : Row cells (aux_at + gathered_size others + 2) (rows_of x.values)
-  pub formed : AreFormed (λ place. captured_count (slice_get t.program.closures place)) x.values
+  pub formed : AreFormed (told_count t.program) x.values
   pub room : gathered_size (x ∷ others) ≤ 2000
 
 -- So do all of them.

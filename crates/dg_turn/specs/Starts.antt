@@ -15,7 +15,7 @@ use Rattle.dg_rt.specs.Copies.{Row}
 use Rattle.dg_rt.specs.Operands.{no_value, simple_word}
 use Rattle.dg_rt.specs.Tables.{byte_at}
 use Rattle.dg_turn.specs.Terms.{IsTerm}
-use Rattle.dg_turn.specs.World.{world_at, all_words, FactsIn}
+use Rattle.dg_turn.specs.World.{world_at, all_words, KeptFacts, FactsIn}
 
 -- ## Words and bytes
 
@@ -54,11 +54,12 @@ abbrev pub bytes_from : ℕ → List Fact → ℕ → List PlaceKind → List �
 bytes_from n facts place [] = []
 bytes_from n facts place (kind ∷ kinds) = bytes_of_place n facts place kind ++ bytes_from n facts (suc place) kinds
 
--- The words and the bytes of the world in a row.
+-- The words and the bytes of the world in a row, and the values of global variables.
 pub record WorldIn (program : CoreProgram) (facts : List Fact) (words : ℕ → ℕ) : Type 0 where
   pub in_words : Row words world_at (words_from (length program.objects) facts 0 (kinds_of program))
   pub in_bytes : Row (byte_at words) (2 * (world_at + all_words (length program.objects) (kinds_of program)))
       (bytes_from (length program.objects) facts 0 (kinds_of program))
+  pub kept : KeptFacts program facts words
 
 -- ## What can be set
 

@@ -21,7 +21,7 @@ use Rattle.z_lang.specs.declared.act.Function.TheVariants as functions
 use Rattle.z_lang.specs.declared.act.Width.TheVariants as widths
 use Rattle.z_lang.specs.State.{State}
 use Rattle.z_lang.specs.Runs.{ActsRun, ActsOutcome, Stops}
-use Rattle.dg_rt.specs.declared.numbers.TheConstants.{CHARGE, VAR, CAPTURE}
+use Rattle.dg_rt.specs.declared.numbers.TheConstants.{CHARGE, VAR, CAPTURE, CLOSURE}
 use Rattle.dg_rt.specs.declared.registers.TheConstants.{TERM, WORD}
 use Rattle.dg_rt.specs.inside.Walks.{steps}
 use Rattle.dg_rt.specs.Cells.{Holds}
@@ -30,7 +30,7 @@ use Rattle.dg_rt.specs.Shapes.{Shape}
 use Rattle.dg_rt.specs.Back.{Grown}
 use Rattle.dg_rt.specs.RunTime.{HasRunTime}
 use Rattle.dg_rt.specs.Closings.{closing, closing_most}
-use Rattle.dg_turn.specs.Told.{Telling}
+use Rattle.dg_turn.specs.Told.{Telling, told_count}
 use Rattle.dg_turn.specs.Lies.{WordsIn, MidIn}
 use Rattle.dg_turn.specs.Plays.{registers}
 
@@ -85,7 +85,7 @@ captures_for n = (n + 5) / 6
 -- A closure that captures these variables is written: its header, how many they are, and their words.
 abbrev pub closure_acts : ℕ → ℕ → List ℕ → List Act
 closure_acts o c vs =
-    cell_act o (atoms.Num (1 + c)) ∷ cell_act (o + 1) (atoms.Num (length vs)) ∷ acts.Compute WORD functions.Add (atoms.Var TERM) (atoms.Num o)
+    acts.Call None (atoms.Routine CLOSURE) (args.Three (atoms.Num o) (atoms.Num (1 + c)) (atoms.Num (length vs)))
     ∷ capture_acts (captures_for (length vs)) vs
 
 -- A node is written: a pair with its head's cells behind its own, and its tail's behind those, or a closure. Others have no cells.
@@ -136,11 +136,11 @@ abbrev pub AreCaptured : List ℕ → Type 0
 AreCaptured [] = Unit {0}
 AreCaptured (v ∷ vs) = (v < 128) × AreCaptured vs
 
--- A closure of a story is one of its first 16,384, and captures at most 64 variables.
+-- A closure of a story is one of its first 16,384, captures at most 64 variables, and is there.
 abbrev pub IsClosure : CoreProgram → ℕ → Type 0
 IsClosure program c =
     let vs = captured_of (slice_get program.closures c) in
-    (c < 16384) × (length vs ≤ 64) × AreCaptured vs
+    (c < 16384) × (length vs ≤ 64) × AreCaptured vs × (told_count program c < 256)
 
 -- A node is one of a story, with its parts.
 abbrev pub IsNode : CoreProgram → term.Term-F Term → Type 0
@@ -157,7 +157,7 @@ AreNodes program (x ∷ xs) = IsNode program (out-Term x) × AreNodes program xs
 
 -- What a node costs beside what every node does: a closure has its captured values.
 abbrev pub capturing : CoreProgram → term.Term-F Term → ℕ
-capturing program (term.Closure c) = 3 + 54 * captures_for (length (captured_of (slice_get program.closures c)))
+capturing program (term.Closure c) = 5 + 54 * captures_for (length (captured_of (slice_get program.closures c)))
 capturing program other = 0
 
 -- The same of some nodes.

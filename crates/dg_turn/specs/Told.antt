@@ -1,7 +1,10 @@
 -- What stays the same while a story is played: its program and its routines, where the player stands, and the routines of rules. Hold it against
 -- dg_mid/specs/Code.antt, "Selection".
-use Rattle.std.specs.Prelude.{◌≡◌, ℕ, ◌≤◌, List, [], ◌∷◌, Option, Some, None, true}
+use Rattle.std.specs.Prelude.{◌≡◌, ℕ, ◌≤◌, List, [], ◌∷◌, length, Option, Some, None, true}
+use Rattle.std.specs.List.{slice_get}
+use Rattle.dg_base.specs.declared.program.ClosureBody.{ClosureBody}
 use Rattle.dg_base.specs.declared.program.CoreProgram.{CoreProgram}
+use Rattle.dg_base.specs.declared.program.Mode.{Mode}
 use Rattle.dg_meaning.specs.Values.{Label, Unknown, Value}
 use Rattle.dg_mid.specs.declared.code.RuleCode.{RuleCode}
 use Rattle.dg_mid.specs.Code.{label_of}
@@ -17,15 +20,31 @@ use Rattle.dg_rt.specs.declared.registers.TheConstants.{KEY, PARAMETERS}
 use Rattle.dg_rt.specs.RunTime.{routine_of}
 use Rattle.dg_rt.specs.Rules.{key_word, LabelFits, KeyIs}
 
--- The program, the routines that it became, the word of the routine of each of its blocks, the bytes of the story, and where the player goes on behind
--- a routine: what was called before, and where the call of the next one stands.
+-- A select of its code: the number of its site, its mode, and how many branches it has.
+pub record Site : Type 0 where
+  pub number : ℕ
+  pub mode : Mode
+  pub branches : ℕ
+
+-- The program, the selects of its code, the routines that it became, the word of the routine of each of its blocks, the bytes of the story, and where the
+-- player goes on behind a routine: what was called before, and where the call of the next one stands.
 pub record Telling : Type 0 where
   pub program : CoreProgram
+  pub sites : List Site
   pub p : Program
   pub at_block : ℕ → ℕ
   pub story : List ℕ
   pub context : Context
   pub pc : ℕ
+
+-- How many values a closure captures; 256, more than any does, where there is none.
+abbrev pub count_told : Option ClosureBody → ℕ
+count_told None = 256
+count_told (Some c) = length c.captured
+
+-- How many values the closure of each place captures, as a story tells it.
+abbrev pub told_count : CoreProgram → ℕ → ℕ
+told_count program place = count_told (slice_get program.closures place)
 
 -- The key of a first argument that was looked up: 32,768 where there is none, or a variable.
 abbrev pub FirstIs : Option Value → ℕ → Type 0

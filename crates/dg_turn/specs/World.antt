@@ -1,6 +1,6 @@
 -- The world in memory, and the instructions that change and read it, as turns. Hold it against docs/LANGUAGE.md, "The world", dg_meaning/specs/Facts.antt
 -- and Changes.antt, and docs/REFUSALS.md, "Of a build", where it says what the world takes.
-use Rattle.std.specs.Prelude.{◌≡◌, ◌≢◌, ℕ, ◌+◌, ◌*◌, ◌/◌, ◌≤◌, ◌<◌, List, [], ◌∷◌, ◌++◌, length, map, take, Option, Some, None, is_some, Bool, true, false}
+use Rattle.std.specs.Prelude.{◌≡◌, ◌≢◌, ℕ, ◌+◌, ◌*◌, ◌≤◌, ◌<◌, List, [], ◌∷◌, ◌++◌, length, map, Option, Some, None, is_some, Bool, true, false}
 use Rattle.std.specs.List.{slice_get, sum_by}
 use Rattle.dg_base.specs.declared.program.CoreProgram.{CoreProgram}
 use Rattle.dg_base.specs.declared.program.PlaceKind.{PlaceKind}
@@ -8,9 +8,9 @@ use Rattle.dg_base.specs.declared.program.PlaceKind.TheVariants.{Flag, ObjectFla
 use Rattle.dg_base.specs.declared.program.Term.{Term}
 use Rattle.dg_base.specs.declared.run.Ending.TheVariants.{HeapLimit, TrailLimit}
 use Rattle.dg_base.specs.Sound.{terms_of_kind}
-use Rattle.dg_meaning.specs.Cells.{cells}
+use Rattle.dg_meaning.specs.Cells.{captured_count, cells}
 use Rattle.dg_meaning.specs.Changes.{change_of}
-use Rattle.dg_meaning.specs.Facts.{Fact, value_at, Alteration, kinds_of}
+use Rattle.dg_meaning.specs.Facts.{Fact, value_at, Alteration, kinds_of, kept_size}
 use Rattle.dg_meaning.specs.Substitutions.{walk, resolved}
 use Rattle.dg_meaning.specs.Unify.{Unified, Equations, solve}
 use Rattle.dg_meaning.specs.Values.{Value}
@@ -23,61 +23,25 @@ use Rattle.z_lang.specs.declared.act.Args.TheVariants as args
 use Rattle.z_lang.specs.declared.act.Atom.{Atom}
 use Rattle.z_lang.specs.declared.act.Atom.TheVariants as atoms
 use Rattle.z_lang.specs.declared.act.Routine.{Routine}
-use Rattle.dg_rt.specs.declared.numbers.TheConstants.{SET_VALUE, SET_PARENT, CLEAR_VALUE, RAISE_FLAG, LOWER_FLAG, PUT, IF_RAISED, IF_SET, READ_VALUE, FAIL}
+use Rattle.dg_rt.specs.declared.numbers.TheConstants.{SET_VALUE, SET_PARENT, CLEAR_VALUE, RAISE_FLAG, LOWER_FLAG, PUT, IF_RAISED, IF_SET, READ_VALUE, KEEP, CLEAR_KEPT, FAIL}
 use Rattle.dg_rt.specs.declared.registers.TheConstants.{ARGS, WORD}
 use Rattle.dg_rt.specs.RunTime.{routine_of}
 use Rattle.dg_rt.specs.Unifies.{price}
 use Rattle.dg_rt.specs.Cells.{at_cell}
+use Rattle.dg_rt.specs.Kept.{Block, total, value_in, KeptIn}
+use Rattle.dg_rt.specs.Laying.{Formed}
 use Rattle.dg_rt.specs.Changes.{TableIn, FlagsIn, facts_behind, cleared, set_of}
 use Rattle.dg_rt.specs.Closings.{closing_most}
-use Rattle.dg_turn.specs.Told.{Telling}
+use Rattle.dg_turn.specs.Told.{Telling, told_count}
 use Rattle.dg_turn.specs.Plays.{Outside, Playing, Comes, Closes}
-use Rattle.dg_turn.specs.Rest.{aux_end}
+pub use Rattle.dg_turn.specs.Layout.{world_at, place_words, place_bytes, all_words, all_bytes, words_at, bytes_at, world_end}
 use Rattle.dg_turn.specs.Terms.{terms_acts, written_in}
 use Rattle.dg_turn.specs.Turns.{agreed_next, match_acts, last_acts}
 use Rattle.dg_turn.specs.Operating.{term_value, term_links, deciding_routine, InFront, Deciding}
 
--- ## Where it lies
+-- ## What lies there
 
--- The first word of the world, behind what is gathered.
-abbrev pub world_at : ℕ
-world_at = aux_end
-
--- The words of a place: one an object for a value, one for a flag of no object, and two for a global variable.
-abbrev pub place_words : ℕ → PlaceKind → ℕ
-place_words objects Flag = 1
-place_words objects ObjectFlag = 0
-place_words objects ObjectVar = objects
-place_words objects Parent = objects
-place_words objects Global = 2
-
--- The bytes of a place: one an object for a flag.
-abbrev pub place_bytes : ℕ → PlaceKind → ℕ
-place_bytes objects ObjectFlag = objects
-place_bytes objects kind = 0
-
--- The words of some places, and their bytes.
-abbrev pub all_words : ℕ → List PlaceKind → ℕ
-all_words objects kinds = sum_by (place_words objects) kinds
-
-abbrev pub all_bytes : ℕ → List PlaceKind → ℕ
-all_bytes objects kinds = sum_by (place_bytes objects) kinds
-
--- The first word of a place: its words lie behind those of the places in front of it.
-abbrev pub words_at : CoreProgram → ℕ → ℕ
-words_at program place = world_at + all_words (length program.objects) (take place (kinds_of program))
-
--- The first byte of a place, from word 0 on: bytes lie behind all words, in the order of places.
-abbrev pub bytes_at : CoreProgram → ℕ → ℕ
-bytes_at program place =
-    2 * (world_at + all_words (length program.objects) (kinds_of program)) + all_bytes (length program.objects) (take place (kinds_of program))
-
--- The first word behind the world.
-abbrev pub world_end : CoreProgram → ℕ
-world_end program =
-    let n = length program.objects in world_at + all_words n (kinds_of program) + (all_bytes n (kinds_of program) + 1) / 2
-
--- Words stand for what is set at a place of a kind. Of global variables nothing is said yet.
+-- Words stand for what is set at a place of a kind, but for a global variable.
 abbrev pub PlaceIn : CoreProgram → List Fact → (ℕ → ℕ) → ℕ → PlaceKind → Type 0
 PlaceIn program facts words place Flag = TableIn words (words_at program place) 1 facts place
 PlaceIn program facts words place ObjectFlag = FlagsIn words (bytes_at program place) (length program.objects) facts place
@@ -85,9 +49,36 @@ PlaceIn program facts words place ObjectVar = TableIn words (words_at program pl
 PlaceIn program facts words place Parent = TableIn words (words_at program place) (length program.objects) facts place
 PlaceIn program facts words place Global = Unit {0}
 
+-- The first word behind the words of places.
+abbrev pub words_end : CoreProgram → ℕ
+words_end program = world_at + all_words (length program.objects) (kinds_of program)
+
+-- Words are those of a global variable.
+pub record IsGlobal (program : CoreProgram) (h : ℕ) : Type 0 where
+  pub place : ℕ
+  pub is : slice_get (kinds_of program) place ≡ Some Global
+  pub at : h ≡ words_at program place
+
+-- So are those of each of some values.
+abbrev pub AreGlobal : CoreProgram → List Block → Type 0
+AreGlobal program [] = Unit {0}
+AreGlobal program (b ∷ bs) = IsGlobal program b.entry × AreGlobal program bs
+
+-- The values of all global variables are kept, which are formed as those of a program are, and the first word of one that is unset is 0.
+pub record KeptFacts (program : CoreProgram) (facts : List Fact) (words : ℕ → ℕ) : Type 0 where
+  pub blocks : List Block
+  pub lie : KeptIn (words_end program) words blocks
+  pub of_places : AreGlobal program blocks
+  pub values : (place : ℕ) → slice_get (kinds_of program) place ≡ Some Global → value_in blocks (words_at program place) ≡ value_at facts place 0
+  pub unset : (place : ℕ) → slice_get (kinds_of program) place ≡ Some Global → value_at facts place 0 ≡ None →
+      words (words_at program place) ≡ 0
+  pub size : total blocks ≡ kept_size (kinds_of program) facts
+  pub formed : (h : ℕ) (v : Value) → value_in blocks h ≡ Some v → Formed (told_count program) v
+
 -- So they do for each place of a program.
 pub record FactsIn (program : CoreProgram) (facts : List Fact) (words : ℕ → ℕ) : Type 0 where
   pub each : (place : ℕ) (kind : PlaceKind) → slice_get (kinds_of program) place ≡ Some kind → PlaceIn program facts words place kind
+  pub kept : KeptFacts program facts words
 
 -- The world of a story may be written, and it has no more objects than values name.
 pub record HasWorld (t : Telling) : Type 0 where
@@ -108,6 +99,8 @@ changer Flag sets = PUT
 changer ObjectFlag true = RAISE_FLAG
 changer ObjectFlag false = LOWER_FLAG
 changer Parent true = SET_PARENT
+changer Global true = KEEP
+changer Global false = CLEAR_KEPT
 changer kind true = SET_VALUE
 changer kind false = CLEAR_VALUE
 

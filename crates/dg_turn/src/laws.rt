@@ -1,19 +1,27 @@
 // What the code of a story does to its memory: each function's clause is a law.
 ghost use Rattle.dg_turn.specs.Bodies.{BodyTurns, FindTurns, LastQueryTurns, QueryTurns};
 ghost use Rattle.dg_turn.specs.Choices.{BackTurns, BranchTurns, OnceTurns};
+ghost use Rattle.dg_turn.specs.Gatherings.{CollectTurns, KeepTurns, TakeTurns};
+ghost use Rattle.dg_turn.specs.GatheringsPaid.{GatheringsArePaid};
+ghost use Rattle.dg_turn.specs.Globals.{GlobalTurns, ReadGlobalTurns};
 ghost use Rattle.dg_turn.specs.LastQueries.{LastTurns};
 ghost use Rattle.dg_turn.specs.Leaving.{JustTurns, ReturnTurns};
+ghost use Rattle.dg_turn.specs.Names.{NamesSpell};
 ghost use Rattle.dg_turn.specs.Operating.{ArithTurns, CompareTurns, RandomTurns, TestTurns};
+ghost use Rattle.dg_turn.specs.Paid.{GlobalsArePaid, OperationsArePaid, TextsArePaid, TurnsArePaid, WorldIsPaid};
 ghost use Rattle.dg_turn.specs.Prints.{PrintTurns};
-ghost use Rattle.dg_turn.specs.Paid.{OperationsArePaid, TextsArePaid, TurnsArePaid, WorldIsPaid};
 ghost use Rattle.dg_turn.specs.Queries.{AskBegins, AskTurns, FailBegins, FailEnds, FailTurns};
+ghost use Rattle.dg_turn.specs.Rules.{BeginTurns, FoundTurns, NoneTurns, SelectTurns};
+ghost use Rattle.dg_turn.specs.Seeking.{BackTryingTurns, LandedTurns, NoneTriedTurns, SeekTurns, TriesArePaid, TryTurns};
+ghost use Rattle.dg_turn.specs.Sites.{PickTurns};
 ghost use Rattle.dg_turn.specs.Starts.{StartsFit, WorldStands};
 ghost use Rattle.dg_turn.specs.Stopping.{DoneTurns, LeaveTurns, NoRuleTurns, RefuseTurns, ShieldTurns, StopTurns};
-ghost use Rattle.dg_turn.specs.Rules.{BeginTurns, FoundTurns, NoneTurns, SelectTurns};
 ghost use Rattle.dg_turn.specs.Terms.{TermsWork};
 ghost use Rattle.dg_turn.specs.Texts.{GapNTurns, GapTurns, QuitTurns, TextTurns};
-ghost use Rattle.dg_turn.specs.World.{FlagTurns, HoldsTurns, NowTurns, ReadTurns};
 ghost use Rattle.dg_turn.specs.Turns.{CommitTurns, EnterTurns, EqualTurns, GotoTurns};
+ghost use Rattle.dg_turn.specs.Typing.{InputTurns};
+ghost use Rattle.dg_turn.specs.TypingPaid.{InputIsPaid};
+ghost use Rattle.dg_turn.specs.World.{FlagTurns, HoldsTurns, NowTurns, ReadTurns};
 
 /// Terms are written on the heap, or its limit is met.
 pub fn terms_work()
@@ -258,4 +266,89 @@ pub fn world_stands()
 /// What starts set fits its places.
 pub fn starts_fit()
     ensures { StartsFit }
+{}
+
+/// The routines of the names of objects print them.
+pub fn names_spell()
+    ensures { NamesSpell }
+{}
+
+/// A query of objects is a turn.
+pub fn seek_turns()
+    ensures { SeekTurns }
+{}
+
+/// Trying an object is a turn.
+pub fn try_turns()
+    ensures { TryTurns }
+{}
+
+/// Without objects trying fails.
+pub fn none_tried_turns()
+    ensures { NoneTriedTurns }
+{}
+
+/// An inner construct without cells is left in a turn.
+pub fn landed_turns()
+    ensures { LandedTurns }
+{}
+
+/// A failure goes back to a choice of further objects in a turn.
+pub fn back_trying_turns()
+    ensures { BackTryingTurns }
+{}
+
+/// What queries of objects cost is paid for.
+pub fn tries_are_paid()
+    ensures { TriesArePaid }
+{}
+
+/// A change of a global variable is a turn.
+pub fn global_turns()
+    ensures { GlobalTurns }
+{}
+
+/// So is a query of one.
+pub fn read_global_turns()
+    ensures { ReadGlobalTurns }
+{}
+
+/// What they cost is paid for.
+pub fn globals_are_paid()
+    ensures { GlobalsArePaid }
+{}
+
+/// Opening a gathering is a turn.
+pub fn collect_turns()
+    ensures { CollectTurns }
+{}
+
+/// Gathering a value is a turn.
+pub fn keep_turns()
+    ensures { KeepTurns }
+{}
+
+/// Taking a gathering out is a turn.
+pub fn take_turns()
+    ensures { TakeTurns }
+{}
+
+/// What gatherings cost is paid for.
+pub fn gatherings_are_paid()
+    ensures { GatheringsArePaid }
+{}
+
+/// Choosing a branch of a select is a turn.
+pub fn pick_turns()
+    ensures { PickTurns }
+{}
+
+/// Typed input is a turn.
+pub fn input_turns()
+    ensures { InputTurns }
+{}
+
+/// What it costs is paid for.
+pub fn input_is_paid()
+    ensures { InputIsPaid }
 {}
