@@ -85,7 +85,7 @@ module _ (t : Telling) (plays : Playing t) (code : Code) (dice : List ℕ) where
   -- ## Leaving
 
   -- the newest of some places
-  newest_agrees : (m : Mid) (p : Place) (places : List Place) → Always code (Runs m) → m.inner ≡ p ∷ places → AgreeAll m.choices p
+  pub newest_agrees : (m : Mid) (p : Place) (places : List Place) → Always code (Runs m) → m.inner ≡ p ∷ places → AgreeAll m.choices p
   newest_agrees m p places always i = (let names : PlacesNamed m.next_tag m.state.heap m.choices (p ∷ places) = subst (PlacesNamed m.next_tag m.state.heap m.choices) i always.ordered.named.inner_are in names.0.agrees)
 
   commit_by : (ps : List Print) (m : Mid) (rest : List Op) (z : ZState) → m.ops ≡ op.Commit ∷ rest → Always code (Runs m) → Stands t code ps (Runs m) z → (inner : List Place) → m.inner ≡ inner → IsSome inner → Lead t code dice 1 ps (commits inner (record m { ops = rest })) (cost ps m) z

@@ -25,12 +25,16 @@ use Rattle.dg_turn.proofs.Beginning.{begin_turns}
 use Rattle.dg_turn.proofs.BranchTurn.{branch_turns}
 use Rattle.dg_turn.proofs.FailTurn.{fail_turns, back_turns, fail_ends}
 use Rattle.dg_turn.proofs.Paid.{turns_are_paid}
+use Rattle.dg_turn.proofs.TriedBack.{back_trying_turns}
 use Rattle.dg_chain.specs.Always.{Always}
 use Rattle.dg_chain.specs.Steps.{Comes, step_cost}
 use Rattle.dg_chain.specs.Routines.{Opens, OpsAt, BlocksAt}
 use Rattle.dg_chain.specs.Stands.{Printed, LooksOn, ResumesAt, FailsIn, Stands}
 use Rattle.dg_chain.specs.Whole.{story_setting}
 use Rattle.dg_chain.proofs.Points.{units_never_none}
+use Rattle.dg_chain.proofs.TakingOut.{takes_lead}
+use Rattle.dg_chain.proofs.Landing.{Leads, leads_meant}
+use Rattle.dg_chain.proofs.Trying.{tries_means}
 use Rattle.dg_chain.proofs.Leading.{Lead, alike, ten_leads, finishes, begun_leads}
 
 module _ (t : Telling) (plays : Playing t) (code : Code) (blocks : BlocksAt t code) (dice : List ℕ) where
@@ -64,13 +68,13 @@ module _ (t : Telling) (plays : Playing t) (code : Code) (blocks : BlocksAt t co
       subst (λ (found : List RuleCode). Lead t code dice 0 ps (begins set call found m) cost z) always.begins
       (begun_leads t code dice 0 (omega arith) ps w blocks call m m.ops l.looks.rep.mid.state.few refl (selected (first_of m.state.subst call) rules) (4 * keyed rules + 70) cost z (turns_are_paid.begin set ps m call rules always.stands) b)
 
-  resumes_by : (ps : List Print) (m : Mid) (w : Printed t ps m.lasting) (way : Way) (z : ZState) → Always code (Resumes way m) → ResumesAt t w.out way m z → Lead t code dice 0 ps (goes_on set way m) (step_cost set ps (Resumes way m)) z
-  resumes_by ps m w (Goes b) z always h = resumed_leads ps m w b z h (block_at code b) refl
-  resumes_by ps m w (Takes b into) z always h = let k = always.begins in absurd (subst (OpsAt t code (t.at_block b)) k.is (blocks.each b))
-  resumes_by ps m w (Calls call rules) z always h = looks_lead ps m w call rules z always h
-  resumes_by ps m w (Tries f objects) z always h = absurd h
+  resumes_by : (ps : List Print) (m : Mid) (w : Printed t ps m.lasting) (way : Way) (z : ZState) → Always code (Resumes way m) → ResumesAt t w.out way m z → Leads t code dice 0 ps (goes_on set way m) (step_cost set ps (Resumes way m)) z
+  resumes_by ps m w (Goes b) z always h = leads_meant t code dice 0 ps _ _ z (resumed_leads ps m w b z h (block_at code b) refl)
+  resumes_by ps m w (Takes b into) z always h = leads_meant t code dice 0 ps _ _ z (takes_lead t plays code blocks dice ps m w b into z always.begins h)
+  resumes_by ps m w (Calls call rules) z always h = leads_meant t code dice 0 ps _ _ z (looks_lead ps m w call rules z always h)
+  resumes_by ps m w (Tries f objects) z always h = tries_means t plays code blocks dice ps m w f objects z always h
 
-  pub resumes_lead : (ps : List Print) (way : Way) (m : Mid) (z : ZState) → Always code (Resumes way m) → Stands t code ps (Resumes way m) z → Lead t code dice 0 ps (goes_on set way m) (step_cost set ps (Resumes way m)) z
+  pub resumes_lead : (ps : List Print) (way : Way) (m : Mid) (z : ZState) → Always code (Resumes way m) → Stands t code ps (Resumes way m) z → Leads t code dice 0 ps (goes_on set way m) (step_cost set ps (Resumes way m)) z
   resumes_lead ps way m z always s = resumes_by ps m s.printed way z always s.at
 
   -- ## Going back
@@ -100,7 +104,7 @@ module _ (t : Telling) (plays : Playing t) (code : Code) (blocks : BlocksAt t co
         let few = k.comes.few in
         let paid_for = turns_are_paid.fail set ps m in
         let undo = undone_same m.choices in
-        record { there = k.comes.there; stands = record { printed = w; at = record { rep = k.comes.rep; into_is = k.into_is } }; count = k.comes.count; some = k.comes.some; few = omega arith; leads = k.comes.leads }
+        record { there = k.comes.there; stands = record { printed = w; at = record { rep = k.comes.rep; into_is = k.into_is; fewer = k.fewer } }; count = k.comes.count; some = k.comes.some; few = omega arith; leads = k.comes.leads }
     back_leads c cs (Calls call rules) e i =
         let fit : ChoicesFit 12 code (c ∷ cs) = subst (ChoicesFit 12 code) e always.fits in
         let short : length call.args ≤ 12 = (subst (WayFits 12 code) i fit.0).0 in
@@ -117,9 +121,11 @@ module _ (t : Telling) (plays : Playing t) (code : Code) (blocks : BlocksAt t co
           leads = k.leads;
         }
     back_leads c cs (Tries f objects) e i =
-        let r = h.rep in
-        let there : ChoicesIn t r.sh r.cells r.trail (gather_words m.gathered) (r.cells choice_reg) (c ∷ cs) = subst (ChoicesIn t r.sh r.cells r.trail (gather_words m.gathered) (r.cells choice_reg)) e r.mid.choices in
-        absurd (subst (WayIn t there.saved.sh there.routine there.args there.next (at_place c.place.height) there.many there.key c.state.subst) i there.way)
+        let k = back_trying_turns t plays w.out m0 c cs f objects z e i always.ordered h.rep in
+        let few = k.few in
+        let paid_for = turns_are_paid.fail set ps m in
+        let undo = undone_same m.choices in
+        record { there = k.there; stands = record { printed = w; at = k.at }; count = k.count; some = k.some; few = omega arith; leads = k.leads }
 
     fails_by : (cs : List Choice) → m.choices ≡ cs → Lead t code dice 1 ps (goes_back cs m) cost z
     fails_by [] e =

@@ -47,7 +47,7 @@ alike_by m m' h e = h ∙ ap (λ (q : Lasting). record m { ops = m'.ops; next_ta
 pub more_none : (m : Mid) → more 0 m ≡ m
 more_none m = let q : m.state.heap + 0 ≡ m.state.heap = omega arith in ap (λ (n : ℕ). record m { state = record m.state { heap = n } }) q
 
-pub alike : (t : Telling) (out : Outside) (x : ℕ) {l : Lasting} (m m' : Mid) (z : ZState) → Alike l m m' → Represented t out x m z → Represented t out x m' z
+unfoldable pub alike : (t : Telling) (out : Outside) (x : ℕ) {l : Lasting} (m m' : Mid) (z : ZState) → Alike l m m' → Represented t out x m z → Represented t out x m' z
 alike t out x {l} m m' z e r = record {
   memory = r.memory;
   is = r.is;
@@ -131,10 +131,10 @@ module _ (t : Telling) (code : Code) (dice : List ℕ) where
   charged_off zero m next fits lt = absurd (omega arith)
   charged_off (suc n) m next fits lt = cond-true (nat_lt 10000 (m.state.heap + suc n)) (Ended ending.HeapLimit) next (lt-ltb 10000 (m.state.heap + suc n) lt)
 
-  unified_on : (u : Unified) (m : Mid) (next : Status) → trail_more m.state u ≤ 2000 → unified set u m next ≡ if_agreed u.agrees (bound u m) next
+  pub unified_on : (u : Unified) (m : Mid) (next : Status) → trail_more m.state u ≤ 2000 → unified set u m next ≡ if_agreed u.agrees (bound u m) next
   unified_on u m next le = cond-false (nat_lt 2000 (trail_more m.state u)) (Ended ending.TrailLimit) (if_agreed u.agrees (bound u m) next) (le-ltb 2000 (trail_more m.state u) le)
 
-  unified_off : (u : Unified) (m : Mid) (next : Status) → 2000 < trail_more m.state u → unified set u m next ≡ Ended ending.TrailLimit
+  pub unified_off : (u : Unified) (m : Mid) (next : Status) → 2000 < trail_more m.state u → unified set u m next ≡ Ended ending.TrailLimit
   unified_off u m next lt = cond-true (nat_lt 2000 (trail_more m.state u)) (Ended ending.TrailLimit) (if_agreed u.agrees (bound u m) next) (lt-ltb 2000 (trail_more m.state u) lt)
 
   -- ## Where a turn leads

@@ -7,6 +7,7 @@ pub mod Ops
 pub mod Beginning
 pub mod Framed
 pub mod InRules
+pub mod Lasting
 pub mod Printed
 pub mod Leading
 pub mod Choosing
@@ -15,9 +16,19 @@ pub mod Answering
 pub mod Asking
 pub mod Unifying
 pub mod Operating
+pub mod Changing
+pub mod Finding
+pub mod GlobalChanging
+pub mod GlobalFinding
+pub mod TypingLeads
 pub mod Querying
 pub mod Printing
 pub mod PrintingValues
+pub mod Gathering
+pub mod TakingOut
+pub mod Landing
+pub mod Trying
 pub mod Going
+pub mod Picking
 pub mod Coded
 pub mod Whole

@@ -1,7 +1,6 @@
 -- Tests, comparisons, arithmetic and throws lead on.
 use Rattle.std.proofs.Common.{◌≡◌, ℕ, ◌+◌, ◌-◌, ◌%◌, ◌≤◌, Bool, true, false, List, [], ◌∷◌, length, Option, Some, None, refl, sym, ap, ◌∙◌, subst, arith}
 use Rattle.std.specs.Prelude.{slice_index}
-use Rattle.std.proofs.Math.Nat.{mod-add-mod}
 use Rattle.dg_base.specs.declared.program.ArithOp.{ArithOp}
 use Rattle.dg_base.specs.declared.program.CompareOp.{CompareOp}
 use Rattle.dg_base.specs.declared.program.Term.{Term}
@@ -40,6 +39,7 @@ use Rattle.dg_chain.specs.Stands.{Printed, Stands}
 use Rattle.dg_chain.specs.Whole.{OpLeads, story_setting}
 use Rattle.dg_chain.proofs.Leading.{Lead, Alike, led_runs, led_fails, finishes, charged_leads, unified_leads, at_op, silently, a_unit}
 use Rattle.dg_chain.proofs.Unifying.{agreed_leads}
+use Rattle.dg_chain.proofs.Lasting.{lasts_drawn}
 
 module _ (t : Telling) (plays : Playing t) (code : Code) (dice : List ℕ) where
   abbrev set : Setting
@@ -52,12 +52,12 @@ module _ (t : Telling) (plays : Playing t) (code : Code) (dice : List ℕ) where
   -- ## Tests
 
   -- It goes on where a test is passed, and else it fails.
-  passed_leads : (ps : List Print) {l : Lasting} (w : Printed t ps l) (behind : ℕ) (b : Bool) (m m' : Mid) (most all : ℕ) (z : ZState) → Alike l m m' → OpsAt t code (t.p.names.routine behind) m'.ops → most ≤ all → ComesTo t w.out (agreed_next t.p behind b) m most z →
+  pub passed_leads : (ps : List Print) {l : Lasting} (w : Printed t ps l) (behind : ℕ) (b : Bool) (m m' : Mid) (most all : ℕ) (z : ZState) → Alike l m m' → OpsAt t code (t.p.names.routine behind) m'.ops → most ≤ all → ComesTo t w.out (agreed_next t.p behind b) m most z →
       Lead t code dice 1 ps (if_passed b m') all z
   passed_leads ps w behind true m m' most all z h ops le k = led_runs t code dice 1 (omega arith) ps w (t.p.names.routine behind) m m' most all z h ops le k
   passed_leads ps w behind false m m' most all z h ops le k = led_fails t code dice 1 (omega arith) ps w m m' most all z (ap (λ (k : Mid). record k { frames = m.frames; inner = m.inner }) h) le k
 
-  deciding_leads : (ps : List Print) (m : Mid) (rest : List Op) (z : ZState) (s : Stands t code ps (Runs m) z) (ts : List Term) (behind : ℕ) (passed : Bool) (most : ℕ) → OpsAt t code (t.p.names.routine behind) rest → most ≤ paid set ps (Runs m) → Deciding t s.printed.out ts behind passed most m z →
+  pub deciding_leads : (ps : List Print) (m : Mid) (rest : List Op) (z : ZState) (s : Stands t code ps (Runs m) z) (ts : List Term) (behind : ℕ) (passed : Bool) (most : ℕ) → OpsAt t code (t.p.names.routine behind) rest → most ≤ paid set ps (Runs m) → Deciding t s.printed.out ts behind passed most m z →
       let m' = more (cells t.program ts) (record m { ops = rest }) in
       Lead t code dice 1 ps (charged set (cells t.program ts) (record m { ops = rest }) (if_passed passed m')) (paid set ps (Runs m)) z
   deciding_leads ps m rest z s ts behind passed most ops le d =
@@ -90,7 +90,7 @@ module _ (t : Telling) (plays : Playing t) (code : Code) (dice : List ℕ) where
   -- ## Numbers that are made
 
   -- an equation takes no further cells, in a world in which something lasts
-  unifies_now : (es : Equations) (w : World) (m : Mid) → done set (UnifiesNow (registers_of m) es w) m ≡ unified set (solve m.state.subst es) (lasting_in w m) (Runs (bound (solve m.state.subst es) (lasting_in w m)))
+  pub unifies_now : (es : Equations) (w : World) (m : Mid) → done set (UnifiesNow (registers_of m) es w) m ≡ unified set (solve m.state.subst es) (lasting_in w m) (Runs (bound (solve m.state.subst es) (lasting_in w m)))
   unifies_now es w m =
       let u = solve m.state.subst es in
       let none : m.state.heap - m.state.heap ≡ 0 = omega arith in
@@ -143,7 +143,7 @@ module _ (t : Telling) (plays : Playing t) (code : Code) (dice : List ℕ) where
       out = record s.printed.out { drawn = next_drawn t.p.world s.printed.out.drawn };
       written = s.printed.written;
       meets = s.printed.meets;
-      drawn = (let size = length t.p.world.dice in ap (λ (i : ℕ). (i + 1) % size) s.printed.drawn ∙ mod-add-mod m.lasting.dice size 1);
+      lasts = lasts_drawn t m.lasting s.printed.out s.printed.lasts;
     }
 
     thrown_leads : (made : Option ℕ) → making_paid t.program a b c made m ≤ cost → (room : m.state.heap + n ≤ 10000) → Making t s.printed.out (record s.printed.out { drawn = drawn_behind t.p s.printed.out.drawn made }) a b c behind made m z → Lead t code dice 1 ps (done set (throws made into (registers_of m') looked) m') cost z
@@ -197,7 +197,7 @@ module _ (t : Telling) (plays : Playing t) (code : Code) (dice : List ℕ) where
         let routine = random_routine t.program a b c in
         let out = s.printed.out in
         let o : Writes (λ y. OpsAt t code y rest) t s.at.x ts routine = at_op t code dice ps m rest z x e s in
-        let word = word_is out.drawn m.lasting.dice s.printed.drawn in
+        let word = word_is out.drawn m.lasting.dice s.printed.lasts.drawn in
         let k = subst (λ (i : ℕ). Making t out (record out { drawn = drawn_behind t.p out.drawn (made_of t.program (thrown i) a b m) }) a b c o.goes.behind (made_of t.program (thrown i) a b m) m z) word
         (random_turns t plays out a b c o.goes.behind m z (in_front ps m z rest ts routine s o)) in
         let made = made_of t.program (thrown (die dice m.lasting.dice)) a b m in

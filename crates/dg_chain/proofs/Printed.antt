@@ -1,5 +1,5 @@
 -- What was printed, with something more, and how it is closed.
-use Rattle.std.proofs.Common.{◌≡◌, ℕ, Bool, true, false, ◌%◌, List, [], ◌∷◌, ◌++◌, length, Option, Some, None, refl, sym, ap, ◌∙◌, subst}
+use Rattle.std.proofs.Common.{◌≡◌, ℕ, Bool, true, false, List, [], ◌∷◌, ◌++◌, Option, Some, None, refl, sym, ap, ◌∙◌, subst}
 use Rattle.std.specs.Prelude.{◌==◌, if◌then◌else◌}
 use Rattle.std.proofs.lemmas.List.{append-nil}
 use Rattle.dg_base.specs.declared.run.Ending.{Ending}
@@ -17,7 +17,8 @@ use Rattle.dg_turn.specs.Told.{Telling}
 use Rattle.dg_turn.specs.Texts.{met_words, printed}
 use Rattle.dg_turn.specs.Prints.{all_printed}
 use Rattle.dg_turn.proofs.Meeting.{met_meets}
-use Rattle.dg_chain.specs.Stands.{Printed}
+use Rattle.dg_chain.specs.Stands.{Lasts, Printed}
+use Rattle.dg_chain.proofs.Lasting.{lasts_met}
 
 -- ## Closings
 
@@ -51,23 +52,23 @@ render_one ps e = render_all ps (e ∷ []) ∙ ap (λ (l : List ℕ). render ps 
 
 -- What is outside behind it.
 abbrev pub printed_more : {t : Telling} {l : Lasting} (ps : List Print) (w : Printed t ps l) (e : Print) → Printed t (ps ++ e ∷ []) l
-printed_more ps w e =
+printed_more {t} {l} ps w e =
     let m = met_from nothing_met ps in
     record {
       out = printed m e w.out;
       written = ap (λ (l : List ℕ). l ++ written m e) w.written ∙ sym (render_one ps e);
-      drawn = w.drawn;
+      lasts = lasts_met t l (met_behind m e) (w.out.output ++ written m e) w.out w.lasts;
       meets = subst (Meets (met_words (met_behind m e) w.out.words)) (sym (met_on nothing_met ps (e ∷ []))) (met_meets (met_behind m e) w.out.words);
     }
 
 -- What is outside behind some things more.
 abbrev pub printed_all : {t : Telling} {l : Lasting} (ps : List Print) (w : Printed t ps l) (es : List Print) → Printed t (ps ++ es) l
-printed_all ps w es =
+printed_all {t} {l} ps w es =
     let m = met_from nothing_met ps in
     record {
       out = all_printed m es w.out;
       written = ap (λ (l : List ℕ). l ++ render_from m es) w.written ∙ sym (render_all ps es);
-      drawn = w.drawn;
+      lasts = lasts_met t l (met_from m es) (w.out.output ++ render_from m es) w.out w.lasts;
       meets = subst (Meets (met_words (met_from m es) w.out.words)) (sym (met_on nothing_met ps es)) (met_meets (met_from m es) w.out.words);
     }
 
@@ -77,7 +78,7 @@ as_lasts {t} w l' e = record {
   out = w.out;
   written = w.written;
   meets = w.meets;
-  drawn = w.drawn ∙ ap (λ (k : Lasting). k.dice % length t.p.world.dice) (sym e);
+  lasts = subst (λ (k : Lasting). Lasts t k w.out) (sym e) w.lasts;
 }
 
 -- ## What a step prints

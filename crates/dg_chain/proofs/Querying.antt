@@ -120,7 +120,7 @@ module _ (t : Telling) (plays : Playing t) (code : Code) (blocks : BlocksAt t co
         (λ room. unified_leads t code dice 1 (omega arith) ps w u (at n) (Runs (inside n)) all z
         (λ few. agreed_leads t plays code dice ps w b.block u.agrees (entered_body captured own call u m) (inside n) (bound u (at n)) all all z refl refl ops (omega arith) (body_turns.enters t plays w.out number place c call parts m z b short cut f room few))
         (λ over. finishes t code dice 1 (omega arith) ps w ending.TrailLimit (all + closing_most) all z (λ q. (cc)) (omega arith) (body_turns.meets_trail t plays w.out number place c call parts m z b short cut f room over)))
-        (λ over. finishes t code dice 1 (omega arith) ps w ending.HeapLimit (15 + closing_most) all z (λ q. (cc)) (omega arith) (body_turns.meets_heap t plays w.out number place c call parts m z b f over)))
+        (λ over. finishes t code dice 1 (omega arith) ps w ending.HeapLimit (25 + closing_most) all z (λ q. (cc)) (omega arith) (body_turns.meets_heap t plays w.out number place c call parts m z b f over)))
 
     -- What is asked, if it is a closure, and else it fails.
     module _ (failed : Mid) (like : Alike m.lasting m (record failed { frames = m.frames; inner = m.inner })) where
@@ -131,7 +131,7 @@ module _ (t : Telling) (plays : Playing t) (code : Code) (blocks : BlocksAt t co
           let few = k.few in
           let few' = f.few in
           let some = k.some in
-          led_fails t code dice 1 (omega arith) ps w m failed (most + (4 * finds.depth + 5)) all z like (omega arith)
+          led_fails t code dice 1 (omega arith) ps w m failed (most + (4 * finds.depth + 6)) all z like (omega arith)
           (record { there = f.there; count = k.count + f.count; some = omega arith; few = omega arith; leads = leads_then t.p.world k.count f.count z k.there f.there k.leads f.leads; rep = f.rep })
       looked_leads find finds v most all z k (Some target) e least enough =
           let a = asked_is code v target e in

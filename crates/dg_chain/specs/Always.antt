@@ -12,6 +12,7 @@ use Rattle.dg_mid.specs.Step.{first_of}
 use Rattle.dg_mid.specs.Heights.{StatusOrdered}
 use Rattle.dg_mid.specs.Trails.{StatusTrailed}
 use Rattle.dg_mid.specs.Calls.{StatusCuts, StatusFits}
+use Rattle.dg_mid.specs.Seeking.{LeavesFirst}
 use Rattle.dg_turn.specs.Rules.{keyed}
 
 -- ## How it begins
@@ -80,10 +81,27 @@ StatusStands (Resumes way m) = FewRules 2200 way
 StatusStands (Fails m) = Unit {0}
 StatusStands (Ended e) = Unit {0}
 
+-- ## Objects that are tried
+
+-- Where one answer is wanted, objects are tried where an inner construct is left first.
+abbrev pub WayLeaves : Code → Way → Type 0
+WayLeaves code (Goes b) = Unit {0}
+WayLeaves code (Takes b into) = Unit {0}
+WayLeaves code (Calls call rules) = Unit {0}
+WayLeaves code (Tries f objects) = LeavesFirst code f.many f.next
+
+-- So it is in a status.
+abbrev pub StatusLeaves : Code → Status → Type 0
+StatusLeaves code (Runs m) = Unit {0}
+StatusLeaves code (Enters call m) = Unit {0}
+StatusLeaves code (Resumes way m) = WayLeaves code way
+StatusLeaves code (Fails m) = Unit {0}
+StatusLeaves code (Ended e) = Unit {0}
+
 -- ## All together
 
 -- Heights and trails order places, a call that is gone on with cuts to where it is, calls have at most 12 arguments and as many as their rules, and code
--- begins and stands as it should.
+-- begins and stands as it should; where objects are tried an inner construct is left first.
 pub record Always (code : Code) (now : Status) : Type 0 where
   pub ordered : StatusOrdered now
   pub trailed : StatusTrailed now
@@ -91,3 +109,4 @@ pub record Always (code : Code) (now : Status) : Type 0 where
   pub fits : StatusFits 12 code now
   pub begins : StatusBegins code now
   pub stands : StatusStands now
+  pub leaves : StatusLeaves code now

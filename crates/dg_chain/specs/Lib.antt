@@ -1,5 +1,6 @@
 pub mod Agrees
 pub mod Steps
+pub mod Selects
 pub mod Routines
 pub mod Always
 pub mod Stands
