@@ -4,3 +4,6 @@ mod Matching
 mod Halving
 pub mod Names
 pub mod Alike
+pub mod Fronts
+pub mod SiteNumbers
+pub mod Chains

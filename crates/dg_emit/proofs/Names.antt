@@ -38,3 +38,10 @@ ends_so [] d some = absurd (omega arith)
 ends_so (first ∷ more) d some =
     let q : length more ≡ length (first ∷ more) - 1 = omega arith in
     ap last_word (last_is None first more d) ∙ ap (λ (k : ℕ). last_word (Some (get_or (first ∷ more) k d))) q
+
+-- So it is behind what was there before.
+pub ends_behind : (before : Option ℕ) (text : List ℕ) (d : ℕ) → 1 ≤ length text → last_word (last_of before text) ≡ last_word (Some (get_or text (length text - 1) d))
+ends_behind before [] d some = absurd (omega arith)
+ends_behind before (first ∷ more) d some =
+    let q : length more ≡ length (first ∷ more) - 1 = omega arith in
+    ap last_word (last_is before first more d) ∙ ap (λ (k : ℕ). last_word (Some (get_or (first ∷ more) k d))) q

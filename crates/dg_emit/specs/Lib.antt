@@ -1,6 +1,9 @@
 pub mod Numbers
 pub mod Bodies
+pub mod World
+pub mod Finds
+pub mod Sites
 pub mod Code
 pub mod Story
-pub mod Captures
+pub mod Outline
 pub mod inside

@@ -9,15 +9,19 @@ use Rattle.dg_mid.specs.declared.code.Block.{Block}
 use Rattle.dg_mid.specs.declared.code.RuleCode.{RuleCode}
 use Rattle.dg_mid.specs.declared.code.BodyCode.{BodyCode}
 use Rattle.dg_mid.specs.declared.code.Code.{Code}
-use Rattle.dg_rt.specs.declared.numbers.TheConstants.{FAIL, LEAVE, NONE as NO_RULE, UNSTOP}
+use Rattle.dg_rt.specs.declared.numbers.TheConstants.{FAIL, LEAVE, NONE as NO_RULE, UNSTOP, KEEP_VALUE}
+use Rattle.dg_turn.specs.Sites.{numbers_of, sites_of}
 use Rattle.dg_emit.specs.declared.numbers.Numbers.{Numbers}
 
 -- ## Blocks
 
--- An instruction has one routine. To answer a rule and to stop are routines that every story has.
+-- An instruction has one routine, and a query with terms of the world has two. To answer a rule, to stop and to gather a value are
+-- routines that every story has.
 abbrev pub routines_of_op : Op → ℕ
 routines_of_op op.Return = 0
 routines_of_op (op.Do action.Stop) = 0
+routines_of_op (op.Keep a) = 0
+routines_of_op (op.Find place (t ∷ ts) many next) = 2
 routines_of_op x = 1
 
 -- Those of a block, and one that fails behind them.
@@ -33,6 +37,7 @@ blocks_size (block ∷ blocks) = routines_of_ops block.ops + blocks_size blocks
 abbrev pub first_of : ℕ → List Op → ℕ
 first_of number (op.Return ∷ ops) = LEAVE
 first_of number (op.Do action.Stop ∷ ops) = UNSTOP
+first_of number (op.Keep a ∷ ops) = KEEP_VALUE
 first_of number ops = number
 
 -- The first routine of each block.
@@ -78,12 +83,18 @@ behind_blocks first code = first + rules_count code.preds + blocks_size code.blo
 abbrev pub number_behind : ℕ → Code → ℕ
 number_behind first code = behind_blocks first code + bodies_size code.closures
 
+-- Behind them stand the routines of the names of objects, no more than 4,230: the number where the last of them ends at most.
+abbrev pub numbers_end : ℕ → Code → ℕ
+numbers_end first code = number_behind first code + 4230
+
 -- The numbers of code whose first routine has a number.
 abbrev pub numbers_from : ℕ → Code → Numbers
 numbers_from first code = record {
   preds = pred_starts first code.preds;
   blocks = block_starts (first + rules_count code.preds) code.blocks;
   find = bodies_start (behind_blocks first code) code.closures;
+  sites = numbers_of (sites_of code.blocks);
+  objects = number_behind first code;
 }
 
 -- The number, or another where there is none.

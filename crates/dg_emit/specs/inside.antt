@@ -1,3 +1,4 @@
 pub mod Left
 pub mod Acts
 pub mod Parts
+pub mod Places

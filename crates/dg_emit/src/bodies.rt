@@ -1,23 +1,18 @@
 // The routines that find and enter the bodies of closures.
 ghost use Rattle.std.specs.Prelude.{◌≡◌, ℕ, ◌+◌, ◌<◌, ◌≤◌, ◌++◌, IfOk, OnOk, length};
-ghost use Rattle.std.specs.List.{slice_get};
-ghost use Rattle.dg_meaning.specs.Cells.{captured_count};
 ghost use Rattle.dg_turn.specs.Bodies.{fork_routine};
 ghost use Rattle.dg_emit.specs.Numbers.{bodies_size};
 ghost use Rattle.dg_emit.specs.Bodies as spec;
-ghost use Rattle.dg_emit.specs.inside.Acts as inside;
 ghost use Rattle.dg_emit.specs.inside.Parts as parts;
 
-use crate::closures::CALLED;
 use crate::code::CodeWriter;
-use crate::counting::captured;
-use crate::rules::{CLOSURES, HEAD, put_last, put_matches, put_test};
+use crate::rules::{CLOSURES, put_test};
 use dg_base::Items;
 use dg_mid::BodyCode;
-use dg_rt::numbers::{BODY, FAIL, VAR};
-use dg_rt::registers::{ARGS, CLASH, PARAMETERS};
+use dg_rt::numbers::IF_BODY;
+use dg_rt::registers::WORD;
 use std::alloc::{AllocError, Global};
-use z_lang::{Act, Args, Atom, Comparison, Routine, Test};
+use z_lang::{Act, Args, Atom, Comparison, Routine};
 
 /// Bodies whose routines are still to be written: the first routine has this number, and the first closure this place.
 #[derive(Clone, Copy)]
@@ -38,38 +33,20 @@ fn fork(alloc: Global, place: u16, left: u16, right: u16) -> Result<Routine, All
     Ok(Routine { locals: 0, body })
 }
 
-// A body is entered with so many variables of its own behind those that are captured.
-fn put_entering(acts: &mut Items<Act>, own: u16, captured: u16) -> Result<(), AllocError>
-    ensures { OnOk result (acts.new ≡ acts.old ++ inside.entering_acts own captured) }
-{
-    let alone = Test {
-        comparison: Comparison::Equal,
-        first: Atom::Var(PARAMETERS),
-        second: Atom::Num(0),
-        answer: true,
-    };
-    let frame = Args::Two(Atom::Num(own), Atom::Var(CALLED));
-    let parameter = Args::One(Atom::Num(captured));
-    acts.push(Act::Call(None, Atom::Routine(BODY), frame))?;
-    acts.push(Act::Copy(CLASH, Atom::Num(0)))?;
-    acts.push(Act::When(alone, 1))?;
-    acts.push(Act::Call(Some(HEAD), Atom::Routine(VAR), parameter))
-}
-
 impl CodeWriter<'_> {
     // The routine that enters the body of the closure of a place.
     fn entering(&self, place: u16, body: &BodyCode) -> Result<Routine, AllocError>
-        requires place { place < 16384 }
-        requires few { captured_count (slice_get self.now.writer.program.now.closures place) ≤ 64 }
-        ensures { IfOk result (λ r. r ≡ spec.entering_routine self.now.writer.program.now self.now.numbers.now place body.now) }
+        requires { place < 16384 }
+        ensures { IfOk result (λ r. r ≡ spec.entering_routine self.now.numbers.now place body.now) }
     {
-        let captured = captured(self.writer.program, place).len() as u16;
+        let those = Args::Three(
+            Atom::Num(CLOSURES + place),
+            Atom::Num(body.own),
+            Atom::Routine(self.numbers.block(body.block)),
+        );
         let mut acts = Items::new(self.writer.alloc);
-        put_test(&mut acts, Comparison::Equal, CLOSURES + place, FAIL)?;
-        put_entering(&mut acts, body.own, captured)?;
-        put_matches(&mut acts, ARGS, HEAD, 1)?;
-        acts.push(Act::Label(1))?;
-        put_last(&mut acts, self.numbers.block(body.block))?;
+        acts.push(Act::Call(Some(WORD), Atom::Routine(IF_BODY), those))?;
+        acts.push(Act::Return(Atom::Var(WORD)))?;
         Ok(Routine {
             locals: 0,
             body: acts,
@@ -86,7 +63,7 @@ impl CodeWriter<'_> {
     ) -> Result<(), AllocError>
         requires some { 2 ≤ length part.bodies.now }
         requires fits { parts.PartFits part }
-        ensures { OnOk result (parts.Shrinks self.now.writer.program.now self.now.numbers.now part.entry all.old all.new left.old left.new) }
+        ensures { OnOk result (parts.Shrinks self.now.numbers.now part.entry all.old all.new left.old left.new) }
     {
         let half = part.bodies.len() / 2;
         let (first, others) = part.bodies.split_at(half);
@@ -115,8 +92,7 @@ impl CodeWriter<'_> {
         part: Part<'p>,
     ) -> Result<(), AllocError>
         requires fits { parts.PartFits part }
-        requires few { (place : ℕ) → captured_count (slice_get self.now.writer.program.now.closures place) ≤ 64 }
-        ensures { OnOk result (parts.Shrinks self.now.writer.program.now self.now.numbers.now part.entry all.old all.new left.old left.new) }
+        ensures { OnOk result (parts.Shrinks self.now.numbers.now part.entry all.old all.new left.old left.new) }
     {
         match part.bodies {
             [] => Ok(()),
@@ -137,9 +113,8 @@ impl CodeWriter<'_> {
     ) -> Result<(), AllocError>
         requires room { number + bodies_size bodies.now ≤ 65535 }
         requires places { length bodies.now ≤ 16384 }
-        requires few { (place : ℕ) → captured_count (slice_get self.now.writer.program.now.closures place) ≤ 64 }
         ensures { OnOk result (all.new ≡ all.old
-            ++ spec.bodies_routines self.now.writer.program.now self.now.numbers.now (length bodies.now) number 0 bodies.now) }
+            ++ spec.bodies_routines self.now.numbers.now (length bodies.now) number 0 bodies.now) }
     {
         let mut left = Items::new(self.writer.alloc);
         left.push(Part {

@@ -1,13 +1,18 @@
 // The routines of code.
-ghost use Rattle.std.specs.Prelude.{◌≡◌, ◌+◌, ◌≤◌, ◌++◌, ◌∷◌, [], IfOk, OnOk, length};
-ghost use Rattle.dg_emit.specs.Numbers.{routines_of_ops as size_of, blocks_size};
+ghost use Rattle.std.specs.Prelude.{◌≡◌, ◌+◌, ◌≤◌, ◌++◌, ◌∷◌, [], true, IfOk, OnOk, length};
+ghost use Rattle.dg_turn.specs.Tries.{sought_at};
+ghost use Rattle.dg_emit.specs.Finds.{kind_at, query_of, tries_of};
+ghost use Rattle.dg_emit.specs.World.{WorldFits};
+ghost use Rattle.dg_emit.specs.Numbers.{routines_of_ops as size_of, routines_of_op as own_size, blocks_size, block_number};
 ghost use Rattle.dg_base.specs.Goals.{option_terms};
 ghost use Rattle.dg_turn.specs.Turns as turns;
+ghost use Rattle.dg_mid.specs.declared.code.Action.TheVariants as action;
 ghost use Rattle.dg_mid.specs.declared.code.Op.TheVariants as op;
 ghost use Rattle.dg_emit.specs.Code as spec;
 
 use crate::choices::{branch, commit, goto, just, leave, once, shield, try_first};
 use crate::counting::all_of;
+use crate::gathering::take;
 use crate::numbers::{Numbers, first_of, routines_of_op, routines_of_ops};
 use crate::queries::Asked;
 use crate::terms::Writer;
@@ -28,9 +33,11 @@ pub fn is_built(op: &Op) -> bool
         Op::Do(Action::Test(_, _)) | Op::Do(Action::Compare(_, _, _)) => true,
         Op::Do(Action::Arith(_, _, _, _)) | Op::Do(Action::Random(_, _, _)) => true,
         Op::Do(Action::Text(_)) | Op::Do(Action::Gap(_)) | Op::Do(Action::GapN(_)) => true,
+        Op::Do(Action::Now(_, _, _)) => true,
+        Op::Do(Action::Input(_)) => true,
+        Op::Do(Action::Print(_)) => true,
         Op::Do(_) => false,
-        Op::Find(_, _, _, _) | Op::Select(_, _, _, _) | Op::Collect(_, _, _) => false,
-        Op::TakeOut(_, _) | Op::Keep(_) => false,
+        Op::Find(None, terms, _, _) => !terms.is_empty(),
         _ => true,
     }
 }
@@ -126,6 +133,42 @@ impl CodeWriter<'_> {
         self.writer.enter_routine(vars, head.as_slice(), behind)
     }
 
+    // The routine of a change of the world.
+    fn now(
+        &self,
+        place: u16,
+        terms: &[Term],
+        sets: bool,
+        behind: u16,
+    ) -> Result<Routine, AllocError>
+        requires { spec.OpFits self.now.writer.program.now (op.Do (action.Now place terms.now sets)) }
+        ensures { IfOk result (λ r. r ≡ spec.op_routine self.now.writer.program.now self.now.numbers.now behind (op.Do (action.Now place terms.now sets))) }
+    {
+        let terms = all_of(self.writer.alloc, terms)?;
+        self.writer
+            .change_routine(place, terms.as_slice(), sets, behind)
+    }
+
+    // The routine of a query of the world.
+    fn find(&self, place: Option<u16>, terms: &[Term], behind: u16) -> Result<Routine, AllocError>
+        requires { spec.OpFits self.now.writer.program.now (op.Find place terms.now true 0) }
+        ensures { IfOk result (λ r. r ≡ spec.op_routine self.now.writer.program.now self.now.numbers.now behind (op.Find place terms.now true 0)) }
+    {
+        match (place, terms) {
+            (Some(place), []) => self.writer.holds_routine(place, behind),
+            _ => goto(self.writer.alloc, FAIL),
+        }
+    }
+
+    // The routine that opens a gathering.
+    fn collect(&self, a: &Term, b: &Term, alt: u32, behind: u16) -> Result<Routine, AllocError>
+        requires { spec.TermsFit self.now.writer.program.now (a.now ∷ b.now ∷ []) }
+        ensures { IfOk result (λ r. r ≡ spec.op_routine self.now.writer.program.now self.now.numbers.now behind (op.Collect a.now b.now alt)) }
+    {
+        let alt = self.numbers.block(alt);
+        self.writer.collect_routine(a, b, alt, behind)
+    }
+
     // The routine of an action.
     fn action(&self, behind: u16, action: &Action) -> Result<Routine, AllocError>
         requires { spec.OpFits self.now.writer.program.now (op.Do action.now) }
@@ -143,6 +186,9 @@ impl CodeWriter<'_> {
             Action::Arith(op, a, b, c) => self.writer.arith_routine(*op, a, b, c, behind),
             Action::Random(a, b, c) => self.writer.random_routine(a, b, c, behind),
             Action::Equal(a, b) => self.writer.equal_routine(a, b, behind),
+            Action::Now(place, args, sets) => self.now(*place, args.as_slice(), *sets, behind),
+            Action::Input(term) => self.writer.input_routine(term, behind),
+            Action::Print(a) => self.writer.print_routine(a, self.numbers.objects, behind),
             _ => goto(alloc, FAIL),
         }
     }
@@ -159,11 +205,17 @@ impl CodeWriter<'_> {
             Op::LastAsk(pred, terms, many) => self.ask_last(*pred, terms.as_slice(), *many),
             Op::Query(a, b, many, next) => self.query(a, b, *many, *next),
             Op::LastQuery(a, b, many) => self.query_last(a, b, *many),
+            Op::Find(place, terms, _, _) => self.find(*place, terms.as_slice(), behind),
+            Op::Select(site, mode, blocks, next) => {
+                self.select_routine(*site, *mode, blocks.as_slice(), *next)
+            }
             Op::Take => goto(alloc, behind),
             Op::Branch(alt) | Op::Retry(alt) => branch(alloc, self.numbers.block(*alt), behind),
             Op::Once => once(alloc, behind),
             Op::Try(alt) => try_first(alloc, self.numbers.block(*alt), behind),
             Op::Shield(alt) => shield(alloc, self.numbers.block(*alt), behind),
+            Op::Collect(a, b, alt) => self.collect(a, b, *alt, behind),
+            Op::TakeOut(whole, _) => take(alloc, *whole, behind),
             Op::Commit => commit(alloc, behind),
             Op::Refuse => commit(alloc, FAIL),
             Op::Leave => leave(alloc, behind),
@@ -174,13 +226,56 @@ impl CodeWriter<'_> {
         }
     }
 
-    // The routines of an instruction.
-    fn put_op(&self, all: &mut Items<Routine>, behind: u16, op: &Op) -> Result<(), AllocError>
-        requires { spec.OpFits self.now.writer.program.now op.now }
-        ensures { OnOk result (all.new ≡ all.old ++ spec.op_routines self.now.writer.program.now self.now.numbers.now behind op.now) }
+    // The routines of a query of objects, of which the first has a number.
+    fn put_find(
+        &self,
+        all: &mut Items<Routine>,
+        number: u16,
+        behind: u16,
+        place: Option<u16>,
+        terms: &[Term],
+        way: (bool, u32),
+    ) -> Result<(), AllocError>
+        requires fits { spec.TermsFit self.now.writer.program.now terms.now }
+        requires world { WorldFits self.now.writer.program.now }
+        requires few { number + 1 ≤ 65535 }
+        ensures { OnOk result (all.new ≡ all.old
+            ++ query_of self.now.writer.program.now (kind_at self.now.writer.program.now place) place terms.now behind (number + 1)
+            ∷ tries_of self.now.writer.program.now (sought_at self.now.writer.program.now place) way.0
+            (block_number self.now.numbers.now way.1) ∷ []) }
+    {
+        let (many, next) = way;
+        let terms = all_of(self.writer.alloc, terms)?;
+        let first = number + 1;
+        let known = self
+            .writer
+            .query_found(place, terms.as_slice(), behind, first)?;
+        all.push(known)?;
+        let next = self.numbers.block(next);
+        all.push(self.writer.objects_tried(place, many, next)?)
+    }
+
+    // The routines of an instruction, of which the first has a number.
+    fn put_op(
+        &self,
+        all: &mut Items<Routine>,
+        number: u16,
+        behind: u16,
+        op: &Op,
+    ) -> Result<(), AllocError>
+        requires fits { spec.OpFits self.now.writer.program.now op.now }
+        requires few { number + own_size op.now ≤ 65535 }
+        ensures { OnOk result (all.new ≡ all.old ++ spec.op_routines self.now.writer.program.now self.now.numbers.now number behind op.now) }
     {
         match op {
-            Op::Return | Op::Do(Action::Stop) => Ok(()),
+            Op::Return | Op::Do(Action::Stop) | Op::Keep(_) => Ok(()),
+            Op::Find(place, terms, many, next) => match terms.as_slice() {
+                [] => all.push(self.op_routine(behind, op)?),
+                [_, ..] => {
+                    let way = (*many, *next);
+                    self.put_find(all, number, behind, *place, terms.as_slice(), way)
+                }
+            },
             _ => all.push(self.op_routine(behind, op)?),
         }
     }
@@ -194,8 +289,9 @@ impl CodeWriter<'_> {
         let mut next = number;
         let mut left = ops;
         while let [op, others @ ..] = left {
+            let own = next;
             next += routines_of_op(op);
-            self.put_op(all, first_of(next, others), op)?;
+            self.put_op(all, own, first_of(next, others), op)?;
             left = others;
         }
         all.push(goto(self.writer.alloc, FAIL)?)

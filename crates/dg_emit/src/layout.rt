@@ -3,11 +3,12 @@ ghost use Rattle.std.specs.Prelude.{◌≡◌, ◌+◌, ◌<◌, ◌≤◌, ◌+
 ghost use Rattle.std.specs.List.{slice_get};
 ghost use Rattle.dg_mid.specs.Code.{block_at, label_of};
 ghost use Rattle.dg_turn.specs.Told.{KeyFits};
-ghost use Rattle.dg_emit.specs.Numbers.{rules_count, blocks_size, numbers_from, number_behind};
+ghost use Rattle.dg_emit.specs.Numbers.{rules_count, blocks_size, numbers_from, numbers_end};
 ghost use Rattle.dg_emit.specs.Code as spec;
 
 use crate::code::CodeWriter;
 use crate::numbers::{Numbers, first_rule, routines_of_ops};
+use crate::objects::put_objects;
 use crate::rules::{RulePlace, rule_routine};
 use crate::terms::Writer;
 use dg_base::Items;
@@ -111,7 +112,7 @@ pub fn put_code(
     first: u16,
 ) -> Result<(), AllocError>
     requires numbers { numbers.now ≡ numbers_from first code.now }
-    requires few { number_behind first code.now ≤ 65535 }
+    requires few { numbers_end first code.now ≤ 65535 }
     requires fits { spec.CodeFits writer.now.program.now code.now }
     ensures { OnOk result (all.new ≡ all.old ++ spec.code_routines writer.now.program.now first code.now) }
 {
@@ -128,7 +129,13 @@ pub fn put_code(
     let first_block = first + rules_of(code.preds.as_slice());
     let first_body = first_block + blocks_of(code.blocks.as_slice());
     blocks.put_blocks(all, first_block, code.blocks.as_slice())?;
-    blocks.put_bodies(all, first_body, code.closures.as_slice())
+    blocks.put_bodies(all, first_body, code.closures.as_slice())?;
+    put_objects(
+        writer.alloc,
+        all,
+        numbers.objects,
+        writer.program.objects.as_slice(),
+    )
 }
 
 // How many rules there are.

@@ -3,9 +3,10 @@ ghost use Rattle.std.specs.Prelude.{◌≡◌, ◌+◌, ◌<◌, ◌≤◌, IfOk
 ghost use Rattle.dg_emit.specs.Numbers as spec;
 ghost use Rattle.dg_emit.specs.declared.numbers.NumberFault.TheVariants.{TooMany, Memory};
 
+use crate::sites::sites_of;
 use dg_base::Items;
 use dg_mid::{Action, Block, BodyCode, Code, Op, RuleCode};
-use dg_rt::numbers::{FAIL, LEAVE, NONE, UNSTOP};
+use dg_rt::numbers::{FAIL, KEEP_VALUE, LEAVE, NONE, UNSTOP};
 use std::alloc::{AllocError, Global};
 
 /// Why code has no numbers: its routines are more than there are numbers, or memory is short.
@@ -23,12 +24,15 @@ impl From<AllocError> for NumberFault {
     }
 }
 
-/// The first routine of each predicate's rules, that of each block, and the one that finds the bodies of closures.
+/// The first routine of each predicate's rules, that of each block, the one that finds the bodies of closures, and the sites of selects, in order.
+/// The first routine of each predicate's rules, that of each block, the one that finds the bodies of closures, and the one that prints an object.
 #[derive(Drop)]
 pub struct Numbers {
     pub preds: Items<u16>,
     pub blocks: Items<u16>,
     pub find: u16,
+    pub sites: Items<u16>,
+    pub objects: u16,
 }
 
 fn number_or(other: u16, number: Option<u16>) -> u16
@@ -59,10 +63,11 @@ impl Numbers {
 /// How many routines an instruction has of its own.
 pub fn routines_of_op(op: &Op) -> u16
     ensures size { result ≡ spec.routines_of_op op.now }
-    ensures few { result ≤ 1 }
+    ensures few { result ≤ 2 }
 {
     match op {
-        Op::Return | Op::Do(Action::Stop) => 0,
+        Op::Find(_, terms, _, _) => { if terms.is_empty() { 1 } else { 2 } }
+        Op::Return | Op::Do(Action::Stop) | Op::Keep(_) => 0,
         _ => 1,
     }
 }
@@ -74,6 +79,7 @@ pub fn first_of(number: u16, ops: &[Op]) -> u16
     match ops {
         [Op::Return, ..] => LEAVE,
         [Op::Do(Action::Stop), ..] => UNSTOP,
+        [Op::Keep(_), ..] => KEEP_VALUE,
         _ => number,
     }
 }
@@ -87,6 +93,9 @@ pub fn first_rule(number: u16, rules: &[RuleCode]) -> u16
         [_, ..] => number,
     }
 }
+
+/// The most routines that the names of objects have.
+const NAMES: usize = 4_230;
 
 // The number behind so many routines.
 fn number_behind(number: u16, size: usize) -> Result<u16, NumberFault>
@@ -207,21 +216,25 @@ fn bodies_start(number: u16, bodies: &[BodyCode]) -> u16
 /// The numbers of code whose first routine has a number.
 pub fn numbers_from(alloc: Global, first: u16, code: &Code) -> Result<Numbers, NumberFault>
     ensures ok { IfOk result (λ numbers. numbers ≡ spec.numbers_from first code.now) }
-    ensures few { IfOk result (λ _. spec.number_behind first code.now ≤ 65535) }
-    ensures many { IsErrOf result TooMany → 65535 < spec.number_behind first code.now }
+    ensures few { IfOk result (λ _. spec.numbers_end first code.now ≤ 65535) }
+    ensures many { IsErrOf result TooMany → 65535 < spec.numbers_end first code.now }
 {
     let preds = code.preds.as_slice();
     let blocks = code.blocks.as_slice();
     let bodies = code.closures.as_slice();
     let first_block = behind_rules(first, preds)?;
     let first_body = behind_blocks(first_block, blocks)?;
-    behind_bodies(first_body, bodies)?;
+    let objects = behind_bodies(first_body, bodies)?;
+    number_behind(objects, NAMES)?;
     let preds = pred_starts(alloc, first, preds)?;
     let blocks = block_starts(alloc, first_block, blocks)?;
     let find = bodies_start(first_body, bodies);
+    let sites = sites_of(alloc, code.blocks.as_slice())?;
     Ok(Numbers {
         preds,
         blocks,
         find,
+        sites,
+        objects,
     })
 }

@@ -2,7 +2,7 @@
 ghost use Rattle.std.specs.Prelude.{◌≡◌, ◌<◌, IfOk, IsErrOf};
 ghost use Rattle.dg_rt.specs.RunTime.{routine_of};
 ghost use Rattle.dg_emit.specs.declared.numbers.NumberFault.TheVariants.{TooMany};
-ghost use Rattle.dg_emit.specs.Numbers.{number_behind};
+ghost use Rattle.dg_emit.specs.Numbers.{numbers_end};
 ghost use Rattle.dg_emit.specs.Code.{CodeFits};
 ghost use Rattle.dg_emit.specs.Story as spec;
 
@@ -46,7 +46,7 @@ pub fn story_routines(
 ) -> Result<Items<Routine>, NumberFault>
     requires { CodeFits program.now code.now }
     ensures ok { IfOk result (λ all. all ≡ spec.story_routines program.now code.now keeps) }
-    ensures many { IsErrOf result TooMany → 65535 < number_behind spec.first_number code.now }
+    ensures many { IsErrOf result TooMany → 65535 < numbers_end spec.first_number code.now }
 {
     let runtime = runtime(alloc)?;
     let first = 1 + runtime.len() as u16;

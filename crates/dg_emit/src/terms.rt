@@ -9,7 +9,7 @@ ghost use Rattle.dg_emit.specs.inside.Left.{those};
 
 use crate::counting::{PASSED, add_parts, all_left, captured, cells, node_cells};
 use dg_base::{CoreProgram, Items, Term};
-use dg_rt::numbers::{CAPTURE, CHARGE, VAR};
+use dg_rt::numbers::{CAPTURE, CHARGE, CLOSURE, VAR};
 use dg_rt::registers::{TERM, WORD};
 use std::alloc::{AllocError, Global};
 use z_lang::{Act, Args, Atom, Function, Width};
@@ -124,9 +124,12 @@ fn put_closure(
     requires room { offset ≤ 10000 }
     ensures { OnOk result (acts.new ≡ acts.old ++ spec.closure_acts offset closure captured.now) }
 {
-    acts.push(cell(offset, Atom::Num(1 + closure)))?;
-    acts.push(cell(offset + 1, Atom::Num(captured.len() as u16)))?;
-    acts.push(box_word(WORD, offset))?;
+    let begun = Args::Three(
+        Atom::Num(offset),
+        Atom::Num(1 + closure),
+        Atom::Num(captured.len() as u16),
+    );
+    acts.push(Act::Call(None, Atom::Routine(CLOSURE), begun))?;
     put_captures(acts, captured)
 }
 

@@ -16,8 +16,8 @@ use dg_rt::registers::{ARGS, ASKED, LAST, LINES, SPACES, UPPER};
 use std::alloc::{AllocError, Global};
 use z_lang::{Act, Args, Atom, Comparison, Print, Routine, Test};
 
-// A name of a program is text.
-fn text_of(name: &[u8]) -> &str
+/// A name of a program is text.
+pub fn text_of(name: &[u8]) -> &str
     requires { IsName name.now }
     ensures { result.now ≡ name.now }
 {
@@ -27,8 +27,8 @@ fn text_of(name: &[u8]) -> &str
     }
 }
 
-// The characters of a text.
-fn characters(alloc: Global, text: &str) -> Result<Items<u16>, AllocError>
+/// The characters of a text.
+pub fn characters(alloc: Global, text: &str) -> Result<Items<u16>, AllocError>
     requires { IsName text.now }
     ensures { IfOk result (λ made. made ≡ chars text.now) }
 {
@@ -45,8 +45,8 @@ fn opens(character: u16) -> bool
     matches!(character, 40 | 91 | 123)
 }
 
-// How a text ends that ends with this character: 1 if it opens, else 2.
-fn end_with(last: u16) -> u16
+/// How a text ends that ends with this character: 1 if it opens, else 2.
+pub fn end_with(last: u16) -> u16
     ensures { result ≡ last_word (Some last) }
 {
     if opens(last) { 1 } else { 2 }
@@ -62,8 +62,8 @@ fn end_of(characters: &[u16]) -> u16
     }
 }
 
-// Characters are printed.
-fn put_says(acts: &mut Items<Act>, characters: &[u16]) -> Result<(), AllocError>
+/// Characters are printed.
+pub fn put_says(acts: &mut Items<Act>, characters: &[u16]) -> Result<(), AllocError>
     ensures { OnOk result (acts.new ≡ acts.old ++ map spec.say characters.now) }
 {
     for c in characters {
@@ -72,8 +72,8 @@ fn put_says(acts: &mut Items<Act>, characters: &[u16]) -> Result<(), AllocError>
     Ok(())
 }
 
-// So are those of a text, behind what separates it from the text before.
-fn put_text(acts: &mut Items<Act>, characters: &[u16]) -> Result<(), AllocError>
+/// So are those of a text, behind what separates it from the text before.
+pub fn put_text(acts: &mut Items<Act>, characters: &[u16]) -> Result<(), AllocError>
     ensures { OnOk result (acts.new ≡ acts.old ++ spec.text_acts characters.now) }
 {
     match characters {

@@ -1,5 +1,5 @@
 -- Single acts. The proofs alone rest on it.
-use Rattle.std.specs.Prelude.{ℕ, List, [], ◌∷◌, Option, Some, None, Bool, true}
+use Rattle.std.specs.Prelude.{ℕ, List, [], ◌∷◌, Option, Some, None, Bool, true, false, if◌then◌else◌}
 use Rattle.z_lang.specs.declared.act.Act.{Act}
 use Rattle.z_lang.specs.declared.act.Act.TheVariants as acts
 use Rattle.z_lang.specs.declared.act.Args.TheVariants as args
@@ -9,13 +9,14 @@ use Rattle.z_lang.specs.declared.act.Comparison.{Comparison}
 use Rattle.z_lang.specs.declared.act.Comparison.TheVariants as comparisons
 use Rattle.z_lang.specs.declared.act.Function.TheVariants as functions
 use Rattle.z_lang.specs.declared.act.Routine.{Routine}
-use Rattle.dg_rt.specs.declared.numbers.TheConstants.{CAPTURE, ASK, MATCH, OPEN, BODY, VAR, KEY_OF, WALK}
-use Rattle.dg_rt.specs.declared.registers.TheConstants.{TERM, KEY, CLASH, PARAMETERS, MANY}
+use Rattle.z_lang.specs.declared.act.Test.{Test}
+use Rattle.dg_rt.specs.declared.numbers.TheConstants.{CAPTURE, ASK, MATCH, OPEN, KEY_OF, WALK}
+use Rattle.dg_rt.specs.declared.registers.TheConstants.{TERM, KEY, PARAMETERS, MANY}
 use Rattle.dg_rt.specs.RunTime.{routine_of}
 use Rattle.dg_turn.specs.Lies.{bit_of}
 use Rattle.dg_turn.specs.Terms.{two_numbers}
-use Rattle.dg_turn.specs.Turns.{HEAD}
 use Rattle.dg_turn.specs.Bodies.{CALLED}
+use Rattle.dg_turn.specs.Names.{is_long, name_acts}
 
 -- The word of a box that lies so far behind the first cell is put into a variable.
 abbrev pub box_act : ℕ → ℕ → Act
@@ -49,14 +50,6 @@ open_act into other gathers = acts.Call into (atoms.Routine OPEN) (args.Three (a
 abbrev pub calling_routine : ℕ → ℕ → Routine
 calling_routine called behind = routine_of 0 (acts.Call None (atoms.Routine called) args.Zero ∷ acts.Return (atoms.Routine behind) ∷ [])
 
--- A body of a closure is entered: the closure's values and its own variables stand in a frame, of which the first of its own, where there is an argument,
--- has its word in a register.
-abbrev pub entering_acts : (own captured : ℕ) → List Act
-entering_acts own captured =
-    acts.Call None (atoms.Routine BODY) (args.Two (atoms.Num own) (atoms.Var CALLED)) ∷ acts.Copy CLASH (atoms.Num 0)
-    ∷ acts.When (record { comparison = comparisons.Equal; first = atoms.Var PARAMETERS; second = atoms.Num 0; answer = true }) 1
-    ∷ acts.Call (Some HEAD) (atoms.Routine VAR) (args.One (atoms.Num captured)) ∷ []
-
 -- The value that is called is looked up, with its key, and what looks for its body comes next.
 abbrev pub look_acts : ℕ → Bool → ℕ → List Act
 look_acts arguments many find =
@@ -67,3 +60,11 @@ look_acts arguments many find =
 -- An argument is matched with a word of a head.
 abbrev pub match_act : ℕ → ℕ → Act
 match_act v x = acts.Call None (atoms.Routine MATCH) (args.Two (atoms.Var v) (atoms.Var x))
+
+-- Whether a local is less than a number.
+abbrev pub below : ℕ → ℕ → Test
+below v end = record { comparison = comparisons.Less; first = atoms.Var v; second = atoms.Num end; answer = false }
+
+-- The routine of a name, if it is long.
+abbrev pub long_one : List ℕ → List Routine
+long_one cs = if is_long cs then routine_of 3 (name_acts cs) ∷ [] else []

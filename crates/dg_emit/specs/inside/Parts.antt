@@ -1,6 +1,5 @@
 -- Bodies whose routines are still to be written. The proofs alone rest on it.
 use Rattle.std.specs.Prelude.{◌≡◌, ℕ, ◌+◌, ◌*◌, ◌-◌, ◌<◌, ◌≤◌, List, [], ◌∷◌, ◌++◌, length}
-use Rattle.dg_base.specs.declared.program.CoreProgram.{CoreProgram}
 use Rattle.z_lang.specs.declared.act.Routine.{Routine}
 use Rattle.dg_emit.specs.declared.numbers.Numbers.{Numbers}
 use Rattle.dg_emit.specs.declared.bodies.Part.{Part}
@@ -18,13 +17,13 @@ PartsFit [] = Unit {0}
 PartsFit (part ∷ parts) = PartFits part × PartsFit parts
 
 -- The routines of a part.
-abbrev pub part_routines : CoreProgram → Numbers → Part → List Routine
-part_routines program numbers part = bodies_routines program numbers (length part.bodies.now) part.number part.place part.bodies.now
+abbrev pub part_routines : Numbers → Part → List Routine
+part_routines numbers part = bodies_routines numbers (length part.bodies.now) part.number part.place part.bodies.now
 
 -- Those of parts, of which the last comes first.
-abbrev pub parts_routines : CoreProgram → Numbers → List Part → List Routine
-parts_routines program numbers [] = []
-parts_routines program numbers (part ∷ parts) = parts_routines program numbers parts ++ part_routines program numbers part
+abbrev pub parts_routines : Numbers → List Part → List Routine
+parts_routines numbers [] = []
+parts_routines numbers (part ∷ parts) = parts_routines numbers parts ++ part_routines numbers part
 
 -- A measure of what is left to write: it falls where a part is halved, and where one is done.
 abbrev pub weight : Part → ℕ
@@ -35,7 +34,7 @@ parts_weight [] = 0
 parts_weight (part ∷ parts) = weight part + parts_weight parts
 
 -- A part is written as far as routines go that are there then, and what is left of it is left.
-pub record Shrinks (program : CoreProgram) (numbers : Numbers) (part : Part) (all all' : List Routine) (left left' : List Part) : Type 0 where
-  pub same : all' ++ parts_routines program numbers left' ≡ all ++ (part_routines program numbers part ++ parts_routines program numbers left)
+pub record Shrinks (numbers : Numbers) (part : Part) (all all' : List Routine) (left left' : List Part) : Type 0 where
+  pub same : all' ++ parts_routines numbers left' ≡ all ++ (part_routines numbers part ++ parts_routines numbers left)
   pub fit : PartsFit left → PartsFit left'
   pub less : parts_weight left' < weight part + parts_weight left

@@ -1,0 +1,11 @@
+use Rattle.std.proofs.Common.{◌≡◌, ◌+◌, ◌*◌, ◌≤◌, ◌++◌, length}
+use Rattle.dg_turn.specs.Names.{chain_routines}
+use Rattle.dg_emit.proofs.objects.put_groups.Given as goal
+
+abbrev pub invariant-loop-left : goal.invariant-loop-left
+invariant-loop-left l =
+    (l.all ++ chain_routines 1 32 (length l.left) l.end l.left ≡ l.initial.all ++ chain_routines 1 32 (length l.leaves) 1 l.leaves)
+    × (l.end + 32 * length l.left ≤ 4097)
+
+abbrev pub decreases-loop-left : goal.decreases-loop-left
+decreases-loop-left l = length l.left
