@@ -2,7 +2,6 @@
 use Rattle.std.proofs.Common.{◌≡◌, ℕ, zero, suc, ◌+◌, ◌*◌, ◌-◌, ◌<◌, ◌≤◌, List, [], ◌∷◌, length, take, drop, Some, refl, sym, ap, ◌∙◌, subst, arith, length-append, length-drop}
 use Rattle.std.specs.Prelude.{◌/◌}
 use Rattle.std.proofs.lemmas.List.{take-append-drop, length-take-le}
-use Rattle.dg_base.specs.declared.program.CoreProgram.{CoreProgram}
 use Rattle.dg_mid.specs.declared.code.BodyCode.{BodyCode}
 use Rattle.z_lang.specs.declared.act.Routine.{Routine}
 use Rattle.dg_turn.specs.Told.{Telling}
@@ -30,21 +29,21 @@ size_is [] le = absurd (omega arith)
 size_is (c ∷ cs) le = omega arith
 
 -- how many routines they are
-bodies_length : (program : CoreProgram) (numbers : Numbers) (halvings n place : ℕ) (cs : List BodyCode) → length cs ≤ halvings →
-    length (bodies_routines program numbers halvings n place cs) ≡ bodies_size cs
-bodies_length program numbers halvings n place [] le = refl
-bodies_length program numbers halvings n place (c ∷ []) le = refl
-bodies_length program numbers zero n place (c ∷ d ∷ cs) le = absurd (omega arith)
-bodies_length program numbers (suc halvings) n place (c ∷ d ∷ cs) le =
+pub bodies_length : (numbers : Numbers) (halvings n place : ℕ) (cs : List BodyCode) → length cs ≤ halvings →
+    length (bodies_routines numbers halvings n place cs) ≡ bodies_size cs
+bodies_length numbers halvings n place [] le = refl
+bodies_length numbers halvings n place (c ∷ []) le = refl
+bodies_length numbers zero n place (c ∷ d ∷ cs) le = absurd (omega arith)
+bodies_length numbers (suc halvings) n place (c ∷ d ∷ cs) le =
     let all : List BodyCode = c ∷ d ∷ cs in
     let h : ℕ = half all in
     let a = half_is c d cs in
     let b = other_is c d cs in
-    let x = bodies_length program numbers halvings (n + 1) place (take h all) (omega arith) in
-    let y = bodies_length program numbers halvings (n + 2 * h) (place + h) (drop h all) (omega arith) in
+    let x = bodies_length numbers halvings (n + 1) place (take h all) (omega arith) in
+    let y = bodies_length numbers halvings (n + 2 * h) (place + h) (drop h all) (omega arith) in
     omega (
       arith,
-      length-append (bodies_routines program numbers halvings (n + 1) place (take h all)) (bodies_routines program numbers halvings (n + 2 * h) (place + h) (drop h all)),
+      length-append (bodies_routines numbers halvings (n + 1) place (take h all)) (bodies_routines numbers halvings (n + 2 * h) (place + h) (drop h all)),
       size_is (take h all) (omega arith),
       size_is (drop h all) (omega arith),
       size_is all (omega arith),
@@ -66,11 +65,11 @@ few_drop (suc n) [] h = tt
 few_drop (suc n) (c ∷ cs) h = few_drop n cs h.1
 
 module _ (t : Telling) (numbers : Numbers) (to_block : (b : ℕ) → t.p.names.routine (block_number numbers b) ≡ t.at_block b) where
-  body_stands : (n place : ℕ) (c : BodyCode) → t.p.routine_at (t.p.names.routine n) ≡ Some (entering_routine t.program numbers place c) → place < 16384 → c.own ≤ 300 → BodyAt t n place c
+  body_stands : (n place : ℕ) (c : BodyCode) → t.p.routine_at (t.p.names.routine n) ≡ Some (entering_routine numbers place c) → place < 16384 → c.own ≤ 300 → BodyAt t n place c
   body_stands n place c is lt few = record { block = block_number numbers c.block; is = is; block_is = to_block c.block; small = lt; few = few }
 
   some_found : (depth halvings n place : ℕ) (cs : List BodyCode) → 1 ≤ length cs → length cs ≤ doubled depth → length cs ≤ halvings → place + length cs ≤ 16384 → BodiesAreFew cs →
-      LieAt t.p n (bodies_routines t.program numbers halvings n place cs) → FindsBodies t n place cs depth
+      LieAt t.p n (bodies_routines numbers halvings n place cs) → FindsBodies t n place cs depth
   some_found depth halvings n place [] some deep le small few lie = absurd (omega arith)
   some_found depth halvings n place (c ∷ []) some deep le small few lie = one_body n place depth c (body_stands n place c lie.0 (omega arith) few.0)
   some_found zero halvings n place (c ∷ d ∷ cs) some deep le small few lie = absurd (omega arith)
@@ -80,9 +79,9 @@ module _ (t : Telling) (numbers : Numbers) (to_block : (b : ℕ) → t.p.names.r
       let h : ℕ = half all in
       let a : length (take h all) ≡ h = half_is c d cs in
       let b = other_is c d cs in
-      let first : List Routine = bodies_routines t.program numbers halvings (n + 1) place (take h all) in
-      let others : List Routine = bodies_routines t.program numbers halvings (n + 2 * h) (place + h) (drop h all) in
-      let long : length first ≡ 2 * h - 1 = omega (arith, bodies_length t.program numbers halvings (n + 1) place (take h all) (omega arith), size_is (take h all) (omega arith)) in
+      let first : List Routine = bodies_routines numbers halvings (n + 1) place (take h all) in
+      let others : List Routine = bodies_routines numbers halvings (n + 2 * h) (place + h) (drop h all) in
+      let long : length first ≡ 2 * h - 1 = omega (arith, bodies_length numbers halvings (n + 1) place (take h all) (omega arith), size_is (take h all) (omega arith)) in
       let at : n + 1 + (2 * h - 1) ≡ n + 2 * h = omega arith in
       let behind : LieAt t.p (n + 2 * h) others = subst (λ (j : ℕ). LieAt t.p j others) at (lie_behind t.p (n + 1) (2 * h - 1) first others long lie.1) in
       let left : FindsBodies t (n + 1) place (take h all) depth =
@@ -94,7 +93,7 @@ module _ (t : Telling) (numbers : Numbers) (to_block : (b : ℕ) → t.p.names.r
       (lie.0 ∙ ap (λ (k : ℕ). Some (fork_routine (place + k) (n + 1) (n + 2 * h))) (sym a)) (omega arith)
       left (subst (λ (k : ℕ). FindsBodies t (n + 2 * h) (place + k) (drop h all) depth) (sym a) right))
 
-  pub bodies_found : (n : ℕ) (cs : List BodyCode) → length cs ≤ 16384 → BodiesAreFew cs → LieAt t.p n (bodies_routines t.program numbers (length cs) n 0 cs) →
+  pub bodies_found : (n : ℕ) (cs : List BodyCode) → length cs ≤ 16384 → BodiesAreFew cs → LieAt t.p n (bodies_routines numbers (length cs) n 0 cs) →
       FindsBodies t (bodies_start n cs) 0 cs 14
   bodies_found n [] le few lie = no_body 0 14
   bodies_found n (c ∷ cs) le few lie = some_found 14 (length (c ∷ cs)) n 0 (c ∷ cs) (omega arith) le (omega arith) (omega arith) few lie

@@ -27,18 +27,20 @@ preds_length code numbers n (rules ∷ preds) =
     ∙ ap (λ (k : ℕ). k + length (preds_routines code numbers (n + length rules) preds)) (rules_length code numbers n rules)
     ∙ ap (λ (k : ℕ). length rules + k) (preds_length code numbers (n + length rules) preds)
 
-op_length : (program : CoreProgram) (numbers : Numbers) (behind : ℕ) (x : Op) → length (op_routines program numbers behind x) ≡ routines_of_op x
-op_length program numbers behind op.Return = refl
-op_length program numbers behind (op.Do action.Stop) = refl
-op_length program numbers behind x = refl
+op_length : (program : CoreProgram) (numbers : Numbers) (number behind : ℕ) (x : Op) → length (op_routines program numbers number behind x) ≡ routines_of_op x
+op_length program numbers number behind op.Return = refl
+op_length program numbers number behind (op.Do action.Stop) = refl
+op_length program numbers number behind (op.Keep a) = refl
+op_length program numbers number behind (op.Find place (a ∷ ts) many next) = refl
+op_length program numbers number behind x = refl
 
 ops_length : (program : CoreProgram) (numbers : Numbers) (n : ℕ) (ops : List Op) → length (ops_routines program numbers n ops) ≡ routines_of_ops ops
 ops_length program numbers n [] = refl
 ops_length program numbers n (x ∷ ops) =
     let behind = n + routines_of_op x in
-    let a = op_length program numbers (first_of behind ops) x in
+    let a = op_length program numbers n (first_of behind ops) x in
     let b = ops_length program numbers behind ops in
-    omega (arith, length-append (op_routines program numbers (first_of behind ops) x) (ops_routines program numbers behind ops))
+    omega (arith, length-append (op_routines program numbers n (first_of behind ops) x) (ops_routines program numbers behind ops))
 
 pub blocks_length : (program : CoreProgram) (numbers : Numbers) (n : ℕ) (blocks : List Block) → length (blocks_routines program numbers n blocks) ≡ blocks_size blocks
 blocks_length program numbers n [] = refl
@@ -60,6 +62,11 @@ module _ (p : Program) where
   lie_at n [] has = tt
   lie_at n (r ∷ rs) has =
       (at_number (n + 0) n r (omega arith) (has 0 r refl), lie_at (n + 1) rs (λ k q e. at_number (n + suc k) (n + 1 + k) q (omega arith) (has (suc k) q e)))
+
+  pub those_lie : (n : ℕ) (rs : List Routine) → LieAt n rs → (k : ℕ) (r : Routine) → slice_get rs k ≡ Some r → p.routine_at (p.names.routine (n + k)) ≡ Some r
+  those_lie n [] h k r e = absurd (cc)
+  those_lie n (r ∷ rs) h zero s e = at_number n (n + 0) s (omega arith) (h.0 ∙ e)
+  those_lie n (r ∷ rs) h (suc k) s e = at_number (n + 1 + k) (n + suc k) s (omega arith) (those_lie (n + 1) rs h.1 k s e)
 
   pub lie_front : (n : ℕ) (xs ys : List Routine) → LieAt n (xs ++ ys) → LieAt n xs
   lie_front n [] ys h = tt

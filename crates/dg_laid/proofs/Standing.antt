@@ -1,8 +1,14 @@
 -- Routines that lie in a story in the order of their numbers stand for its code.
-use Rattle.std.proofs.Common.{◌≡◌, ◌≢◌, ℕ, zero, suc, ◌+◌, ◌-◌, ◌≤◌, List, [], ◌∷◌, ◌++◌, length, Option, Some, None, refl, sym, ap, ◌∙◌, subst, arith}
-use Rattle.std.specs.Prelude.{true}
+use Rattle.std.proofs.Common.{◌⊎◌, ⊎_elim, inl, inr, Bool, ◌≡◌, ◌≢◌, ℕ, zero, suc, ◌+◌, ◌-◌, ◌%◌, ◌≤◌, List, [], ◌∷◌, ◌++◌, length, Option, Some, None, refl, sym, ap, ◌∙◌, subst, arith}
+use Rattle.std.specs.Prelude.{true, Contains, map, get_or}
+use Rattle.std.proofs.Math.ListN.{get_or-map}
+use Rattle.std.proofs.lemmas.List.{length-map}
 use Rattle.std.specs.List.{slice_get}
+use Rattle.dg_base.specs.declared.program.Mode.{Mode}
+use Rattle.dg_base.specs.declared.program.PlaceKind.{PlaceKind}
+use Rattle.dg_base.specs.declared.program.PlaceKind.TheVariants.{Flag, ObjectFlag, ObjectVar, Parent, Global}
 use Rattle.dg_base.specs.declared.program.Term.{Term}
+use Rattle.dg_meaning.specs.Facts.{kinds_of}
 use Rattle.dg_meaning.specs.Cells.{nodes_of}
 use Rattle.dg_mid.specs.declared.code.Action.TheVariants as action
 use Rattle.dg_mid.specs.declared.code.Block.{Block}
@@ -14,26 +20,45 @@ use Rattle.dg_mid.specs.Calls.{EntersWith, AllEnterWith}
 use Rattle.dg_mid.specs.Code.{ops_of, block_at, codes_of, rules_at, label_of}
 use Rattle.z_lang.specs.Standing.{StandsAt}
 use Rattle.z_lang.specs.declared.act.Routine.{Routine}
-use Rattle.dg_rt.specs.declared.numbers.TheConstants.{FAIL, LEAVE, NONE, UNSTOP, WALK}
+use Rattle.dg_rt.specs.declared.numbers.TheConstants.{FAIL, LEAVE, NONE, SPELL, UNSTOP, WALK, KEEP_VALUE}
+use Rattle.dg_rt.specs.Prints.{Spells}
+use Rattle.dg_rt.specs.Words.{HasWords}
+use Rattle.dg_rt.proofs.WordSpelled.{spell_works}
+use Rattle.dg_rt.specs.Cells.{at_cell}
 use Rattle.dg_rt.specs.RunTime.{runtime, routine_of}
-use Rattle.dg_turn.specs.Told.{Telling, RulesAt, rule_acts}
+use Rattle.dg_turn.specs.Told.{Site, Telling, RulesAt, rule_acts}
 use Rattle.dg_turn.specs.Plays.{Playing}
 use Rattle.dg_turn.specs.Choices.{branch_routine, try_routine, once_routine}
 use Rattle.dg_turn.specs.Leaving.{just_routine}
+use Rattle.dg_turn.specs.Gatherings.{collect_routine, take_routine}
+use Rattle.dg_turn.specs.Names.{objects_routines}
+use Rattle.dg_turn.specs.Prints.{print_routine}
+use Rattle.dg_turn.proofs.ObjectPrinted.{names_spell}
 use Rattle.dg_turn.specs.Operating.{test_routine, compare_routine, arith_routine, random_routine}
 use Rattle.dg_turn.specs.Stopping.{shield_routine, leave_routine}
 use Rattle.dg_turn.specs.Terms.{AreNodes}
 use Rattle.dg_turn.specs.Texts.{text_routine, gap_routine, gap_n_routine}
 use Rattle.dg_turn.specs.Turns.{enter_routine, equal_routine, goto_routine, commit_routine}
+use Rattle.dg_turn.specs.Typing.{HasTables, input_routine}
+use Rattle.dg_turn.specs.Sites.{select_of, sites_of, numbers_of, site_at, select_routine}
+use Rattle.dg_turn.specs.World.{HasWorld, now_routine, holds_routine}
+use Rattle.dg_turn.proofs.Sites.{site_placed, numbers_long}
 use Rattle.dg_emit.specs.declared.numbers.Numbers.{Numbers}
-use Rattle.dg_emit.specs.Numbers.{first_of, first_rule, rules_count, blocks_size, behind_blocks, block_starts, pred_starts, numbers_from, number_or, block_number, pred_number}
+use Rattle.dg_emit.specs.Numbers.{first_of, first_rule, rules_count, blocks_size, behind_blocks, number_behind, bodies_size, block_starts, pred_starts, numbers_from, number_or, block_number, pred_number}
 use Rattle.dg_emit.specs.Bodies.{bodies_routines}
 use Rattle.dg_emit.specs.Code.{are_built, parameters_of, ops_routines, blocks_routines, rules_routines, preds_routines, code_routines, OpsFit, BlocksFit, RulesFit, PredsFit, CodeFits}
+use Rattle.dg_emit.specs.Sites.{site_address}
+use Rattle.dg_emit.specs.World.{change_routine, ChangeFits}
 use Rattle.dg_emit.proofs.Names.{name_chars}
-use Rattle.dg_chain.specs.Routines.{GoesOn, Opens, Writes, RulesFrom, FindsAll, OpsAt}
+use Rattle.dg_turn.specs.Tries.{Sought, sought_by, sought_at}
+use Rattle.dg_emit.specs.Finds.{find_of, tries_of, kind_at, query_of, FindFits, GlobalFits}
+use Rattle.dg_turn.specs.Globals.{global_routine}
+use Rattle.dg_chain.specs.Routines.{GoesOn, Opens, Writes, FindsObjects, FindsGlobal, RulesFrom, FindsAll, OpsAt}
+use Rattle.dg_chain.specs.Selects.{SelectsAt}
 use Rattle.dg_laid.specs.Laid.{CodeIsLaid, OpsCall, BlockSuits, BodiesAreFew, BlocksStand}
-use Rattle.dg_laid.proofs.Lying.{preds_length, blocks_length, LieAt, lie_at, lie_front, lie_behind, RulesLie, rules_lie, OpsLie, ops_lie, no_pred, no_block}
-use Rattle.dg_laid.proofs.Finding.{bodies_found}
+use Rattle.dg_laid.proofs.Lying.{preds_length, blocks_length, LieAt, lie_at, lie_front, lie_behind, those_lie, RulesLie, rules_lie, OpsLie, ops_lie, no_pred, no_block}
+use Rattle.dg_laid.proofs.Finding.{bodies_found, bodies_length}
+use Rattle.dg_laid.proofs.Sites.{OpsReach, ops_reach, block_sites}
 
 -- what fits of all, of one
 rules_fit_at : (code : Code) (preds : List (List RuleCode)) (pred : ℕ) (rules : List RuleCode) → slice_get preds pred ≡ Some rules → PredsFit code preds → RulesFit code rules
@@ -41,7 +66,7 @@ rules_fit_at code [] pred rules e h = absurd (cc)
 rules_fit_at code (rs ∷ preds) zero rules e h = let same : rs ≡ rules = cc in subst (RulesFit code) same h.0
 rules_fit_at code (rs ∷ preds) (suc pred) rules e h = rules_fit_at code preds pred rules e h.1
 
-module _ (t : Telling) (plays : Playing t) (first : ℕ) (code : Code) (laid : CodeIsLaid t first code) (fits : CodeFits t.program code)
+module _ (t : Telling) (plays : Playing t) (world : HasWorld t) (tables : HasTables t) (has_words : HasWords t.p t.story t.program.words) (first : ℕ) (code : Code) (laid : CodeIsLaid t first code) (fits : CodeFits t.program code)
     (suits : (b : ℕ) → BlockSuits code b) (few : BodiesAreFew code.closures) where
   abbrev numbers : Numbers
   numbers = numbers_from first code
@@ -56,24 +81,42 @@ module _ (t : Telling) (plays : Playing t) (first : ℕ) (code : Code) (laid : C
   of_blocks = blocks_routines t.program numbers (first + rules_count code.preds) code.blocks
 
   abbrev of_bodies : List Routine
-  of_bodies = bodies_routines t.program numbers (length code.closures) (behind_blocks first code) 0 code.closures
+  of_bodies = bodies_routines numbers (length code.closures) (behind_blocks first code) 0 code.closures
 
-  all_lie : LieAt t.p first (of_rules ++ (of_blocks ++ of_bodies))
+  abbrev of_objects : List Routine
+  of_objects = objects_routines (number_behind first code) t.program.objects
+
+  all_lie : LieAt t.p first (of_rules ++ (of_blocks ++ (of_bodies ++ of_objects)))
   all_lie = lie_at t.p first (code_routines t.program first code) laid.has
 
   rules_all_lie : LieAt t.p first of_rules
-  rules_all_lie = lie_front t.p first of_rules (of_blocks ++ of_bodies) all_lie
+  rules_all_lie = lie_front t.p first of_rules (of_blocks ++ (of_bodies ++ of_objects)) all_lie
 
-  behind_rules_lie : LieAt t.p (first + rules_count code.preds) (of_blocks ++ of_bodies)
-  behind_rules_lie = lie_behind t.p first (rules_count code.preds) of_rules (of_blocks ++ of_bodies) (preds_length code numbers first code.preds) all_lie
+  behind_rules_lie : LieAt t.p (first + rules_count code.preds) (of_blocks ++ (of_bodies ++ of_objects))
+  behind_rules_lie = lie_behind t.p first (rules_count code.preds) of_rules (of_blocks ++ (of_bodies ++ of_objects)) (preds_length code numbers first code.preds) all_lie
 
   blocks_all_lie : LieAt t.p (first + rules_count code.preds) of_blocks
-  blocks_all_lie = lie_front t.p (first + rules_count code.preds) of_blocks of_bodies behind_rules_lie
+  blocks_all_lie = lie_front t.p (first + rules_count code.preds) of_blocks (of_bodies ++ of_objects) behind_rules_lie
+
+  behind_blocks_lie : LieAt t.p (behind_blocks first code) (of_bodies ++ of_objects)
+  behind_blocks_lie =
+      lie_behind t.p (first + rules_count code.preds) (blocks_size code.blocks) of_blocks (of_bodies ++ of_objects)
+      (blocks_length t.program numbers (first + rules_count code.preds) code.blocks) behind_rules_lie
 
   bodies_all_lie : LieAt t.p (behind_blocks first code) of_bodies
-  bodies_all_lie =
-      lie_behind t.p (first + rules_count code.preds) (blocks_size code.blocks) of_blocks of_bodies
-      (blocks_length t.program numbers (first + rules_count code.preds) code.blocks) behind_rules_lie
+  bodies_all_lie = lie_front t.p (behind_blocks first code) of_bodies of_objects behind_blocks_lie
+
+  objects_lie : LieAt t.p (number_behind first code) of_objects
+  objects_lie =
+      lie_behind t.p (behind_blocks first code) (bodies_size code.closures) of_bodies of_objects
+      (bodies_length numbers (length code.closures) (behind_blocks first code) 0 code.closures (omega arith)) behind_blocks_lie
+
+  -- words and objects are spelled
+  all_spelled : Spells t.p t.story t.program (at SPELL) (at numbers.objects)
+  all_spelled = record {
+    words_are = spell_works t.p plays.has t.story t.program.words has_words;
+    objects_are = names_spell t.p plays.has t.story (number_behind first code) t.program.objects fits.3.1 fits.3.0 (those_lie t.p (number_behind first code) of_objects objects_lie);
+  }
 
   -- a block is where its first routine is
   to_block : (b : ℕ) → at (block_number numbers b) ≡ t.at_block b
@@ -113,7 +156,7 @@ module _ (t : Telling) (plays : Playing t) (first : ℕ) (code : Code) (laid : C
           subst (RulesAt t arguments (pred_number numbers pred)) (sym these) (subst (λ (n : ℕ). RulesAt t arguments n rules) (sym number) stand)
 
   all_found : FindsAll t code numbers.find
-  all_found = record { depth = 14; few = omega arith; finds = bodies_found t numbers to_block (behind_blocks first code) code.closures fits.2.0 few bodies_all_lie }
+  all_found = record { depth = 14; few = omega arith; finds = bodies_found t numbers to_block (behind_blocks first code) code.closures fits.2 few bodies_all_lie }
 
   -- ## Instructions
 
@@ -128,7 +171,87 @@ module _ (t : Telling) (plays : Playing t) (first : ℕ) (code : Code) (laid : C
       AreNodes t.program (nodes_of ts) → Writes (λ y. OpsAt t code y ops) t (at n) ts routine
   writes ts routine n ops is next nodes = record { goes = goes routine n ops is next; nodes = nodes }
 
-  ops_stand : (n : ℕ) (ops : List Op) → LieAt t.p n (ops_routines t.program numbers n ops) → are_built ops ≡ true → OpsCall code ops → OpsFit t.program ops →
+  selects : (n site : ℕ) (mode : Mode) (blocks : List ℕ) (next : ℕ) → t.p.routine_at (at n) ≡ Some (select_routine (site_address t.program numbers.sites site) mode (map (block_number numbers) blocks) (block_number numbers next)) →
+      Contains (sites_of code.blocks) (select_of site mode blocks) → SelectsAt t (at n) site mode blocks next
+  selects n site mode blocks next is known =
+      let here = subst (λ (l : List Site). Contains l (select_of site mode blocks)) (sym laid.sites) known in
+      let place = site_placed t.sites (select_of site mode blocks) here in
+      let few_places = place.few in
+      let long = numbers_long t.sites in
+      let near = laid.has_sites.near in
+      let address = at_cell (site_at t.program (numbers_of t.sites) site) in
+      let same : site_address t.program numbers.sites site ≡ address = ap (λ (l : List Site). site_address t.program (numbers_of l) site) (sym laid.sites) ∙ (let small : address % 65536 ≡ address = omega arith in small) in
+      let branches = map (block_number numbers) blocks in
+      record {
+        branches = branches;
+        other = block_number numbers next;
+        is = is ∙ ap (λ (x : ℕ). Some (select_routine x mode branches (block_number numbers next))) same;
+        all = length-map blocks (block_number numbers);
+        each = λ i. ap at (get_or-map (block_number numbers) blocks i next) ∙ to_block (get_or blocks i next);
+        known = here;
+        sites = laid.has_sites;
+      }
+
+  -- A query with terms has two routines.
+  behind_two : (n : ℕ) (known tried : Routine) (ops : List Op) → LieAt t.p n (known ∷ tried ∷ ops_routines t.program numbers (n + 2) ops) → LieAt t.p (n + 2) (ops_routines t.program numbers (n + 2) ops)
+  behind_two n known tried ops lie = lie_behind t.p n 2 (known ∷ tried ∷ []) (ops_routines t.program numbers (n + 2) ops) refl lie
+
+  by_kind : (k : Option PlaceKind) (pl : ℕ) (ts : List Term) (behind tries : ℕ) (s : Sought) → sought_by pl k ≡ Some s → query_of t.program k (Some pl) ts behind tries ≡ find_of t.program (sought_at t.program (Some pl)) ts behind tries
+  by_kind None pl ts behind tries s e = refl
+  by_kind (Some Flag) pl ts behind tries s e = refl
+  by_kind (Some ObjectFlag) pl ts behind tries s e = refl
+  by_kind (Some ObjectVar) pl ts behind tries s e = refl
+  by_kind (Some Parent) pl ts behind tries s e = refl
+  by_kind (Some Global) pl ts behind tries s e = absurd (cc)
+
+  of_sought : (place : Option ℕ) (ts : List Term) (behind tries : ℕ) (s : Sought) → sought_at t.program place ≡ Some s → query_of t.program (kind_at t.program place) place ts behind tries ≡ find_of t.program (Some s) ts behind tries
+  of_sought None ts behind tries s e = ap (λ (o : Option Sought). find_of t.program o ts behind tries) e
+  of_sought (Some pl) ts behind tries s e = by_kind (slice_get (kinds_of t.program) pl) pl ts behind tries s e ∙ ap (λ (o : Option Sought). find_of t.program o ts behind tries) e
+
+  abbrev Queried : ℕ → Option ℕ → List Term → Bool → ℕ → List Op → Type 0
+  Queried n place ts many next ops =
+      LieAt t.p n (query_of t.program (kind_at t.program place) place ts (first_of (n + 2) ops) (n + 1) ∷ tries_of t.program (sought_at t.program place) many (block_number numbers next) ∷ ops_routines t.program numbers (n + 2) ops)
+
+  objects : (n : ℕ) (place : Option ℕ) (ts : List Term) (many : Bool) (next : ℕ) (ops : List Op) → Queried n place ts many next ops → OpsAt t code (at (first_of (n + 2) ops)) ops → FindFits t.program place (length ts) → AreNodes t.program (nodes_of ts) →
+      FindsObjects (λ y. OpsAt t code y ops) t (at n) place ts many next
+  objects n place ts many next ops lie there f nodes =
+      let behind : ℕ = first_of (n + 2) ops in
+      let known : Routine = query_of t.program (kind_at t.program place) place ts behind (n + 1) in
+      let tried : Option Sought → Routine = λ s. tries_of t.program s many (block_number numbers next) in
+      let rest : List Routine = ops_routines t.program numbers (n + 2) ops in
+      let two : LieAt t.p (n + 1) (tried (sought_at t.program place) ∷ rest) = lie_behind t.p n 1 (known ∷ []) (tried (sought_at t.program place) ∷ rest) refl lie in
+      record {
+        sought = f.sought;
+        sought_is = f.sought_is;
+        fits = f.fits;
+        world = world;
+        block = block_number numbers next;
+        block_is = to_block next;
+        tries = n + 1;
+        tries_is = two.0 ∙ ap (λ (s : Option Sought). Some (tried s)) f.sought_is;
+        writes = record {
+          goes = record { behind = behind; is = lie.0 ∙ ap (λ (r : Routine). Some r) (of_sought place ts behind (n + 1) f.sought f.sought_is); next = there };
+          nodes = nodes;
+        };
+      }
+
+  global : (n place : ℕ) (a : Term) (many : Bool) (next : ℕ) (ops : List Op) → Queried n (Some place) (a ∷ []) many next ops → OpsAt t code (at (first_of (n + 2) ops)) ops → GlobalFits t.program (Some place) 1 → AreNodes t.program (nodes_of (a ∷ [])) →
+      FindsGlobal (λ y. OpsAt t code y ops) t (at n) place a
+  global n place a many next ops lie there g nodes =
+      let behind : ℕ = first_of (n + 2) ops in
+      let same : Some place ≡ Some g.at = g.place_is in
+      let is : slice_get (kinds_of t.program) place ≡ Some Global = (let q : place ≡ g.at = cc in ap (λ (i : ℕ). slice_get (kinds_of t.program) i) q ∙ g.kind_is) in
+      record {
+        kind_is = is;
+        world = world;
+        captures = laid.told;
+        writes = record {
+          goes = record { behind = behind; is = lie.0 ∙ ap (λ (k : Option PlaceKind). Some (query_of t.program k (Some place) (a ∷ []) behind (n + 1))) is; next = there };
+          nodes = nodes;
+        };
+      }
+
+  ops_stand : (n : ℕ) (ops : List Op) → LieAt t.p n (ops_routines t.program numbers n ops) → are_built ops ≡ true → OpsReach code ops → OpsFit t.program ops →
       OpsAt t code (at (first_of n ops)) ops
   ops_stand n [] lie built calls fit = tt
   ops_stand n (op.Do action.Just ∷ ops) lie built calls fit = goes just_routine n ops lie.0 (ops_stand (n + 1) ops lie.1 built calls.1 fit.1)
@@ -145,7 +268,31 @@ module _ (t : Telling) (plays : Playing t) (first : ℕ) (code : Code) (laid : C
   ops_stand n (op.Do (action.Compare f a b) ∷ ops) lie built calls fit = writes (a ∷ b ∷ []) (compare_routine t.program f a b) n ops lie.0 (ops_stand (n + 1) ops lie.1 built calls.1 fit.1) fit.0.1
   ops_stand n (op.Do (action.Arith f a b c) ∷ ops) lie built calls fit = writes (a ∷ b ∷ c ∷ []) (arith_routine t.program f a b c) n ops lie.0 (ops_stand (n + 1) ops lie.1 built calls.1 fit.1) fit.0.1
   ops_stand n (op.Do (action.Random a b c) ∷ ops) lie built calls fit = writes (a ∷ b ∷ c ∷ []) (random_routine t.program a b c) n ops lie.0 (ops_stand (n + 1) ops lie.1 built calls.1 fit.1) fit.0.1
+  ops_stand n (op.Do (action.Now place args sets) ∷ ops) lie built calls fit =
+      let f : ChangeFits t.program place (length args) = fit.0.1 in
+      let behind : ℕ = first_of (n + 1) ops in
+      let is : t.p.routine_at (at n) ≡ Some (now_routine t.program f.kind place args sets behind) = lie.0 ∙ ap (λ (k : Option PlaceKind). Some (change_routine t.program place k args sets behind)) f.kind_is in
+      record { kind = f.kind; kind_is = f.kind_is; fits = f.fits; world = world; writes = writes args (now_routine t.program f.kind place args sets) n ops is (ops_stand (n + 1) ops lie.1 built calls.1 fit.1) fit.0.0.1 }
+  ops_stand n (op.Do (action.Input a) ∷ ops) lie built calls fit = record { goes = goes (input_routine t.program a) n ops lie.0 (ops_stand (n + 1) ops lie.1 built calls.1 fit.1); nodes = fit.0.1; tables = tables }
+  ops_stand n (op.Do (action.Print a) ∷ ops) lie built calls fit = record {
+    words = SPELL;
+    objects = numbers.objects;
+    goes = goes (print_routine t.program a SPELL numbers.objects) n ops lie.0 (ops_stand (n + 1) ops lie.1 built calls.1 fit.1);
+    nodes = fit.0.1;
+    spells = all_spelled;
+  }
   ops_stand n (op.Do a ∷ ops) lie built calls fit = absurd (cc)
+  ops_stand n (op.Find (Some place) [] many next ∷ ops) lie built calls fit =
+      record { kind_is = (fit.0).kind_is; world = world; goes = goes (holds_routine t.program place) n ops lie.0 (ops_stand (n + 1) ops lie.1 built calls.1 fit.1) }
+  ops_stand n (op.Find None (a ∷ ts) many next ∷ ops) lie built calls fit =
+      ⊎_elim (λ f. objects n None (a ∷ ts) many next ops lie (ops_stand (n + 2) ops (behind_two n _ _ ops lie) built calls.1 fit.1) f fit.0.0.1)
+      (λ g. absurd (let none = g.place_is in cc)) fit.0.2
+  ops_stand n (op.Find (Some place) (a ∷ []) many next ∷ ops) lie built calls fit =
+      let there = ops_stand (n + 2) ops (behind_two n _ _ ops lie) built calls.1 fit.1 in
+      ⊎_elim (λ f. inl (objects n (Some place) (a ∷ []) many next ops lie there f fit.0.0.1)) (λ g. inr (global n place a many next ops lie there g fit.0.0.1)) fit.0.2
+  ops_stand n (op.Find (Some place) (a ∷ b ∷ ts) many next ∷ ops) lie built calls fit =
+      ⊎_elim (λ f. objects n (Some place) (a ∷ b ∷ ts) many next ops lie (ops_stand (n + 2) ops (behind_two n _ _ ops lie) built calls.1 fit.1) f fit.0.0.1)
+      (λ g. absurd (let one = g.fits in omega arith)) fit.0.2
   ops_stand n (op.Ask pred terms many next ∷ ops) lie built calls fit = record {
     behind = block_number numbers next;
     number = pred_number numbers pred;
@@ -166,12 +313,17 @@ module _ (t : Telling) (plays : Playing t) (first : ℕ) (code : Code) (laid : C
       record { behind = block_number numbers next; find = numbers.find; is = lie.0; goes = to_block next; all = all_found; nodes = fit.0.1 }
   ops_stand n (op.LastQuery a b many ∷ ops) lie built calls fit =
       record { end = block_number numbers 0; find = numbers.find; is = lie.0; end_is = to_block 0; all = all_found; nodes = fit.0.1 }
+  ops_stand n (op.Select site mode blocks next ∷ ops) lie built calls fit = selects n site mode blocks next lie.0 calls.0
   ops_stand n (op.Take ∷ ops) lie built calls fit = goes goto_routine n ops lie.0 (ops_stand (n + 1) ops lie.1 built calls.1 fit.1)
   ops_stand n (op.Branch alt ∷ ops) lie built calls fit = opens branch_routine alt n ops lie.0 (ops_stand (n + 1) ops lie.1 built calls.1 fit.1)
   ops_stand n (op.Once ∷ ops) lie built calls fit = goes once_routine n ops lie.0 (ops_stand (n + 1) ops lie.1 built calls.1 fit.1)
   ops_stand n (op.Try alt ∷ ops) lie built calls fit = opens try_routine alt n ops lie.0 (ops_stand (n + 1) ops lie.1 built calls.1 fit.1)
   ops_stand n (op.Shield alt ∷ ops) lie built calls fit = opens shield_routine alt n ops lie.0 (ops_stand (n + 1) ops lie.1 built calls.1 fit.1)
   ops_stand n (op.Retry alt ∷ ops) lie built calls fit = opens branch_routine alt n ops lie.0 (ops_stand (n + 1) ops lie.1 built calls.1 fit.1)
+  ops_stand n (op.Collect a b alt ∷ ops) lie built calls fit =
+      record { alt = block_number numbers alt; alt_is = to_block alt; goes = goes (collect_routine t.program a b (block_number numbers alt)) n ops lie.0 (ops_stand (n + 1) ops lie.1 built calls.1 fit.1); nodes = fit.0.1 }
+  ops_stand n (op.TakeOut whole into ∷ ops) lie built calls fit = record { goes = goes (take_routine whole) n ops lie.0 (ops_stand (n + 1) ops lie.1 built calls.1 fit.1); told = laid.told }
+  ops_stand n (op.Keep a ∷ ops) lie built calls fit = refl
   ops_stand n (op.Commit ∷ ops) lie built calls fit = goes commit_routine n ops lie.0 (ops_stand (n + 1) ops lie.1 built calls.1 fit.1)
   ops_stand n (op.Refuse ∷ ops) lie built calls fit = lie.0
   ops_stand n (op.Leave ∷ ops) lie built calls fit = goes leave_routine n ops lie.0 (ops_stand (n + 1) ops lie.1 built calls.1 fit.1)
@@ -199,7 +351,7 @@ module _ (t : Telling) (plays : Playing t) (first : ℕ) (code : Code) (laid : C
       let number : block_number numbers b ≡ first_of there.start block.ops = ap (number_or FAIL) there.told_is in
       let s : BlockSuits code b = suits b in
       let stand : OpsAt t code (at (first_of there.start block.ops)) block.ops =
-      ops_stand there.start block.ops there.lie (subst (λ (l : List Op). are_built l ≡ true) these s.built) (subst (OpsCall code) these s.calls) (blocks_fit_at code.blocks b block e fits.0) in
+      ops_stand there.start block.ops there.lie (subst (λ (l : List Op). are_built l ≡ true) these s.built) (ops_reach code block.ops (block_sites code.blocks b block e) (subst (OpsCall code) these s.calls)) (blocks_fit_at code.blocks b block e fits.0) in
       subst (OpsAt t code (t.at_block b)) (sym these) (subst (λ (x : ℕ). OpsAt t code x block.ops) (sym (laid.blocks b ∙ ap at number)) stand)
 
   -- ## Addresses
@@ -215,6 +367,9 @@ module _ (t : Telling) (plays : Playing t) (first : ℕ) (code : Code) (laid : C
   first_some n [] lie = stands_some (at n) _ lie.0
   first_some n (op.Return ∷ ops) lie = of_run_time (LEAVE - WALK) _ refl
   first_some n (op.Do action.Stop ∷ ops) lie = of_run_time (UNSTOP - WALK) _ refl
+  first_some n (op.Keep a ∷ ops) lie = of_run_time (KEEP_VALUE - WALK) _ refl
+  first_some n (op.Find place [] many next ∷ ops) lie = stands_some (at n) _ lie.0
+  first_some n (op.Find place (a ∷ ts) many next ∷ ops) lie = stands_some (at n) _ lie.0
   first_some n (x ∷ ops) lie = stands_some (at n) _ lie.0
 
   block_some : (b : ℕ) (o : Option Block) → slice_get code.blocks b ≡ o → t.at_block b ≢ 0
@@ -228,8 +383,9 @@ module _ (t : Telling) (plays : Playing t) (first : ℕ) (code : Code) (laid : C
       subst (λ (x : ℕ). x ≢ 0) (sym (laid.blocks b ∙ ap at number)) (first_some there.start block.ops there.lie)
 
 pub blocks_stand : BlocksStand
-blocks_stand t plays first code laid fits suits few keys = record {
-  each = λ b. each_stands t plays first code laid fits suits few b (slice_get code.blocks b) refl;
-  some = λ b. block_some t plays first code laid fits suits few b (slice_get code.blocks b) refl;
+blocks_stand t plays world tables words first code laid fits suits few keys = record {
+  world = world;
+  each = λ b. each_stands t plays world tables words first code laid fits suits few b (slice_get code.blocks b) refl;
+  some = λ b. block_some t plays world tables words first code laid fits suits few b (slice_get code.blocks b) refl;
   few = keys;
 }

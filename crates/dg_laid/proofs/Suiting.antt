@@ -1,5 +1,5 @@
 -- The code of a sound program whose goals have routines suits.
-use Rattle.std.proofs.Common.{◌≡◌, ℕ, suc, ◌≤◌, List, [], ◌∷◌, ◌++◌, length, Option, Some, None, refl, ap, ◌∙◌, arith}
+use Rattle.std.proofs.Common.{◌≡◌, ℕ, zero, suc, ◌≤◌, List, [], ◌∷◌, ◌++◌, length, map, Option, Some, None, refl, sym, ap, ◌∙◌, arith}
 use Rattle.std.specs.Prelude.{Bool, true, false, ◌&&◌, not}
 use Rattle.std.specs.List.{All, flat_map, slice_get}
 use Rattle.std.proofs.Math.Dec.{eqb, ltb}
@@ -8,10 +8,14 @@ use Rattle.dg_base.specs.declared.program.ClosureBody.{ClosureBody}
 use Rattle.dg_base.specs.declared.program.CoreProgram.{CoreProgram}
 use Rattle.dg_base.specs.declared.program.Goal.{Goal, out-Goal}
 use Rattle.dg_base.specs.declared.program.Goal.TheOpen as form
+use Rattle.dg_base.specs.declared.program.Place.{Place}
+use Rattle.dg_base.specs.declared.program.PlaceKind.{PlaceKind}
+use Rattle.dg_base.specs.declared.program.PlaceKind.TheVariants.{Flag, ObjectFlag, ObjectVar, Parent, Global}
 use Rattle.dg_base.specs.declared.program.Pred.{Pred}
 use Rattle.dg_base.specs.declared.program.Rule.{Rule}
 use Rattle.dg_base.specs.Goals.{all_goals_of}
-use Rattle.dg_base.specs.Sound.{IsGoalOf, IsRuleOf, IsPredOf, IsClosureOf, IsEntry, FitsHeads, FitsProgram, closure_vars, IsSound}
+use Rattle.dg_base.specs.Sound.{IsGoalOf, IsRuleOf, IsPredOf, IsClosureOf, IsEntry, FirstIsParent, FitsHeads, FitsPlace, FitsProgram, terms_of_kind, closure_vars, IsSound}
+use Rattle.dg_meaning.specs.Facts.{kinds_of}
 use Rattle.dg_meaning.specs.Moves.{rules_of}
 use Rattle.dg_mid.specs.declared.code.Action.{Action}
 use Rattle.dg_mid.specs.declared.code.Action.TheVariants as action
@@ -69,18 +73,43 @@ of_pred : (n : ℕ) (o : Option Pred) → pred_takes n o ≡ true → rules_take
 of_pred n None e = absurd (cc)
 of_pred n (Some pred) e = e
 
+-- a place is a flag of no object
+abbrev is_flag : Option PlaceKind → Bool
+is_flag (Some Flag) = true
+is_flag o = false
+
+flag_by : (kind : PlaceKind) → 0 ≡ terms_of_kind kind → is_flag (Some kind) ≡ true
+flag_by Flag e = refl
+flag_by ObjectFlag e = absurd (cc)
+flag_by ObjectVar e = absurd (cc)
+flag_by Parent e = absurd (cc)
+flag_by Global e = absurd (cc)
+
+flag_right : (places : List Place) (i : ℕ) → FitsPlace 0 (slice_get places i) → is_flag (slice_get (map (λ (place : Place). place.kind) places) i) ≡ true
+flag_right [] i h = absurd h
+flag_right (place ∷ places) zero h = flag_by place.kind h
+flag_right (place ∷ places) (suc i) h = flag_right places i h
+
+-- the first place isn't
+no_first : (places : List Place) → FirstIsParent places → is_flag (slice_get (map (λ (place : Place). place.kind) places) 0) ≡ true → ⊥
+no_first [] h e = absurd h
+no_first (place ∷ places) h e = let q : is_flag (Some Parent) ≡ true = ap (λ (k : PlaceKind). is_flag (Some k)) (sym h.0) ∙ e in cc
+
 module _ (program : CoreProgram) where
   abbrev asks_right : form.Goal-F Goal → Bool
   asks_right (form.Ask pred terms many) = pred_takes (length terms) (slice_get program.preds pred)
+  asks_right (form.Holds place [] many) = is_flag (slice_get (kinds_of program) place)
+  asks_right form.Forever = false
   asks_right other = true
 
   abbrev tests : Tests
-  tests = record { goal = λ g. has_routines g && asks_right g; head = λ vars head. not (ltb 300 vars); gathers = false }
+  tests = record { goal = λ g. has_routines g && asks_right g; head = λ vars head. not (ltb 300 vars); gathers = true }
 
   -- ## The program
 
   goal_passes : (layer : form.Goal-F Goal) → has_routines layer ≡ true → FitsProgram program layer → GoalPasses tests layer
   goal_passes (form.Ask pred terms many) h fits = pred_right (length terms) (slice_get program.preds pred) fits
+  goal_passes (form.Holds place [] many) h fits = flag_right program.places place fits
   goal_passes (form.Either lists) h fits = tt
   goal_passes (form.Once goals) h fits = tt
   goal_passes (form.Not goals) h fits = tt
@@ -88,9 +117,9 @@ module _ (program : CoreProgram) where
   goal_passes (form.Exhaust goals) h fits = tt
   goal_passes (form.Stoppable goals) h fits = tt
   goal_passes form.Forever h fits = tt
-  goal_passes (form.Collect a goals b) h fits = absurd (cc)
-  goal_passes (form.Accumulate a goals b) h fits = absurd (cc)
-  goal_passes (form.Select site mode lists) h fits = absurd (cc)
+  goal_passes (form.Collect a goals b) h fits = (refl, refl)
+  goal_passes (form.Accumulate a goals b) h fits = (refl, refl)
+  goal_passes (form.Select site mode lists) h fits = refl
   goal_passes layer h fits = and_true (has_routines layer) (asks_right layer) h refl
 
   goals_pass : (vars : ℕ) (gs : List Goal) → all_have gs ≡ true → All (IsGoalOf program vars) gs → GoalsPass tests gs
@@ -146,7 +175,7 @@ module _ (program : CoreProgram) where
 
   -- ## The code
 
-  module _ (code : Code) (codes : Codes program code) where
+  module _ (code : Code) (codes : Codes program code) (parent : FirstIsParent program.places) where
     rules_enter : (n : ℕ) (cs : List RuleCode) (rs : List Rule) → RulesStand code cs rs → rules_take n rs ≡ true → AllEnterWith n code cs
     rules_enter n [] rs s e = tt
     rules_enter n (c ∷ cs) [] s e = absurd s
@@ -175,13 +204,10 @@ module _ (program : CoreProgram) where
     op_suits (op.Ask pred terms many next) h = (refl, pred_enters (length terms) pred h)
     op_suits (op.LastAsk pred terms many) h = (refl, pred_enters (length terms) pred h)
     op_suits (op.Find None [] many next) h = absurd (cc)
-    op_suits (op.Find None (term ∷ []) many next) h = absurd (cc)
+    op_suits (op.Find None (term ∷ []) many next) h = (refl, tt)
     op_suits (op.Find None (term ∷ other ∷ terms) many next) h = absurd (cc)
-    op_suits (op.Find (Some place) terms many next) h = absurd (cc)
-    op_suits (op.Select site mode blocks behind) h = absurd (cc)
-    op_suits (op.Collect term into alt) h = absurd (cc)
-    op_suits (op.TakeOut whole into) h = absurd (cc)
-    op_suits (op.Keep term) h = absurd (cc)
+    op_suits (op.Find (Some place) [] many next) h = (refl, tt)
+    op_suits (op.Find (Some place) (term ∷ terms) many next) h = (refl, tt)
     op_suits (op.Enter vars head) h = (refl, few_vars vars h)
     op_suits x h = (refl, tt)
 
@@ -202,7 +228,7 @@ module _ (program : CoreProgram) where
 
 pub goals_suit : GoalsSuit
 goals_suit program code sound codes light h b =
-    let k = ops_suit program code codes (block_at code b) (code_passes (tests program) program code light (program_passes program sound h) b) in record { built = k.0; calls = k.1 }
+    let k = ops_suit program code codes sound.parent (block_at code b) (code_passes (tests program) program code light (program_passes program sound h) b) in record { built = k.0; calls = k.1 }
 
 pub bodies_suit : BodiesSuit
-bodies_suit program code sound codes = bodies_few program code codes code.closures program.closures codes.bodies sound.closures
+bodies_suit program code sound codes = bodies_few program code codes sound.parent code.closures program.closures codes.bodies sound.closures

@@ -8,20 +8,29 @@ use Rattle.dg_mid.specs.declared.code.Op.TheVariants as op
 use Rattle.dg_mid.specs.Calls.{AllEnterWith}
 use Rattle.dg_mid.specs.Code.{block_at, rules_at}
 use Rattle.z_lang.specs.declared.act.Routine.{Routine}
-use Rattle.dg_turn.specs.Told.{Telling}
+use Rattle.dg_rt.specs.CopiesIn.{HasCaptures}
+use Rattle.dg_turn.specs.Told.{Telling, told_count}
+use Rattle.dg_rt.specs.Words.{HasWords}
 use Rattle.dg_turn.specs.Plays.{Playing}
 use Rattle.dg_turn.specs.Rules.{keyed}
+use Rattle.dg_turn.specs.Typing.{HasTables}
+use Rattle.dg_turn.specs.Sites.{sites_of, HasSites}
+use Rattle.dg_turn.specs.World.{HasWorld}
 use Rattle.dg_emit.specs.Numbers.{numbers_from, block_number}
 use Rattle.dg_emit.specs.Code.{are_built, code_routines, CodeFits}
 use Rattle.dg_chain.specs.Routines.{BlocksAt}
 
 -- ## Where they lie
 
--- The routines of code have their numbers in a story, from a number on, and each block is where its first one is.
+-- The routines of code have their numbers in a story, from a number on, each block is where its first one is, the story's selects are those of the code,
+-- and it tells how many values closures capture.
 pub record CodeIsLaid (t : Telling) (first : ℕ) (code : Code) : Type 0 where
   pub has : (k : ℕ) (r : Routine) → slice_get (code_routines t.program first code) k ≡ Some r →
       t.p.routine_at (t.p.names.routine (first + k)) ≡ Some r
   pub blocks : (b : ℕ) → t.at_block b ≡ t.p.names.routine (block_number (numbers_from first code) b)
+  pub told : HasCaptures t.p t.story (told_count t.program)
+  pub sites : t.sites ≡ sites_of code.blocks
+  pub has_sites : HasSites t
 
 -- ## Code that has routines
 
@@ -53,7 +62,8 @@ KeysAreFew code = (pred : ℕ) → keyed (rules_at code pred) ≤ 2200
 
 -- ## The law
 
--- Where they lie so, they stand for code that fits and suits.
+-- Where they lie so in a story whose world may be written, and which has the tables of its program, they stand for code that fits and suits.
 abbrev pub BlocksStand : Type 0
-BlocksStand = (t : Telling) → Playing t → (first : ℕ) (code : Code) → CodeIsLaid t first code → CodeFits t.program code →
-    ((b : ℕ) → BlockSuits code b) → BodiesAreFew code.closures → KeysAreFew code → BlocksAt t code
+BlocksStand = (t : Telling) → Playing t → HasWorld t → HasTables t → HasWords t.p t.story t.program.words → (first : ℕ) (code : Code) →
+    CodeIsLaid t first code → CodeFits t.program code → ((b : ℕ) → BlockSuits code b) → BodiesAreFew code.closures → KeysAreFew code →
+    BlocksAt t code

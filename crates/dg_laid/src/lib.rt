@@ -3,4 +3,4 @@
 
 mod laws;
 
-pub use laws::{blocks_stand, goals_suit};
+pub use laws::{blocks_stand, goals_suit, sites_suit};
