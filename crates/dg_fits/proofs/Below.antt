@@ -12,6 +12,7 @@ use Rattle.dg_mid.specs.declared.code.BodyCode.{BodyCode}
 use Rattle.dg_mid.specs.declared.code.RuleCode.{RuleCode}
 use Rattle.dg_mid.specs.declared.code.Code.{Code}
 use Rattle.dg_rt.specs.RunTime.{runtime}
+use Rattle.dg_turn.specs.Names.{objects_routines}
 use Rattle.dg_emit.specs.declared.numbers.Numbers.{Numbers}
 use Rattle.dg_emit.specs.Numbers.{routines_of_op, routines_of_ops, blocks_size, bodies_size, rules_count, first_of, first_rule, block_starts, pred_starts, bodies_start, behind_blocks, number_behind, numbers_from, number_or, block_number, pred_number}
 use Rattle.dg_emit.specs.Bodies.{bodies_routines}
@@ -21,6 +22,7 @@ pub record AreBelow (numbers : Numbers) (count : ℕ) : Type 0 where
   pub block : (b : ℕ) → block_number numbers b < count
   pub pred : (p : ℕ) → pred_number numbers p < count
   pub find : numbers.find < count
+  pub objects : numbers.objects < count
 
 pub ops_some : (ops : List Op) → 1 ≤ routines_of_ops ops
 ops_some [] = omega arith
@@ -31,6 +33,7 @@ module _ (count : ℕ) (many : 1 + length runtime ≤ count) where
   first_below k [] le = omega arith
   first_below k (op.Return ∷ ops) le = omega arith
   first_below k (op.Do action.Stop ∷ ops) le = omega arith
+  first_below k (op.Keep a ∷ ops) le = omega arith
   first_below k (op.Do a ∷ ops) le = omega (arith, ops_some ops)
   first_below k (x ∷ ops) le = omega (arith, ops_some ops)
 
@@ -52,19 +55,22 @@ module _ (count : ℕ) (many : 1 + length runtime ≤ count) where
   find_below k [] le = omega arith
   find_below k (body ∷ bodies) le = omega arith
 
-  pub numbers_below : (first : ℕ) (code : Code) → number_behind first code ≤ count → AreBelow (numbers_from first code) count
+  pub numbers_below : (first : ℕ) (code : Code) → number_behind first code < count → AreBelow (numbers_from first code) count
   numbers_below first code le = record {
     block = λ b. block_below (first + rules_count code.preds) code.blocks b (omega arith);
     pred = λ p. pred_below first code.preds p (omega arith);
-    find = find_below (behind_blocks first code) code.closures le;
+    find = find_below (behind_blocks first code) code.closures (omega arith);
+    objects = le;
   }
 
 -- ## How many there are
 
-op_many : (p : CoreProgram) (numbers : Numbers) (k : ℕ) (x : Op) → length (op_routines p numbers k x) ≡ routines_of_op x
-op_many p numbers k op.Return = refl
-op_many p numbers k (op.Do action.Stop) = refl
-op_many p numbers k x = refl
+op_many : (p : CoreProgram) (numbers : Numbers) (number k : ℕ) (x : Op) → length (op_routines p numbers number k x) ≡ routines_of_op x
+op_many p numbers number k op.Return = refl
+op_many p numbers number k (op.Do action.Stop) = refl
+op_many p numbers number k (op.Keep a) = refl
+op_many p numbers number k (op.Find place (t ∷ ts) many next) = refl
+op_many p numbers number k x = refl
 
 ops_many : (p : CoreProgram) (numbers : Numbers) (k : ℕ) (ops : List Op) → length (ops_routines p numbers k ops) ≡ routines_of_ops ops
 ops_many p numbers k [] = refl
@@ -72,8 +78,8 @@ ops_many p numbers k (x ∷ ops) =
     let behind = k + routines_of_op x in
     omega (
       arith,
-      length-append (op_routines p numbers (first_of behind ops) x) (ops_routines p numbers behind ops),
-      op_many p numbers (first_of behind ops) x,
+      length-append (op_routines p numbers k (first_of behind ops) x) (ops_routines p numbers behind ops),
+      op_many p numbers k (first_of behind ops) x,
       ops_many p numbers behind ops,
     )
 
@@ -111,12 +117,12 @@ pub two_is : (n : ℕ) → 1 ≤ n → two_each n + 1 ≡ 2 * n
 two_is zero some = absurd (omega arith)
 two_is (suc n) some = omega arith
 
-bodies_many : (p : CoreProgram) (numbers : Numbers) (halvings number place : ℕ) (bodies : List BodyCode) → length bodies ≤ 1 + halvings →
-    length (bodies_routines p numbers halvings number place bodies) ≡ two_each (length bodies)
-bodies_many p numbers halvings number place [] le = refl
-bodies_many p numbers halvings number place (body ∷ []) le = refl
-bodies_many p numbers zero number place (a ∷ b ∷ bodies) le = absurd (omega arith)
-bodies_many p numbers (suc halvings) number place (a ∷ b ∷ bodies) le =
+bodies_many : (numbers : Numbers) (halvings number place : ℕ) (bodies : List BodyCode) → length bodies ≤ 1 + halvings →
+    length (bodies_routines numbers halvings number place bodies) ≡ two_each (length bodies)
+bodies_many numbers halvings number place [] le = refl
+bodies_many numbers halvings number place (body ∷ []) le = refl
+bodies_many numbers zero number place (a ∷ b ∷ bodies) le = absurd (omega arith)
+bodies_many numbers (suc halvings) number place (a ∷ b ∷ bodies) le =
     let all : List BodyCode = a ∷ b ∷ bodies in
     let half : ℕ = length all / 2 in
     let first : length (take half all) ≡ half = length-take-le half all (omega arith) in
@@ -124,9 +130,9 @@ bodies_many p numbers (suc halvings) number place (a ∷ b ∷ bodies) le =
     omega (
       arith,
       length-append
-          (bodies_routines p numbers halvings (number + 1) place (take half all)) (bodies_routines p numbers halvings (number + 2 * half) (place + half) (drop half all)),
-      bodies_many p numbers halvings (number + 1) place (take half all) (omega arith),
-      bodies_many p numbers halvings (number + 2 * half) (place + half) (drop half all) (omega arith),
+          (bodies_routines numbers halvings (number + 1) place (take half all)) (bodies_routines numbers halvings (number + 2 * half) (place + half) (drop half all)),
+      bodies_many numbers halvings (number + 1) place (take half all) (omega arith),
+      bodies_many numbers halvings (number + 2 * half) (place + half) (drop half all) (omega arith),
       two_is (length (take half all)) (omega arith),
       two_is (length (drop half all)) (omega arith),
     )
@@ -135,18 +141,20 @@ pub size_is : (bodies : List BodyCode) → two_each (length bodies) ≡ bodies_s
 size_is [] = refl
 size_is (body ∷ bodies) = refl
 
-pub code_many : (p : CoreProgram) (first : ℕ) (code : Code) → first + length (code_routines p first code) ≡ number_behind first code
+pub code_many : (p : CoreProgram) (first : ℕ) (code : Code) → first + length (code_routines p first code) ≡ number_behind first code + length (objects_routines (number_behind first code) p.objects)
 code_many p first code =
     let numbers = numbers_from first code in
     let rules = preds_routines code numbers first code.preds in
     let blocks = blocks_routines p numbers (first + rules_count code.preds) code.blocks in
-    let bodies = bodies_routines p numbers (length code.closures) (behind_blocks first code) 0 code.closures in
+    let bodies = bodies_routines numbers (length code.closures) (behind_blocks first code) 0 code.closures in
+    let objects = objects_routines (number_behind first code) p.objects in
     omega (
       arith,
-      length-append rules (blocks ++ bodies),
-      length-append blocks bodies,
+      length-append rules (blocks ++ (bodies ++ objects)),
+      length-append blocks (bodies ++ objects),
+      length-append bodies objects,
       preds_many code numbers first code.preds,
       blocks_many p numbers (first + rules_count code.preds) code.blocks,
-      bodies_many p numbers (length code.closures) (behind_blocks first code) 0 code.closures (omega arith),
+      bodies_many numbers (length code.closures) (behind_blocks first code) 0 code.closures (omega arith),
       size_is code.closures,
     )

@@ -1,10 +1,15 @@
 pub mod Names
 pub mod Terms
+pub mod SelectRoutine
 pub mod Rooms
 pub mod Counting
+pub mod Selects
+pub mod SitesFew
 pub mod Suits
+pub mod Objects
 pub mod Small
 pub mod Straight
 pub mod Below
 pub mod Fits
+pub mod ObjectsFit
 pub mod Whole

@@ -51,10 +51,7 @@ module _ (counts : Counts) (many : 1 + length runtime ≤ counts.routines) where
       ((tt, omega arith, (two_small vs 0 are, two_small vs 2 are, two_small vs 4 are)), captures_straight n (drop 6 vs) (captured_behind 6 vs are))
 
   closure_straight : (o c : ℕ) (vs : List ℕ) → o ≤ 10000 → c < 16384 → length vs ≤ 64 → AreCaptured vs → AreStraight counts (closure_acts o c vs)
-  closure_straight o c vs le lt few are = (
-    cell_straight o (atoms.Num (1 + c)) (omega arith) (omega arith),
-    (cell_straight (o + 1) (atoms.Num (length vs)) (omega arith) (omega arith), ((omega arith, omega arith, omega arith), captures_straight (captures_for (length vs)) vs are)),
-  )
+  closure_straight o c vs le lt few are = ((tt, omega arith, (omega arith, omega arith, omega arith)), captures_straight (captures_for (length vs)) vs are)
 
   -- a node, with the cells of what stands in it behind its own
   node_straight : (p : CoreProgram) (o : ℕ) (x : term.Term-F Term) (xs : List Term) → o + (node_cells p x + cells p (parts_of x ++ xs)) ≤ 10000 → IsNode p x → AreStraight counts (node_acts p o x)

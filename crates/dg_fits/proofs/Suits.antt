@@ -1,23 +1,29 @@
 -- Code of a program that isn't refused fits.
-use Rattle.std.specs.Prelude.{nat_lt, ◌&&◌}
-use Rattle.std.proofs.Common.{◌≡◌, ℕ, zero, suc, ◌*◌, ◌<◌, ◌≤◌, List, [], ◌∷◌, ◌++◌, length, Option, Some, None, Bool, true, refl, sym, ◌∙◌, ap, subst, arith, length-append}
+use Rattle.std.specs.Prelude.{nat_lt, replicate, ◌&&◌}
+use Rattle.std.proofs.lemmas.List.{length-replicate}
+use Rattle.std.proofs.Common.{◌≡◌, ℕ, zero, suc, ◌+◌, ◌*◌, ◌<◌, ◌≤◌, inl, inr, List, [], ◌∷◌, ◌++◌, length, map, Option, Some, None, Bool, true, false, refl, sym, ◌∙◌, ap, subst, arith, length-append}
 use Rattle.std.specs.List.{All, slice_get}
-use Rattle.std.proofs.lemmas.Bool.{ltb-true, lt-ltb, and_parts}
+use Rattle.std.proofs.Math.Dec.{eqb}
+use Rattle.std.proofs.lemmas.Bool.{ltb-true, lt-ltb, eqb-true, eq-eqb, and_parts}
 use Rattle.std.proofs.lemmas.Option.{slice_get_within}
 use Rattle.std.proofs.lemmas.List.Elements.{All-nil, All-head, All-tail}
+use Rattle.std.proofs.lemmas.List.Sums.{sum_by-cons}
 use Rattle.dg_base.specs.declared.program.ClosureBody.{ClosureBody}
 use Rattle.dg_base.specs.declared.program.CoreProgram.{CoreProgram}
 use Rattle.dg_base.specs.declared.program.Goal.{Goal, out-Goal}
 use Rattle.dg_base.specs.declared.program.Goal.TheOpen as form
 use Rattle.dg_base.specs.declared.program.Place.{Place}
+use Rattle.dg_base.specs.declared.program.PlaceKind.{PlaceKind}
+use Rattle.dg_base.specs.declared.program.PlaceKind.TheVariants.{Flag, ObjectFlag, ObjectVar, Parent, Global}
 use Rattle.dg_base.specs.declared.program.Pred.{Pred}
 use Rattle.dg_base.specs.declared.program.Rule.{Rule}
 use Rattle.dg_base.specs.declared.program.Term.{Term, out-Term}
 use Rattle.dg_base.specs.declared.program.Term.TheOpen as term
 use Rattle.dg_base.specs.Goals.{all_goals_of, terms_held, option_terms}
-use Rattle.dg_base.specs.Sound.{IsSound, FitsProgram, IsNodeOf, IsTermOf, IsGoalOf, IsRuleOf, IsClosureOf, IsPredOf, FirstIsParent, Captures, closure_vars}
+use Rattle.dg_base.specs.Sound.{IsSound, FitsProgram, IsNodeOf, IsTermOf, IsGoalOf, IsRuleOf, IsClosureOf, IsPredOf, FirstIsParent, FitsPlace, terms_of_kind, Captures, closure_vars}
 use Rattle.dg_base.specs.Terms.{nodes}
 use Rattle.dg_meaning.specs.Cells.{nodes_of, captured_count}
+use Rattle.dg_meaning.specs.Facts.{kinds_of}
 use Rattle.dg_meaning.specs.Few.{HeadsAreFew, AllHoldFew, HoldsFew}
 use Rattle.dg_meaning.specs.Moves.{rules_of}
 use Rattle.dg_meaning.specs.Selection.{label_at}
@@ -33,17 +39,22 @@ use Rattle.dg_mid.specs.Codes.{RuleStands, RulesStand}
 use Rattle.dg_mid.specs.Passing.{Tests, GoalPasses, GoalsPass, RulesPass, PredsPass, ClosuresPass, ProgramPasses, OpPasses, OpsPass}
 use Rattle.dg_mid.proofs.Passing.{code_passes}
 use Rattle.dg_turn.specs.Rules.{one_if_key, keyed}
-use Rattle.dg_turn.specs.Told.{KeyFits}
+use Rattle.dg_turn.specs.Tries.{AnyObject, Flagged, Valued, sought_by}
+use Rattle.dg_turn.specs.Told.{count_told, told_count, KeyFits}
 use Rattle.dg_turn.specs.Terms.{captured_of, IsTerm, IsNode, AreNodes, AreCaptured}
+use Rattle.dg_turn.specs.World.{place_words, place_bytes, all_words, all_bytes}
 use Rattle.dg_emit.specs.inside.Left.{parts_of}
 use Rattle.dg_emit.specs.Code.{parameters_of, TermsFit, OpFits, OpsFit, BlocksFit, RulesFit, PredsFit}
+use Rattle.dg_emit.specs.World.{WorldFits, ChangeFits, FlagFits}
+use Rattle.dg_emit.specs.Finds.{QueryFits}
 use Rattle.dg_emit.proofs.Left.{nodes_next}
 use Rattle.dg_emit.proofs.Nodes.{first_term, other_terms}
-use Rattle.dg_fits.specs.Sizes.{place_size, places_size, words_size, terms_size, rules_size, preds_size}
+use Rattle.dg_fits.specs.Sizes.{place_size, places_size, words_size, node_size, nodes_size, terms_size, rules_size, preds_size}
 use Rattle.dg_fits.specs.Laws.{IsSized, CodeSuits}
 use Rattle.dg_fits.proofs.Names.{name_ok, name_passes, name_is}
 use Rattle.dg_fits.proofs.Terms.{some_node, captured_are}
 use Rattle.dg_fits.proofs.Counting.{closures_many}
+use Rattle.dg_fits.proofs.SitesFew.{sites_counted}
 
 both : {a b : Bool} → a ≡ true → b ≡ true → (a && b) ≡ true
 both {b = b} e f = ap (λ (x : Bool). x && b) e ∙ f
@@ -61,7 +72,7 @@ node_ok p (term.Num n) = nat_lt n 16384
 node_ok p (term.Word n) = nat_lt n 8192
 node_ok p (term.Object n) = nat_lt n 4096
 node_ok p (term.Var n) = nat_lt n 16001
-node_ok p (term.Closure c) = let vs = captured_of (slice_get p.closures c) in nat_lt c 16384 && (nat_lt (length vs) 65 && are_small vs)
+node_ok p (term.Closure c) = let vs = captured_of (slice_get p.closures c) in nat_lt c 16384 && (nat_lt (length vs) 65 && (are_small vs && nat_lt (told_count p c) 256))
 node_ok p other = true
 
 abbrev nodes_ok : CoreProgram → List Term → Bool
@@ -72,9 +83,23 @@ nodes_ok p (x ∷ xs) = node_ok p (out-Term x) && nodes_ok p xs
 abbrev pub terms_ok : CoreProgram → List Term → Bool
 terms_ok p ts = nat_lt (length ts) 13 && nodes_ok p (nodes_of ts)
 
+-- so is a change or a query of a place of a kind with so many terms, and a query of a flag
+abbrev change_ok : Option PlaceKind → ℕ → Bool
+change_ok None n = false
+change_ok (Some kind) n = eqb n (terms_of_kind kind)
+
+abbrev flag_ok : Option PlaceKind → Bool
+flag_ok (Some Flag) = true
+flag_ok o = false
+
 -- so is a goal
 abbrev goal_ok : CoreProgram → form.Goal-F Goal → Bool
 goal_ok p (form.Text name) = name_ok name
+goal_ok p form.Forever = false
+goal_ok p (form.Now place args sets) = terms_ok p args && change_ok (slice_get (kinds_of p) place) (length args)
+goal_ok p (form.Select site mode lists) = nat_lt (length lists) 501
+goal_ok p (form.Holds place [] many) = flag_ok (slice_get (kinds_of p) place)
+goal_ok p (form.Holds place (t ∷ ts) many) = terms_ok p (t ∷ ts) && change_ok (slice_get (kinds_of p) place) (length (t ∷ ts))
 goal_ok p layer = terms_ok p (terms_held layer)
 
 abbrev pub tests : CoreProgram → Tests
@@ -99,10 +124,11 @@ node_is : (p : CoreProgram) (x : term.Term-F Term) (xs : List Term) → node_ok 
 node_is p (term.Pair head tail) xs e are = (first_term p head (tail ∷ xs) are, first_term p tail xs (other_terms p head (tail ∷ xs) are))
 node_is p (term.Closure c) xs e are =
     let vs = captured_of (slice_get p.closures c) in
-    let h = and_parts (nat_lt c 16384) (nat_lt (length vs) 65 && are_small vs) e in
-    let k = and_parts (nat_lt (length vs) 65) (are_small vs) h.1 in
+    let h = and_parts (nat_lt c 16384) (nat_lt (length vs) 65 && (are_small vs && nat_lt (told_count p c) 256)) e in
+    let k = and_parts (nat_lt (length vs) 65) (are_small vs && nat_lt (told_count p c) 256) h.1 in
+    let l = and_parts (are_small vs) (nat_lt (told_count p c) 256) k.1 in
     let few = ltb-true (length vs) 65 k.0 in
-    (ltb-true c 16384 h.0, omega arith, small_are vs k.1)
+    (ltb-true c 16384 h.0, omega arith, small_are vs l.0, ltb-true (told_count p c) 256 l.1)
 node_is p (term.Num n) xs e are = leaf_is p (term.Num n) e
 node_is p (term.Word n) xs e are = leaf_is p (term.Word n) e
 node_is p (term.Object n) xs e are = leaf_is p (term.Object n) e
@@ -127,30 +153,94 @@ terms_fit p ts e =
     let few = ltb-true (length ts) 13 h.0 in
     (omega arith, are_nodes p (length (nodes_of ts)) ts (omega arith) h.1)
 
-op_fits : (p : CoreProgram) (x : Op) → OpPasses (tests p) x → OpFits p x
-op_fits p (op.Do (action.Text text)) e = name_is text e
-op_fits p (op.Do (action.GapN a)) e = terms_fit p (a ∷ []) e
-op_fits p (op.Do (action.Test kind a)) e = terms_fit p (a ∷ []) e
-op_fits p (op.Do (action.Compare f a b)) e = terms_fit p (a ∷ b ∷ []) e
-op_fits p (op.Do (action.Arith f a b c)) e = terms_fit p (a ∷ b ∷ c ∷ []) e
-op_fits p (op.Do (action.Random a b c)) e = terms_fit p (a ∷ b ∷ c ∷ []) e
-op_fits p (op.Do (action.Equal a b)) e = terms_fit p (a ∷ b ∷ []) e
-op_fits p (op.Ask pred terms many next) e = terms_fit p terms e
-op_fits p (op.LastAsk pred terms many) e = terms_fit p terms e
-op_fits p (op.Query a b many next) e = terms_fit p (a ∷ option_terms b) e
-op_fits p (op.LastQuery a b many) e = terms_fit p (a ∷ option_terms b) e
-op_fits p (op.Enter vars head) e = terms_fit p head (and_parts (nat_lt vars 66) (terms_ok p head) e).1
-op_fits p x e = tt
+change_is : (p : CoreProgram) → WorldFits p → (place n : ℕ) (o : Option PlaceKind) → slice_get (kinds_of p) place ≡ o → change_ok o n ≡ true → ChangeFits p place n
+change_is p world place n None is e = absurd (cc)
+change_is p world place n (Some Flag) is e = record { kind = Flag; kind_is = is; fits = eqb-true n 0 e; world = world }
+change_is p world place n (Some ObjectFlag) is e = record { kind = ObjectFlag; kind_is = is; fits = eqb-true n 1 e; world = world }
+change_is p world place n (Some ObjectVar) is e = record { kind = ObjectVar; kind_is = is; fits = eqb-true n 2 e; world = world }
+change_is p world place n (Some Parent) is e = record { kind = Parent; kind_is = is; fits = eqb-true n 2 e; world = world }
+change_is p world place n (Some Global) is e = record { kind = Global; kind_is = is; fits = eqb-true n 1 e; world = world }
 
-ops_fit : (p : CoreProgram) (ops : List Op) → OpsPass (tests p) ops → OpsFit p ops
-ops_fit p [] e = tt
-ops_fit p (x ∷ ops) e = (op_fits p x e.0, ops_fit p ops e.1)
+flag_is : (p : CoreProgram) → WorldFits p → (place : ℕ) (o : Option PlaceKind) → slice_get (kinds_of p) place ≡ o → flag_ok o ≡ true → FlagFits p place
+flag_is p world place None is e = absurd (cc)
+flag_is p world place (Some Flag) is e = record { kind_is = is; world = world }
+flag_is p world place (Some kind) is e = absurd (cc)
 
-blocks_fit : (p : CoreProgram) (blocks : List Block) → ((b : ℕ) → OpsPass (tests p) (ops_of (slice_get blocks b))) → BlocksFit p blocks
-blocks_fit p [] h = tt
-blocks_fit p (block ∷ blocks) h = (ops_fit p block.ops (h 0), blocks_fit p blocks (λ b. h (suc b)))
+query_is : (p : CoreProgram) → WorldFits p → (place n : ℕ) (o : Option PlaceKind) → slice_get (kinds_of p) place ≡ o → 1 ≤ n → change_ok o n ≡ true → QueryFits p (Some place) n
+query_is p world place n None is some e = absurd (cc)
+query_is p world place n (Some Flag) is some e = let none = eqb-true n 0 e in absurd (omega arith)
+query_is p world place n (Some ObjectFlag) is some e =
+    inl (record { sought = Flagged place; sought_is = ap (sought_by place) is; fits = eqb-true n 1 e; world = world })
+query_is p world place n (Some ObjectVar) is some e =
+    inl (record { sought = Valued place; sought_is = ap (sought_by place) is; fits = eqb-true n 2 e; world = world })
+query_is p world place n (Some Parent) is some e =
+    inl (record { sought = Valued place; sought_is = ap (sought_by place) is; fits = eqb-true n 2 e; world = world })
+query_is p world place n (Some Global) is some e = inr (record { at = place; place_is = refl; kind_is = is; fits = eqb-true n 1 e })
+
+op_fits : (p : CoreProgram) → WorldFits p → (x : Op) → OpPasses (tests p) x → OpFits p x
+op_fits p world (op.Do (action.Text text)) e = name_is text e
+op_fits p world (op.Do (action.GapN a)) e = terms_fit p (a ∷ []) e
+op_fits p world (op.Do (action.Test kind a)) e = terms_fit p (a ∷ []) e
+op_fits p world (op.Do (action.Compare f a b)) e = terms_fit p (a ∷ b ∷ []) e
+op_fits p world (op.Do (action.Arith f a b c)) e = terms_fit p (a ∷ b ∷ c ∷ []) e
+op_fits p world (op.Do (action.Random a b c)) e = terms_fit p (a ∷ b ∷ c ∷ []) e
+op_fits p world (op.Do (action.Equal a b)) e = terms_fit p (a ∷ b ∷ []) e
+op_fits p world (op.Do (action.Print a)) e = terms_fit p (a ∷ []) e
+op_fits p world (op.Do (action.Input a)) e = terms_fit p (a ∷ []) e
+op_fits p world (op.Collect a b alt) e = terms_fit p (a ∷ b ∷ []) e
+op_fits p world (op.Do (action.Now place args sets)) e =
+    let h = and_parts (terms_ok p args) (change_ok (slice_get (kinds_of p) place) (length args)) e in
+    (terms_fit p args h.0, change_is p world place (length args) (slice_get (kinds_of p) place) refl h.1)
+op_fits p world (op.Find (Some place) [] many next) e = flag_is p world place (slice_get (kinds_of p) place) refl e
+op_fits p world (op.Find None (t ∷ []) many next) e = (terms_fit p (t ∷ []) e, world, inl (record { sought = AnyObject; sought_is = refl; fits = refl; world = world }))
+op_fits p world (op.Find None (t ∷ u ∷ ts) many next) e = let no : false ≡ true = e in absurd (cc no)
+op_fits p world (op.Find (Some place) (t ∷ ts) many next) e =
+    let h = and_parts (terms_ok p (t ∷ ts)) (change_ok (slice_get (kinds_of p) place) (length (t ∷ ts))) e in
+    (terms_fit p (t ∷ ts) h.0, world, query_is p world place (length (t ∷ ts)) (slice_get (kinds_of p) place) refl (omega arith) h.1)
+op_fits p world (op.Select site mode blocks next) e =
+    let few = ltb-true (length (replicate {A = List Goal} (length blocks) [])) 501 e in
+    let long = length-replicate {A = List Goal} (length blocks) [] in
+    record { few = omega arith; world = world }
+op_fits p world (op.Ask pred terms many next) e = terms_fit p terms e
+op_fits p world (op.LastAsk pred terms many) e = terms_fit p terms e
+op_fits p world (op.Query a b many next) e = terms_fit p (a ∷ option_terms b) e
+op_fits p world (op.LastQuery a b many) e = terms_fit p (a ∷ option_terms b) e
+op_fits p world (op.Enter vars head) e = terms_fit p head (and_parts (nat_lt vars 66) (terms_ok p head) e).1
+op_fits p world x e = tt
+
+ops_fit : (p : CoreProgram) → WorldFits p → (ops : List Op) → OpsPass (tests p) ops → OpsFit p ops
+ops_fit p world [] e = tt
+ops_fit p world (x ∷ ops) e = (op_fits p world x e.0, ops_fit p world ops e.1)
+
+blocks_fit : (p : CoreProgram) → WorldFits p → (blocks : List Block) → ((b : ℕ) → OpsPass (tests p) (ops_of (slice_get blocks b))) → BlocksFit p blocks
+blocks_fit p world [] h = tt
+blocks_fit p world (block ∷ blocks) h = (ops_fit p world block.ops (h 0), blocks_fit p world blocks (λ b. h (suc b)))
 
 -- ## What a sound program passes
+
+change_right : (n : ℕ) (kind : PlaceKind) → n ≡ terms_of_kind kind → change_ok (Some kind) n ≡ true
+change_right n Flag e = eq-eqb n 0 e
+change_right n ObjectFlag e = eq-eqb n 1 e
+change_right n ObjectVar e = eq-eqb n 2 e
+change_right n Parent e = eq-eqb n 2 e
+change_right n Global e = eq-eqb n 1 e
+
+kind_right : (places : List Place) (i n : ℕ) → FitsPlace n (slice_get places i) → change_ok (slice_get (map (λ (place : Place). place.kind) places) i) n ≡ true
+kind_right [] i n h = absurd h
+kind_right (place ∷ places) zero n h = change_right n place.kind h
+kind_right (place ∷ places) (suc i) n h = kind_right places i n h
+
+flag_by : (kind : PlaceKind) → 0 ≡ terms_of_kind kind → flag_ok (Some kind) ≡ true
+flag_by Flag e = refl
+flag_by ObjectFlag e = absurd (cc)
+flag_by ObjectVar e = absurd (cc)
+flag_by Parent e = absurd (cc)
+flag_by Global e = absurd (cc)
+
+flag_right : (places : List Place) (i : ℕ) → FitsPlace 0 (slice_get places i) → flag_ok (slice_get (map (λ (place : Place). place.kind) places) i) ≡ true
+flag_right [] i h = absurd h
+flag_right (place ∷ places) zero h = flag_by place.kind h
+flag_right (place ∷ places) (suc i) h = flag_right places i h
 
 captured_few : (p : CoreProgram) (cs : List ClosureBody) → All (IsClosureOf p) cs → (c : ℕ) → captured_count (slice_get cs c) ≤ 64
 captured_few p [] all c = omega arith
@@ -170,7 +260,8 @@ module _ (p : CoreProgram) (words : length p.words ≤ 8191) (objects : length p
       let within = slice_get_within p.closures c closure is in
       let vs = captured_of (slice_get p.closures c) in
       let same : vs ≡ closure.captured = ap captured_of is in
-      both (lt-ltb c 16384 (omega arith)) (both (lt-ltb (length vs) 65 (omega (arith, captured c, captured_are (slice_get p.closures c)))) (ap are_small same ∙ below_small vars closure.captured few h))
+      let many : told_count p c ≡ length closure.captured = ap count_told is in
+      both (lt-ltb c 16384 (omega arith)) (both (lt-ltb (length vs) 65 (omega (arith, captured c, captured_are (slice_get p.closures c)))) (both (ap are_small same ∙ below_small vars closure.captured few h) (lt-ltb (told_count p c) 256 (omega (arith, many, captured c, captured_are (slice_get p.closures c), ap length same)))))
 
   node_passes : (vars : ℕ) (x : term.Term-F Term) → vars ≤ 65 → IsNodeOf p vars x → node_ok p x ≡ true
   node_passes vars (term.Num n) few h = lt-ltb n 16384 (omega arith)
@@ -197,6 +288,10 @@ module _ (p : CoreProgram) (words : length p.words ≤ 8191) (objects : length p
 
   layer_passes : (layer : form.Goal-F Goal) → FitsProgram p layer → terms_ok p (terms_held layer) ≡ true → GoalPasses (tests p) layer
   layer_passes (form.Text name) fits e = name_passes name fits
+  layer_passes (form.Now place args sets) fits e = both e (kind_right p.places place (length args) fits)
+  layer_passes (form.Holds place [] many) fits e = flag_right p.places place fits
+  layer_passes (form.Holds place (t ∷ ts) many) fits e = both e (kind_right p.places place (length (t ∷ ts)) fits)
+  layer_passes (form.Select site mode lists) fits e = let few = fits.2 in lt-ltb (length (replicate {A = List Goal} (length lists) [])) 501 (omega (arith, length-replicate {A = List Goal} (length lists) []))
   layer_passes (form.Either lists) fits e = tt
   layer_passes (form.Once goals) fits e = tt
   layer_passes (form.Not goals) fits e = tt
@@ -268,7 +363,7 @@ module _ (p : CoreProgram) (words : length p.words ≤ 8191) (objects : length p
   key_at (term.Word n) e = ltb-true n 8192 e
   key_at (term.Object n) e = ltb-true n 4096 e
   key_at (term.Closure c) e =
-      let vs = captured_of (slice_get p.closures c) in ltb-true c 16384 (and_parts (nat_lt c 16384) (nat_lt (length vs) 65 && are_small vs) e).0
+      let vs = captured_of (slice_get p.closures c) in ltb-true c 16384 (and_parts (nat_lt c 16384) (nat_lt (length vs) 65 && (are_small vs && nat_lt (told_count p c) 256)) e).0
   key_at (term.Var n) e = tt
   key_at (term.Pair head tail) e = tt
   key_at term.Nil e = tt
@@ -309,11 +404,24 @@ one_few : (key : Option Label) → one_if_key key ≤ 1
 one_few None = omega arith
 one_few (Some f) = omega arith
 
+node_least : (x : term.Term-F Term) → 100 ≤ node_size x
+node_least (term.Num n) = omega arith
+node_least (term.Word n) = omega arith
+node_least (term.Object n) = omega arith
+node_least (term.Var n) = omega arith
+node_least (term.Closure c) = omega arith
+node_least (term.Pair head tail) = omega arith
+node_least term.Nil = omega arith
+
+nodes_least : (xs : List Term) → 100 * length xs ≤ nodes_size xs
+nodes_least [] = omega arith
+nodes_least (x ∷ xs) = omega (arith, node_least (out-Term x), nodes_least xs)
+
 first_counted : (head : List Term) → 100 * one_if_key (first_label head) ≤ terms_size head
 first_counted [] = omega arith
 first_counted (t ∷ ts) =
     let some : 1 ≤ length (nodes t) = omega (arith, some_node t [], length-append (nodes t) []) in
-    omega (arith, one_few (label_at (out-Term t)))
+    omega (arith, one_few (label_at (out-Term t)), nodes_least (nodes t))
 
 keyed_counted : (code : Code) (cs : List RuleCode) (rs : List Rule) → RulesStand code cs rs → 200 * keyed cs ≤ rules_size rs
 keyed_counted code [] rs stand = omega arith
@@ -329,13 +437,27 @@ rules_within (pred ∷ ps) (suc n) = omega (arith, rules_within ps n)
 
 -- ## How many there are
 
-words_many : (words : List (List ℕ)) → 3 * length words ≤ words_size words
+pub words_many : (words : List (List ℕ)) → 3 * length words ≤ words_size words
 words_many [] = omega arith
 words_many (word ∷ words) = omega (arith, words_many words)
 
-objects_many : (objects : ℕ) (places : List Place) → FirstIsParent places → 2 * objects ≤ places_size objects places
+pub objects_many : (objects : ℕ) (places : List Place) → FirstIsParent places → 2 * objects ≤ places_size objects places
 objects_many objects [] h = absurd h
 objects_many objects (place ∷ places) h = let e = ap (place_size objects) h.0 in omega arith
+
+-- the words and bytes of the world are what it counts
+pub world_counted : (objects : ℕ) (places : List Place) → let kinds = map (λ (place : Place). place.kind) places in 2 * all_words objects kinds + all_bytes objects kinds ≡ places_size objects places
+world_counted objects [] = refl
+world_counted objects (place ∷ places) =
+    let kinds = map (λ (q : Place). q.kind) places in
+    omega (arith, place_counted place.kind, world_counted objects places, sum_by-cons (place_words objects) place.kind kinds, sum_by-cons (place_bytes objects) place.kind kinds)
+  where
+    place_counted : (kind : PlaceKind) → 2 * place_words objects kind + place_bytes objects kind ≡ place_size objects kind
+    place_counted Flag = refl
+    place_counted ObjectFlag = omega arith
+    place_counted ObjectVar = omega arith
+    place_counted Parent = omega arith
+    place_counted Global = refl
 
 pub captured_all : (program : CoreProgram) → IsSound program → (c : ℕ) → captured_count (slice_get program.closures c) ≤ 64
 captured_all program sound = captured_few program program.closures sound.closures
@@ -351,20 +473,22 @@ are_few p code sized = record {
   objects = omega (arith, objects_many (length p.objects) p.places sized.sound.parent, sized.world);
 }
 
-no_closures : (p : CoreProgram) (code : Code) → IsSized p code → length p.closures ≤ 16383
-no_closures p code sized = let none = ap length sized.closures in omega arith
+pub world_is : (p : CoreProgram) (code : Code) → IsSized p code → WorldFits p
+world_is p code sized = record {
+  few = omega (arith, (are_few p code sized).objects);
+  room = omega (arith, world_counted (length p.objects) p.places, sized.world);
+}
 
-none_captured : (cs : List ClosureBody) → cs ≡ [] → (c : ℕ) → captured_count (slice_get cs c) ≤ 36
-none_captured [] e c = omega arith
-none_captured (closure ∷ cs) e c = absurd (cc e)
+pub objects_few : (p : CoreProgram) (code : Code) → IsSized p code → length p.objects ≤ 4096
+objects_few p code sized = let few = (are_few p code sized).objects in omega arith
 
-pub captured_none : (p : CoreProgram) (code : Code) → IsSized p code → (c : ℕ) → captured_count (slice_get p.closures c) ≤ 36
-captured_none p code sized = none_captured p.closures sized.closures
+pub objects_least : (p : CoreProgram) (code : Code) → IsSized p code → length p.objects ≤ 4000
+objects_least p code sized = omega (arith, objects_many (length p.objects) p.places sized.sound.parent, sized.world)
 
 pub passes_all : (p : CoreProgram) (code : Code) → IsSized p code → (b : ℕ) → OpsPass (tests p) (block_at code b)
 passes_all p code sized =
     let few = are_few p code sized in
-    code_passes (tests p) p code sized.light (program_passes p few.words few.objects (no_closures p code sized) (captured_all p sized.sound) sized.sound sized.heads sized.goals)
+    code_passes (tests p) p code sized.light (program_passes p few.words few.objects (let few = sized.closures in omega arith) (captured_all p sized.sound) sized.sound sized.heads sized.goals)
 
 pub suits : (p : CoreProgram) (code : Code) → IsSized p code → CodeSuits p code
 suits p code sized =
@@ -372,10 +496,12 @@ suits p code sized =
     let few = are_few p code sized in
     record {
       fits = (
-        blocks_fit p code.blocks (passes_all p code sized),
-        preds_fit p few.words few.objects (no_closures p code sized) captured code code.preds p.preds sized.codes.rules sized.sound.preds sized.heads,
-        (omega (arith, closures_many p code sized.codes, no_closures p code sized), captured),
+        blocks_fit p (world_is p code sized) code.blocks (passes_all p code sized),
+        preds_fit p few.words few.objects (let few = sized.closures in omega arith) captured code code.preds p.preds sized.codes.rules sized.sound.preds sized.heads,
+        omega (arith, closures_many p code sized.codes, sized.closures),
+        (objects_few p code sized, sized.sound.objects),
       );
       keyed_few = λ pred.
           omega (arith, keyed_counted code (rules_at code pred) (rules_of (slice_get p.preds pred)) (sized.codes.rules pred), rules_within p.preds pred, sized.size);
+      sites_few = sites_counted p code sized.light;
     }

@@ -13,7 +13,9 @@ use Rattle.z_lang.specs.declared.act.Atom.{Atom}
 use Rattle.z_lang.specs.Sizes.{atom_bytes, act_bytes, body_bytes}
 use Rattle.dg_turn.specs.Terms.{header_at, word_act, words_acts, cell_act, two_numbers, captured_of, capture_acts, captures_for, closure_acts, node_acts, nodes_acts, capped, charge_acts, laying_acts, terms_acts}
 use Rattle.dg_emit.proofs.Left.{nodes_next}
-use Rattle.dg_fits.specs.Sizes.{terms_size}
+use Rattle.dg_mid.specs.Weights.{nodes_weight, terms_weight}
+use Rattle.dg_fits.specs.Sizes.{node_size, nodes_size, terms_size}
+use Rattle.dg_fits.specs.inside.Bytes.{node_bytes, bytes}
 
 pub bytes_append : (xs ys : List Act) → body_bytes (xs ++ ys) ≡ body_bytes xs + body_bytes ys
 bytes_append [] ys = omega arith
@@ -54,27 +56,14 @@ captures_few (suc n) vs =
       captures_few n (drop 6 vs),
     )
 
--- what the acts of a node take
-abbrev pub node_bytes : CoreProgram → term.Term-F Term → ℕ
-node_bytes p (term.Pair head tail) = 32
-node_bytes p (term.Closure c) = 20 + 10 * captures_for (length (captured_of (slice_get p.closures c)))
-node_bytes p other = 0
-
+-- what the acts of some nodes take
 abbrev pub all_bytes : CoreProgram → List Term → ℕ
 all_bytes p [] = 0
 all_bytes p (x ∷ xs) = node_bytes p (out-Term x) + all_bytes p xs
 
-closure_few : (o c : ℕ) (vs : List ℕ) → body_bytes (closure_acts o c vs) ≤ 20 + 10 * captures_for (length vs)
+closure_few : (o c : ℕ) (vs : List ℕ) → body_bytes (closure_acts o c vs) ≤ 10 + 10 * captures_for (length vs)
 closure_few o c vs =
-    omega (
-      arith,
-      num_bytes (nat_lt (header_at + 2 * o) 256),
-      num_bytes (nat_lt (header_at + 2 * (o + 1)) 256),
-      num_bytes (nat_lt (1 + c) 256),
-      num_bytes (nat_lt (length vs) 256),
-      num_bytes (nat_lt o 256),
-      captures_few (captures_for (length vs)) vs,
-    )
+    omega (arith, num_bytes (nat_lt o 256), num_bytes (nat_lt (1 + c) 256), num_bytes (nat_lt (length vs) 256), captures_few (captures_for (length vs)) vs)
 
 node_few : (p : CoreProgram) (o : ℕ) (x : term.Term-F Term) → body_bytes (node_acts p o x) ≤ node_bytes p x
 node_few p o (term.Pair head tail) =
@@ -117,7 +106,7 @@ terms_few : (p : CoreProgram) (v : ℕ) (ts : List Term) → body_bytes (terms_a
 terms_few p v ts =
     omega (arith, bytes_append (charge_acts (capped (cells p ts))) (laying_acts p v ts), charge_few (capped (cells p ts)), laying_few p v ts)
 
--- ## What they count
+-- ## How many there are
 
 pub some_node : (t : Term) (ts : List Term) → 1 + length (nodes_of ts) ≤ length (nodes_of (t ∷ ts))
 some_node t ts =
@@ -132,12 +121,27 @@ pub captured_are : (o : Option ClosureBody) → length (captured_of o) ≡ captu
 captured_are None = refl
 captured_are (Some closure) = refl
 
-sizes_are : (ts : List Term) → 100 * length (nodes_of ts) ≡ terms_size ts
-sizes_are [] = refl
-sizes_are (t ∷ ts) = omega (arith, length-append (nodes t) (nodes_of ts), sizes_are ts)
+-- what terms weigh, node by node
+nodes_alike : (p : CoreProgram) (xs : List Term) → nodes_weight (bytes p) xs ≡ 13 * length xs + all_bytes p xs
+nodes_alike p [] = refl
+nodes_alike p (x ∷ xs) = omega (arith, nodes_alike p xs)
 
-module _ (p : CoreProgram) (captured : (c : ℕ) → captured_count (slice_get p.closures c) ≤ 36) where
-  node_counts : (x : term.Term-F Term) → 14 + node_bytes p x ≤ 100
+nodes_append : (p : CoreProgram) (xs ys : List Term) → nodes_weight (bytes p) (xs ++ ys) ≡ nodes_weight (bytes p) xs + nodes_weight (bytes p) ys
+nodes_append p [] ys = omega arith
+nodes_append p (x ∷ xs) ys = omega (arith, nodes_append p xs ys)
+
+terms_alike : (p : CoreProgram) (ts : List Term) → nodes_weight (bytes p) (nodes_of ts) ≡ terms_weight (bytes p) ts
+terms_alike p [] = refl
+terms_alike p (t ∷ ts) = omega (arith, nodes_append p (nodes t) (nodes_of ts), terms_alike p ts)
+
+-- terms are written in no more bytes than they weigh, with 6 to spare for each
+pub terms_room : (p : CoreProgram) (v : ℕ) (ts : List Term) → body_bytes (terms_acts p v ts) + 6 * length ts ≤ 6 + terms_weight (bytes p) ts
+terms_room p v ts = omega (arith, terms_few p v ts, nodes_many ts, nodes_alike p (nodes_of ts), terms_alike p ts)
+
+-- ## What they count
+
+module _ (p : CoreProgram) (captured : (c : ℕ) → captured_count (slice_get p.closures c) ≤ 64) where
+  node_counts : (x : term.Term-F Term) → 25 * (13 + node_bytes p x) ≤ 23 * node_size x
   node_counts (term.Pair head tail) = omega arith
   node_counts (term.Closure c) = omega (arith, captured c, captured_are (slice_get p.closures c))
   node_counts (term.Num n) = omega arith
@@ -146,10 +150,10 @@ module _ (p : CoreProgram) (captured : (c : ℕ) → captured_count (slice_get p
   node_counts term.Nil = omega arith
   node_counts (term.Var n) = omega arith
 
-  nodes_count : (xs : List Term) → 14 * length xs + all_bytes p xs ≤ 100 * length xs
+  nodes_count : (xs : List Term) → 25 * nodes_weight (bytes p) xs ≤ 23 * nodes_size xs
   nodes_count [] = omega arith
   nodes_count (x ∷ xs) = omega (arith, node_counts (out-Term x), nodes_count xs)
 
-  -- terms are written in no more bytes than they count, with 7 to spare for each
-  pub terms_room : (v : ℕ) (ts : List Term) → body_bytes (terms_acts p v ts) + 7 * length ts ≤ 6 + terms_size ts
-  terms_room v ts = omega (arith, terms_few p v ts, nodes_many ts, nodes_count (nodes_of ts), sizes_are ts)
+  pub terms_count : (ts : List Term) → 25 * terms_weight (bytes p) ts ≤ 23 * terms_size ts
+  terms_count [] = omega arith
+  terms_count (t ∷ ts) = omega (arith, nodes_count (nodes t), terms_count ts)

@@ -22,12 +22,15 @@ use Rattle.dg_rt.specs.Fits.{IsFit, AllFit}
 use Rattle.dg_rt.specs.RunTime.{runtime, routine_of}
 use Rattle.dg_rt.specs.declared.closings.TheConstants.{KEEP_LIMIT_ACTS}
 use Rattle.dg_rt.proofs.Fitting.{runtime_fits}
+use Rattle.dg_turn.specs.Names.{objects_routines}
 use Rattle.dg_emit.specs.Numbers.{rules_count, behind_blocks, number_behind, numbers_from, block_number}
 use Rattle.dg_emit.specs.Bodies.{bodies_routines}
 use Rattle.dg_emit.specs.Code.{preds_routines, blocks_routines, code_routines}
 use Rattle.dg_emit.specs.Story.{start_acts, first_number, story_routines}
 use Rattle.dg_fits.specs.Laws.{IsSized, parts_with, RoutinesFit}
-use Rattle.dg_fits.proofs.Suits.{tests, terms_ok, captured_all, passes_all, suits}
+use Rattle.dg_fits.proofs.Suits.{tests, terms_ok, passes_all, objects_few, suits}
+use Rattle.dg_fits.proofs.Objects.{objects_count}
+use Rattle.dg_fits.proofs.ObjectsFit.{objects_fit}
 use Rattle.dg_fits.proofs.Below.{numbers_below, size_is, code_many}
 use Rattle.dg_fits.proofs.Fits.{EntersFew, AllEnterFew, BlocksEnterFew, OwnFew, fits_append, blocks_fit, preds_fit, bodies_fit}
 
@@ -72,32 +75,36 @@ are_routines : (c : Counts) (rs : List Routine) → AllFit c rs → AreRoutines 
 are_routines c [] fit = tt
 are_routines c (r ∷ rs) fit = (record { few = (fit.0).few; short = (fit.0).short; fit = (fit.0).fit }, are_routines c rs fit.1)
 
-module _ (p : CoreProgram) (code : Code) (sized : IsSized p code) (c : Counts) (routines : number_behind first_number code ≤ c.routines) (tables : 1 ≤ c.tables) where
+module _ (p : CoreProgram) (code : Code) (sized : IsSized p code) (c : Counts) (routines : number_behind first_number code + length (objects_routines (number_behind first_number code) p.objects) ≤ c.routines) (tables : 2 ≤ c.tables) where
   many : 1 + length runtime ≤ c.routines
   many = omega arith
 
   code_fits : AllFit c (code_routines p first_number code)
   code_fits =
       let numbers = numbers_from first_number code in
-      let below = numbers_below c.routines many first_number code routines in
+      let objects = objects_routines (number_behind first_number code) p.objects in
+      let count = objects_count (number_behind first_number code) p.objects in
+      let below = numbers_below c.routines many first_number code (omega arith) in
       let suit = suits p code sized in
       let passes = passes_all p code sized in
-      let captured = captured_all p sized.sound in
       let rules = preds_routines code numbers first_number code.preds in
       let blocks = blocks_routines p numbers (first_number + rules_count code.preds) code.blocks in
-      let bodies = bodies_routines p numbers (length code.closures) (behind_blocks first_number code) 0 code.closures in
+      let bodies = bodies_routines numbers (length code.closures) (behind_blocks first_number code) 0 code.closures in
       let size = size_is code.closures in
-      let few = (suit.fits.2).0 in
-      fits_append c rules (blocks ++ bodies) (preds_fit c many code numbers first_number code.preds below (omega arith) suit.fits.1)
-      (fits_append c blocks bodies
+      let few = suit.fits.2 in
+      fits_append c rules (blocks ++ (bodies ++ objects)) (preds_fit c many code numbers first_number code.preds below (omega arith) suit.fits.1)
+      (fits_append c blocks (bodies ++ objects)
       (blocks_fit c many p numbers (first_number + rules_count code.preds) code.blocks below (omega arith) suit.fits.0 (blocks_few p code.blocks passes))
-      (bodies_fit c many p captured numbers (length code.closures) (behind_blocks first_number code) 0 code.closures below (omega arith) (omega arith)
-      (own_few p code code.closures p.closures sized.codes.bodies sized.sound.closures)))
+      (fits_append c bodies objects
+      (bodies_fit c many numbers (length code.closures) (behind_blocks first_number code) 0 code.closures below (omega arith) (omega arith)
+      (own_few p code code.closures p.closures sized.codes.bodies sized.sound.closures))
+      (objects_fit c (number_behind first_number code) p.objects many routines sized.sound.objects (objects_few p code sized))))
 
   all_fit : (keeps : Bool) → AllFit c (story_routines p code keeps)
   all_fit keeps =
       let fit = runtime_fits c many tables in
-      let below = numbers_below c.routines many first_number code routines in
+      let count = objects_count (number_behind first_number code) p.objects in
+      let below = numbers_below c.routines many first_number code (omega arith) in
       (start_fits c many fit keeps (block_number (numbers_from first_number code) 1) (below.block 1), fits_append c runtime (code_routines p first_number code) fit code_fits)
 
 pub routines_fit : RoutinesFit

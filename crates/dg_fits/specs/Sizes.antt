@@ -1,8 +1,9 @@
 -- What a program counts, where a story has to have room for it. Hold it against docs/REFUSALS.md, "Of a build".
 use Rattle.std.specs.Prelude.{ℕ, ◌+◌, ◌*◌, List, [], ◌∷◌, length}
 use Rattle.dg_base.specs.declared.program.Goal.{Goal, out-Goal}
-use Rattle.dg_base.specs.declared.program.Goal.TheOpen.{Goal-F, Text, Either, Once, Not, If, Exhaust, Collect, Accumulate, Stoppable, Select}
-use Rattle.dg_base.specs.declared.program.Term.{Term}
+use Rattle.dg_base.specs.declared.program.Goal.TheOpen.{Goal-F, Text, Holds, IsObject, Either, Once, Not, If, Exhaust, Collect, Accumulate, Stoppable, Select}
+use Rattle.dg_base.specs.declared.program.Term.{Term, out-Term}
+use Rattle.dg_base.specs.declared.program.Term.TheOpen.{Term-F, Closure}
 use Rattle.dg_base.specs.declared.program.Rule.{Rule}
 use Rattle.dg_base.specs.declared.program.ClosureBody.{ClosureBody}
 use Rattle.dg_base.specs.declared.program.Pred.{Pred}
@@ -41,14 +42,26 @@ words_size (word ∷ words) = length word + 3 + words_size words
 
 -- ## Nodes and characters
 
--- A node counts 100, and a character of a text 6.
+-- A character of a text counts 6.
 abbrev pub names_size : List (List ℕ) → ℕ
 names_size [] = 0
 names_size (name ∷ names) = 6 * characters name + names_size names
 
+-- A node counts 100. A closure counts 55, and each term that it is 145: in a source it is one, and both count 200 as two nodes do.
+abbrev pub node_size : Term-F Term → ℕ
+node_size (Closure c) = 145
+node_size layer = 100
+
+abbrev pub nodes_size : List Term → ℕ
+nodes_size [] = 0
+nodes_size (node ∷ nodes) = node_size (out-Term node) + nodes_size nodes
+
+abbrev pub term_size : Term → ℕ
+term_size term = nodes_size (nodes term)
+
 abbrev pub terms_size : List Term → ℕ
 terms_size [] = 0
-terms_size (term ∷ terms) = 100 * length (nodes term) + terms_size terms
+terms_size (term ∷ terms) = term_size term + terms_size terms
 
 abbrev pub text_size : Goal-F Goal → ℕ
 text_size (Text name) = 6 * characters name
@@ -67,9 +80,15 @@ lists_held (Stoppable goals) = goals ∷ []
 lists_held (Select site mode lists) = lists
 lists_held goal = []
 
--- A goal by itself: a node, one for each list that it holds, and those of its terms; and the characters of a text.
+-- A query of the world counts 15 more for each of its terms.
+abbrev pub query_size : Goal-F Goal → ℕ
+query_size (Holds place terms many) = 15 * length terms
+query_size (IsObject a many) = 15
+query_size goal = 0
+
+-- A goal by itself: a node, one for each list that it holds, and those of its terms; the characters of a text; and what a query of the world counts more.
 abbrev pub goal_size : Goal-F Goal → ℕ
-goal_size goal = 100 + text_size goal + terms_size (terms_held goal) + 100 * length (lists_held goal)
+goal_size goal = 100 + text_size goal + query_size goal + terms_size (terms_held goal) + 100 * length (lists_held goal)
 
 abbrev pub goals_size : List Goal → ℕ
 goals_size [] = 0
@@ -89,16 +108,25 @@ preds_size (pred ∷ preds) = 100 + rules_size pred.rules + preds_size preds
 
 abbrev pub closures_size : List ClosureBody → ℕ
 closures_size [] = 0
-closures_size (closure ∷ closures) = 100 + body_size closure.body + closures_size closures
+closures_size (closure ∷ closures) = 55 + body_size closure.body + closures_size closures
 
 -- The terms that start set.
 abbrev pub starts_size : List (ℕ × Term) → ℕ
 starts_size [] = 0
-starts_size (start ∷ starts) = 100 * length (nodes start.1) + starts_size starts
+starts_size (start ∷ starts) = term_size start.1 + starts_size starts
 
 abbrev pub set_size : List Place → ℕ
 set_size [] = 0
 set_size (place ∷ places) = starts_size place.start + set_size places
+
+-- How many selects there are among goals.
+abbrev pub select_count : Goal-F Goal → ℕ
+select_count (Select site mode lists) = 1
+select_count goal = 0
+
+abbrev pub selects : List Goal → ℕ
+selects [] = 0
+selects (goal ∷ goals) = select_count (out-Goal goal) + selects goals
 
 -- All nodes and characters of a program.
 abbrev pub story_size : CoreProgram → ℕ
