@@ -1,5 +1,5 @@
 -- A program that isn't refused has a story.
-use Rattle.std.proofs.Common.{◌≡◌, ℕ, ◌+◌, ◌≤◌, List, [], ◌∷◌, length, map, Bool, true, false, None, inl, inr, ap, arith, length-append}
+use Rattle.std.proofs.Common.{◌≡◌, ℕ, ◌+◌, ◌*◌, ◌≤◌, List, [], ◌∷◌, ◌++◌, length, refl, map, Bool, true, false, inl, inr, arith, length-append}
 use Rattle.std.proofs.lemmas.List.{length-map}
 use Rattle.std.specs.List.{All}
 use Rattle.dg_base.specs.declared.program.ClosureBody.{ClosureBody}
@@ -9,26 +9,43 @@ use Rattle.dg_mid.specs.declared.code.Code.{Code}
 use Rattle.z_asm.specs.Layout.{table_bytes}
 use Rattle.z_asm.specs.Story as image
 use Rattle.z_story.specs.Parts.{image_of}
+use Rattle.dg_rt.specs.Words.{word_starts, spellings, words_table}
 use Rattle.dg_fits.specs.Laws as fits
-use Rattle.dg_story.specs.Built.{story_tables, story_parts, HasNoStory}
+use Rattle.dg_fits.specs.Sizes.{words_size}
+use Rattle.dg_story.specs.Built.{story_tables, site_words, story_parts, HasNoStory}
 use Rattle.dg_story.specs.inside.Stories.{IsWritten, HasStory}
 use Rattle.dg_story.proofs.Mapped.{long}
-use Rattle.dg_story.proofs.RefusalLemmas.{no_closures, world_fits, words_fit, story_fits}
+use Rattle.dg_story.proofs.Rows.{behind_areas, behind_long, StartsFit}
+use Rattle.dg_story.proofs.Begun.{starts_so}
+use Rattle.dg_story.proofs.RefusalLemmas.{closures_few, world_fits, words_fit, story_fits}
 
--- what isn't written takes a byte for each closure
-told_long : (closures : List ClosureBody) → length (table_bytes false (story_tables closures)) ≡ length closures
-told_long closures =
-    let bytes = map (λ (c : ClosureBody). length c.captured) closures in
-    omega (arith, length-append bytes [], length-map closures (λ (c : ClosureBody). length c.captured))
+starts_long : (at : ℕ) (words : List (List ℕ)) → length (word_starts at words) ≡ 2 * length words
+starts_long at [] = refl
+starts_long at (word ∷ words) = let e = starts_long (at + length word + 1) words in omega arith
 
-written_long : (closures : List ClosureBody) → length (table_bytes true (story_tables closures)) ≡ 28024
-written_long closures = long 28024
+spellings_long : (words : List (List ℕ)) → length (spellings words) + 2 * length words ≡ words_size words
+spellings_long [] = refl
+spellings_long (word ∷ words) = let e = spellings_long words in omega (arith, length-append word (0 ∷ spellings words))
+
+words_long : (words : List (List ℕ)) → length (words_table words) ≡ 2 + words_size words
+words_long words =
+    let starts = word_starts (2 + 2 * length words) words in
+    omega (arith, length-append starts (spellings words), starts_long (2 + 2 * length words) words, spellings_long words)
+
+-- what isn't written takes a byte for each closure, and what words count
+told_long : (program : CoreProgram) (code : Code) → length (table_bytes false (story_tables program code)) ≡ length program.closures + (2 + words_size program.words)
+told_long program code =
+    let bytes = map (λ (c : ClosureBody). length c.captured) program.closures in
+    omega (arith, length-append bytes (words_table program.words ++ []), length-append (words_table program.words) [], words_long program.words, length-map program.closures (λ (c : ClosureBody). length c.captured))
+
+written_long : (program : CoreProgram) (code : Code) → length (table_bytes true (story_tables program code)) ≡ 31284 + length (behind_areas program (site_words code))
+written_long program code = long 31284 (behind_areas program (site_words code))
 
 module _ (fit : fits.StoriesFit) (suit : fits.CodesSuit) (assembled : fits.RoutinesFit) (program : CoreProgram) (code : Code) (written : IsWritten program code) where
   sized : fits.IsSized program code
   sized = record {
     sound = written.sound;
-    closures = no_closures program written.fits;
+    closures = closures_few program written.fits;
     world = world_fits program written.fits;
     words = words_fit program written.fits;
     size = story_fits program written.fits;
@@ -38,14 +55,20 @@ module _ (fit : fits.StoriesFit) (suit : fits.CodesSuit) (assembled : fits.Routi
     light = written.light;
   }
 
+  pub starts : StartsFit program
+  starts = starts_so program written.sound written.fits
+
   pub suits : fits.CodeSuits program code
   suits = suit program code sized
 
+  short : fits.AreShort program (story_tables program code)
+  short = record { written = omega (arith, written_long program code, behind_long program (site_words code), starts.small, suits.sites_few); told = omega (arith, told_long program code, words_fit program written.fits) }
+
   front_fits : (keeps : Bool) → image.front_of (image_of (story_parts program code keeps)) ≤ 65536
-  front_fits keeps = omega (arith, told_long program.closures, written_long program.closures, ap (λ (cs : List ClosureBody). length cs) (no_closures program written.fits))
+  front_fits keeps = (fit program code sized).near (story_tables program code) keeps short
 
   pub small : (keeps : Bool) → image.IsTooLarge (image_of (story_parts program code keeps)) → ⊥
-  small keeps large = (fit program code sized).small (story_tables program.closures) keeps (front_fits keeps) large
+  small keeps large = (fit program code sized).small (story_tables program code) keeps (front_fits keeps) large
 
   none_is : (keeps : Bool) → HasNoStory code (story_parts program code keeps) → ⊥
   none_is keeps (inl many) = let few = (fit program code sized).numbered in omega arith
@@ -54,7 +77,7 @@ module _ (fit : fits.StoriesFit) (suit : fits.CodesSuit) (assembled : fits.Routi
   pub has_story : HasStory program code
   has_story = record {
     fits = suits.fits;
-    parts = λ keeps. assembled program code sized keeps (story_tables program.closures) (omega arith);
+    parts = λ keeps. assembled program code sized keeps (story_tables program code) (omega arith);
     some = none_is;
   }
 

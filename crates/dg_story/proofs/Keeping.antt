@@ -1,5 +1,5 @@
 -- A story whose starts keep too much writes the line of that limit, and its run is over.
-use Rattle.std.proofs.Common.{◌≡◌, ℕ, suc, ◌+◌, ◌<◌, Bool, false, List, [], ◌++◌, inr, refl, sym, ap, ◌∙◌, subst, arith}
+use Rattle.std.proofs.Common.{◌≡◌, ℕ, suc, ◌<◌, false, List, [], inr, refl, sym, ap, subst, arith}
 use Rattle.std.proofs.lemmas.Bool.{leb-false}
 use Rattle.dg_base.specs.declared.program.CoreProgram.{CoreProgram}
 use Rattle.dg_base.specs.declared.run.Ending.TheVariants as endings
@@ -29,12 +29,13 @@ use Rattle.dg_rt.proofs.Closing.{closings_work}
 use Rattle.dg_chain.specs.Agrees.{Fits, EndsWhole, IsLimitText, by_limit, of_limit}
 use Rattle.dg_chain.specs.inside.Tells.{Tells, over}
 use Rattle.dg_chain.proofs.FitsBy.{fits}
-use Rattle.dg_story.specs.Built.{story_parts, keeps_within, IsStoryOf}
+use Rattle.dg_story.specs.Built.{site_words, story_parts, keeps_within, IsStoryOf}
 use Rattle.dg_story.proofs.Mapped.{p, has}
 use Rattle.dg_story.proofs.Opening as opening
-use Rattle.dg_story.proofs.Zeros.{starts_holding}
+use Rattle.dg_story.proofs.Memory.{starts_holding}
+use Rattle.dg_story.proofs.Rows.{start_words, StartsFit}
 
-module _ (program : CoreProgram) (code : Code) (story : List ℕ) (is : IsStoryOf (story_parts program code false) story) (typed dice : List ℕ) (much : keeps_within program ≡ false) where
+module _ (program : CoreProgram) (starts : StartsFit program) (code : Code) (story : List ℕ) (is : IsStoryOf (story_parts program code false) story) (typed dice : List ℕ) (much : keeps_within program ≡ false) where
   abbrev g : Game
   g = record { program = program; dice = dice }
 
@@ -68,15 +69,15 @@ module _ (program : CoreProgram) (code : Code) (story : List ℕ) (is : IsStoryO
   from = state (memory_of story) [] typed 0 []
 
   closes : Closes q KEEP_LIMIT_ACTS from 0 endings.KeepLimit
-  closes = closings_work.keep q (has program code false story is dice) (memory_of story) typed [] 0 (λ k. 0) (starts_holding program code false story is dice)
+  closes = closings_work.keep q (has program code false story is dice) (memory_of story) typed [] 0 (start_words program (site_words code)) (starts_holding program starts code false story is dice)
 
   turns_over : (k : ℕ) (z : ZState) → z ≡ start_state story typed → IsTurn q.world (λ e. e) closing (λ a y. y ≡ start_state story typed) k z
   unfolding render
   turns_over k z e =
       let few = closes.few in
       let n = closes.count in
-      let f = (opening.first_follows program code false story is dice typed 1 0 n (omega arith) (omega arith) (Stops AtQuit) (with_output from line) closes.runs).comes in
-      let all = ends_step q.world n (start_state story typed) (opening.at_first program code false story is dice typed) (record { end = ends.Quit; state = f.0 }) (opening.first_step program code false story is dice typed) f.2 in
+      let f = (opening.first_follows program starts code false story is dice typed 1 0 n (omega arith) (omega arith) (Stops AtQuit) (with_output from line) closes.runs).comes in
+      let all = ends_step q.world n (start_state story typed) (opening.at_first program starts code false story is dice typed) (record { end = ends.Quit; state = f.0 }) (opening.first_step program starts code false story is dice typed) f.2 in
       record {
         printed = ap (λ (z : ZState). z.output) e;
         count = suc n;

@@ -1,8 +1,16 @@
 pub mod CountLemmas
 pub mod RefusalLemmas
+pub mod WorldLemmas
+pub mod NoneKept
 pub mod Numbered
+pub mod Worlds
+pub mod Rows
+pub mod Begun
 pub mod Mapped
-pub mod Zeros
+pub mod Worded
+pub mod Capturing
+pub mod Spelled
+pub mod Memory
 pub mod Opening
 pub mod Starting
 pub mod Keeping

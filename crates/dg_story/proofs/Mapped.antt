@@ -1,5 +1,5 @@
 -- Where what may be written ends in a built story, and where its routines are.
-use Rattle.std.proofs.Common.{◌≡◌, ℕ, ◌+◌, ◌<◌, List, [], ◌∷◌, ◌++◌, length, map, replicate, Bool, true, Some, inl, ⊎_elim, ap, ◌∙◌, subst, arith, length-append}
+use Rattle.std.proofs.Common.{◌≡◌, ℕ, ◌+◌, ◌<◌, List, ◌++◌, length, map, replicate, Bool, true, Some, inl, ⊎_elim, ◌∙◌, arith, length-append}
 use Rattle.std.specs.List.{slice_get}
 use Rattle.std.proofs.lemmas.Bool.{cases_lt}
 use Rattle.std.proofs.lemmas.List.{length-replicate}
@@ -13,18 +13,20 @@ use Rattle.z_asm.specs.Story.{routines_from, image_end, IsTooLarge}
 use Rattle.z_asm.proofs.Layouts.{packed_below}
 use Rattle.z_story.specs.Parts.{image_of}
 use Rattle.z_story.specs.Does as does
-use Rattle.dg_rt.specs.RunTime.{runtime, HasRunTime}
+use Rattle.dg_rt.specs.RunTime.{HasRunTime}
 use Rattle.dg_emit.specs.Code.{code_routines}
 use Rattle.dg_emit.specs.Story.{first_number, story_routines}
-use Rattle.dg_story.specs.Built.{story_tables, story_parts, IsStoryOf}
+use Rattle.dg_story.specs.Built.{story_tables, site_words, story_parts, IsStoryOf}
 use Rattle.dg_story.proofs.Numbered.{runtime_has, code_has}
+use Rattle.dg_story.proofs.Rows.{behind_areas}
 
 -- so many zeros
 abbrev pub zeros : ℕ → List ℕ
 zeros n = replicate n 0
 
-pub long : (n : ℕ) → length (zeros n ++ []) ≡ n
-long n = omega (arith, length-append (zeros n) [], length-replicate {A = ℕ} n 0)
+-- the areas and what stands behind them
+pub long : (n : ℕ) (behind : List ℕ) → length (zeros n ++ behind) ≡ n + length behind
+long n behind = omega (arith, length-append (zeros n) behind, length-replicate {A = ℕ} n 0)
 
 module _ (program : CoreProgram) (code : Code) (keeps : Bool) (story : List ℕ) (is : IsStoryOf (story_parts program code keeps) story) (dice : List ℕ) where
   abbrev pub p : Program
@@ -33,10 +35,10 @@ module _ (program : CoreProgram) (code : Code) (keeps : Bool) (story : List ℕ)
   abbrev image : Image
   image = image_of (story_parts program code keeps)
 
-  pub base_is : p.world.layout.base ≡ 28694
+  pub base_is : p.world.layout.base ≡ 31954 + length (behind_areas program (site_words code))
   base_is =
-      let written : length (table_bytes true (story_tables program.closures)) ≡ 28024 = long 28024 in
-      is.assembled.header.base ∙ ap (λ (n : ℕ). 670 + n) written
+      let written : length (table_bytes true (story_tables program code)) ≡ 31284 + length (behind_areas program (site_words code)) = long 31284 (behind_areas program (site_words code)) in
+      is.assembled.header.base ∙ (omega (arith, written))
 
   pub globals_are : p.world.layout.globals ≡ 64
   globals_are = is.assembled.header.globals_is

@@ -1,5 +1,5 @@
 -- The beginning of a story's run: its first three instructions set two registers and come to where one routine after another is called.
-use Rattle.std.proofs.Common.{◌≡◌, ℕ, ◌+◌, ◌*◌, ◌<◌, ◌≤◌, List, [], drop, Bool, true, Some, refl, sym, ap, ◌∙◌, subst, arith}
+use Rattle.std.proofs.Common.{◌≡◌, ℕ, ◌+◌, ◌*◌, ◌<◌, ◌≤◌, List, [], drop, Bool, true, Some, refl, sym, ap, subst, arith}
 use Rattle.dg_base.specs.declared.program.CoreProgram.{CoreProgram}
 use Rattle.dg_mid.specs.declared.code.Code.{Code}
 use Rattle.z_model.specs.Run.{ZState, zstep}
@@ -25,11 +25,12 @@ use Rattle.dg_rt.proofs.Following.{copies, puts}
 use Rattle.dg_turn.specs.Plays.{turn_acts}
 use Rattle.dg_emit.specs.Numbers.{numbers_from, block_number}
 use Rattle.dg_emit.specs.Story.{start_acts, first_number}
-use Rattle.dg_story.specs.Built.{story_parts, IsStoryOf}
+use Rattle.dg_story.specs.Built.{site_words, story_parts, IsStoryOf}
 use Rattle.dg_story.proofs.Mapped.{p, routine_is, base_is}
-use Rattle.dg_story.proofs.Zeros.{memory_is, starts_holding}
+use Rattle.dg_story.proofs.Memory.{memory_is, starts_holding}
+use Rattle.dg_story.proofs.Rows.{start_words, StartsFit}
 
-module _ (program : CoreProgram) (code : Code) (keeps : Bool) (story : List ℕ) (is : IsStoryOf (story_parts program code keeps) story) (dice typed : List ℕ) where
+module _ (program : CoreProgram) (starts : StartsFit program) (code : Code) (keeps : Bool) (story : List ℕ) (is : IsStoryOf (story_parts program code keeps) story) (dice typed : List ℕ) where
   abbrev q : Program
   q = p program code keeps story is dice
 
@@ -51,7 +52,7 @@ module _ (program : CoreProgram) (code : Code) (keeps : Bool) (story : List ℕ)
   first_there = routine_is program code keeps story is dice 0 first refl
 
   pub starts_kept : IsKept q.world.layout.base story (memory_of story)
-  starts_kept = ap (λ (l : List ℕ). drop q.world.layout.base l) (memory_is program code keeps story is dice)
+  starts_kept = ap (λ (l : List ℕ). drop q.world.layout.base l) (memory_is program starts code keeps story is dice)
 
   abbrev pub at_first : ZState
   at_first = state_at (state (memory_of story) [] typed 0 []) c (8 * q.names.routine 0 + 1)
@@ -77,13 +78,13 @@ module _ (program : CoreProgram) (code : Code) (keeps : Bool) (story : List ℕ)
 
 -- ## Where it goes on
 
-module _ (program : CoreProgram) (code : Code) (story : List ℕ) (is : IsStoryOf (story_parts program code true) story) (dice typed : List ℕ) (words : (k : ℕ) → (p program code true story is dice).names.routine k < 65536) where
+module _ (program : CoreProgram) (starts : StartsFit program) (code : Code) (story : List ℕ) (is : IsStoryOf (story_parts program code true) story) (dice typed : List ℕ) (words : (k : ℕ) → (p program code true story is dice).names.routine k < 65536) where
   abbrev r : Program
   r = p program code true story is dice
 
   -- the address of the routine that asks the entry
   abbrev pub asked : ℕ
-  asked = r.names.routine (entry program code true story is dice typed)
+  asked = r.names.routine (entry program starts code true story is dice typed)
 
   abbrev marked : List ℕ
   marked = with_cell (memory_of story) 2 32768
@@ -93,7 +94,7 @@ module _ (program : CoreProgram) (code : Code) (story : List ℕ) (is : IsStoryO
   begun = with_cell marked 0 asked
 
   abbrev pub begun_words : ℕ → ℕ
-  begun_words = replaced (replaced (λ k. 0) 2 32768) 0 asked
+  begun_words = replaced (replaced (start_words program (site_words code)) 2 32768) 0 asked
 
   abbrev before : State
   before = state (memory_of story) [] typed 0 []
@@ -105,7 +106,7 @@ module _ (program : CoreProgram) (code : Code) (story : List ℕ) (is : IsStoryO
   behind = state begun [] typed 0 []
 
   abbrev acts : List Act
-  acts = (first program code true story is dice typed).body
+  acts = (first program starts code true story is dice typed).body
 
   record Begins : Type 0 where
     sets : ActsRun r 8 100 acts acts before (Rests turn_acts) behind 2
@@ -114,12 +115,12 @@ module _ (program : CoreProgram) (code : Code) (story : List ℕ) (is : IsStoryO
   begins_so : Begins
   begins_so =
       let base = base_is program code true story is dice in
-      let mark = puts r before (λ k. 0) 18 32768 (starts_holding program code true story is dice) (omega arith) (omega arith) (omega arith) (omega arith) in
-      let next = puts r between (replaced (λ k. 0) 2 32768) 16 asked mark.holds (omega arith) (omega arith) (omega arith) (words (entry program code true story is dice typed)) in
+      let mark = puts r before (start_words program (site_words code)) 18 32768 (starts_holding program starts code true story is dice) (omega arith) (omega arith) (omega arith) (omega arith) in
+      let next = puts r between (replaced (start_words program (site_words code)) 2 32768) 16 asked mark.holds (omega arith) (omega arith) (omega arith) (words (entry program starts code true story is dice typed)) in
       record {
         sets =
             done (copies r before between 18 (atoms.Num 32768) 32768 refl mark.put_is)
-            (done (copies r between behind 16 (atoms.Routine (entry program code true story is dice typed)) asked refl next.put_is)
+            (done (copies r between behind 16 (atoms.Routine (entry program starts code true story is dice typed)) asked refl next.put_is)
             rests);
         holds = next.holds;
       }
@@ -127,20 +128,20 @@ module _ (program : CoreProgram) (code : Code) (story : List ℕ) (is : IsStoryO
   pub holding : Holds r.world.layout begun begun_words
   holding = begins_so.holds
 
-  pub follows : Follows r story (labels program code true story is dice typed) (c program code true story is dice typed) (Rests turn_acts) behind 2 (at_first program code true story is dice typed)
-  follows = first_follows program code true story is dice typed 8 100 2 (omega arith) (omega arith) (Rests turn_acts) behind begins_so.sets
+  pub follows : Follows r story (labels program starts code true story is dice typed) (c program starts code true story is dice typed) (Rests turn_acts) behind 2 (at_first program starts code true story is dice typed)
+  follows = first_follows program starts code true story is dice typed 8 100 2 (omega arith) (omega arith) (Rests turn_acts) behind begins_so.sets
 
   -- where one routine after another is called
   abbrev pub pc : ℕ
   pc = follows.comes.pc
 
-  pub placed : OpsAt story r.names (labels program code true story is dice typed) pc (code_of turn_acts)
+  pub placed : OpsAt story r.names (labels program starts code true story is dice typed) pc (code_of turn_acts)
   placed = follows.comes.placed
 
   pub from : r.world.layout.base ≤ pc
   from = follows.comes.from
 
   -- The run comes to it with three instructions, and the entry is asked next.
-  pub opens : Leads r.world 3 (start_state story typed) (state_at behind (c program code true story is dice typed) pc)
+  pub opens : Leads r.world 3 (start_state story typed) (state_at behind (c program starts code true story is dice typed) pc)
   opens =
-      leads_step r.world 2 (start_state story typed) (at_first program code true story is dice typed) (state_at behind (c program code true story is dice typed) pc) (first_step program code true story is dice typed) follows.comes.leads
+      leads_step r.world 2 (start_state story typed) (at_first program starts code true story is dice typed) (state_at behind (c program starts code true story is dice typed) pc) (first_step program starts code true story is dice typed) follows.comes.leads

@@ -1,10 +1,10 @@
 -- A story is played, and comes to the start of its code.
-use Rattle.std.proofs.Common.{◌≡◌, ℕ, ◌+◌, ◌<◌, ◌≤◌, List, [], length, Bool, true, Option, Some, None, refl, sym, arith}
-use Rattle.std.specs.List.{slice_get}
+use Rattle.std.proofs.Common.{◌≡◌, ℕ, ◌<◌, List, [], length, true, Option, Some, None, refl, sym, ◌∙◌, arith}
 use Rattle.std.proofs.Math.Nat.{zero-mod}
+use Rattle.std.proofs.lemmas.Bool.{leb-true}
 use Rattle.dg_base.specs.declared.program.CoreProgram.{CoreProgram}
 use Rattle.dg_meaning.specs.Values.{Value}
-use Rattle.dg_meaning.specs.Cells.{captured_count}
+use Rattle.dg_meaning.specs.Facts.{start_facts, kinds_of, kept_size}
 use Rattle.dg_meaning.specs.Render.{render}
 use Rattle.dg_meaning.specs.Transcript.{start_world}
 use Rattle.dg_mid.specs.declared.code.Code.{Code}
@@ -14,39 +14,48 @@ use Rattle.dg_mid.specs.Reads.{lasting_of}
 use Rattle.z_model.specs.Story.{start_state}
 use Rattle.z_lang.specs.Standing.{state_at}
 use Rattle.dg_rt.specs.Areas.{state}
+use Rattle.dg_rt.specs.Cells.{replaced}
 use Rattle.dg_rt.specs.Shapes.{Shape, IsShape}
-use Rattle.dg_turn.specs.Told.{Telling}
+use Rattle.dg_rt.proofs.Cells.{other_cell}
+use Rattle.dg_turn.specs.Told.{Telling, told_count}
 use Rattle.dg_turn.specs.Lies.{MidIn, StateIn}
 use Rattle.dg_turn.specs.Plays.{Playing, Outside, Represented}
+use Rattle.dg_turn.specs.Sites.{sites_of, SitesIn, AreSites, HasSites}
+use Rattle.dg_turn.specs.World.{FactsIn, HasWorld}
+use Rattle.dg_turn.proofs.Places.{facts_same}
+use Rattle.dg_turn.proofs.Sites.{sites_start}
 use Rattle.dg_chain.specs.Steps.{Starts}
 use Rattle.dg_chain.specs.Routines.{BlocksAt}
-use Rattle.dg_chain.specs.Stands.{Printed, Stands}
+use Rattle.dg_chain.specs.Stands.{Lasts, Printed, Stands}
 use Rattle.dg_chain.specs.Whole.{story_setting}
 use Rattle.dg_emit.specs.Numbers.{numbers_from, block_number}
 use Rattle.dg_emit.specs.Story.{first_number}
-use Rattle.dg_story.specs.Built.{story_parts, IsStoryOf}
-use Rattle.dg_story.proofs.Mapped.{p, has}
+use Rattle.dg_story.specs.Built.{site_words, story_parts, keeps_within, IsStoryOf}
+use Rattle.dg_story.proofs.Mapped.{p, has, base_is}
+use Rattle.dg_story.proofs.Memory.{near}
+use Rattle.dg_story.proofs.Rows.{start_words, behind_long, zeros_behind, StartsFit, facts_start}
 use Rattle.dg_story.proofs.Opening as opening
 
-module _ (program : CoreProgram) (code : Code) (story : List ℕ) (is : IsStoryOf (story_parts program code true) story) (dice typed : List ℕ) (words : (k : ℕ) → (p program code true story is dice).names.routine k < 65536) where
+module _ (program : CoreProgram) (starts : StartsFit program) (code : Code) (story : List ℕ) (is : IsStoryOf (story_parts program code true) story) (dice typed : List ℕ) (words : (k : ℕ) → (p program code true story is dice).names.routine k < 65536) (kept : keeps_within program ≡ true) where
   -- What stays the same while the story is played.
   abbrev pub t : Telling
   t = record {
     program = program;
+    sites = sites_of code.blocks;
     p = p program code true story is dice;
     at_block = λ b. (p program code true story is dice).names.routine (block_number (numbers_from first_number code) b);
     story = story;
-    context = opening.c program code true story is dice typed;
-    pc = opening.pc program code story is dice typed words;
+    context = opening.c program starts code true story is dice typed;
+    pc = opening.pc program starts code story is dice typed words;
   }
 
   pub plays : Playing t
   plays = record {
-    labels = opening.labels program code true story is dice typed;
+    labels = opening.labels program starts code true story is dice typed;
     stands = is.does.stands dice;
-    placed = opening.placed program code story is dice typed words;
-    from = opening.from program code story is dice typed words;
-    room = opening.room program code true story is dice typed;
+    placed = opening.placed program starts code story is dice typed words;
+    from = opening.from program starts code story is dice typed words;
+    room = opening.room program starts code true story is dice typed;
     has = has program code true story is dice;
     words = words;
   }
@@ -55,7 +64,7 @@ module _ (program : CoreProgram) (code : Code) (story : List ℕ) (is : IsStoryO
 
   -- nothing is taken yet
   abbrev none : Shape
-  none = record { top = 0; vars = 0; place = λ n. 0; fixed = λ k. 0; box = λ k. None; captures = λ place. captured_count (slice_get program.closures place) }
+  none = record { top = 0; vars = 0; place = λ n. 0; fixed = λ k. 0; box = λ k. None; captures = told_count program }
 
   no_box : (v : Value) → ◌≡◌ {A = Option Value} None (Some v) → ⊥
   no_box v e = cc
@@ -84,7 +93,7 @@ module _ (program : CoreProgram) (code : Code) (story : List ℕ) (is : IsStoryO
   }
 
   abbrev cells : ℕ → ℕ
-  cells = opening.begun_words program code story is dice typed words
+  cells = opening.begun_words program starts code story is dice typed words
 
   state_in : StateIn t none cells [] machine.state
   state_in = record {
@@ -123,17 +132,50 @@ module _ (program : CoreProgram) (code : Code) (story : List ℕ) (is : IsStoryO
   abbrev out : Outside
   out = record { output = []; typed = typed; drawn = 0; words = cells }
 
+  -- the world lies in memory as it starts
+  facts_here : FactsIn program (start_facts program.places) cells
+  facts_here =
+      let asked = opening.asked program starts code story is dice typed words in
+      let first = start_words program (site_words code) in
+      let marked = replaced first 2 32768 in
+      facts_same program (start_facts program.places) first cells
+      (λ k le. other_cell marked 0 asked k (λ (q : k ≡ 0). (omega arith)) ∙ other_cell first 2 32768 k (λ (q : k ≡ 2). (omega arith)))
+      (facts_start program starts (site_words code))
+
+  -- nothing is kept of selects
+  sites_here : SitesIn t machine.lasting.sites cells
+  sites_here =
+      let asked = opening.asked program starts code story is dice typed words in
+      let first = start_words program (site_words code) in
+      let marked = replaced first 2 32768 in
+      sites_start t cells (λ k le. other_cell marked 0 asked k (λ (q : k ≡ 0). (omega arith)) ∙ other_cell first 2 32768 k (λ (q : k ≡ 2). (omega arith)) ∙ zeros_behind program (site_words code) k le)
+
+  lasts : Lasts t machine.lasting out
+  lasts = record { drawn = sym (zero-mod (length dice)); typed = refl; facts = facts_here; keeps = leb-true (kept_size (kinds_of program) (start_facts program.places)) 500 kept; sites = sites_here }
+
   printed : Printed t [] machine.lasting
   unfolding render
-  printed = record { out = out; written = refl; meets = record { last = refl; lines = refl; spaces = refl; asked = refl; upper = refl }; drawn = sym (zero-mod (length dice)) }
+  printed = record { out = out; written = refl; meets = record { last = refl; lines = refl; spaces = refl; asked = refl; upper = refl }; lasts = lasts }
 
-  represents : Represented t out (opening.asked program code story is dice typed words) machine (state_at (state (opening.begun program code story is dice typed words) [] typed 0 []) t.context t.pc)
+  -- The world may be written.
+  pub world : HasWorld t
+  world = record { few = starts.few; room = (let base = base_is program code true story is dice in omega (arith, behind_long program (site_words code))) }
+
+  -- So may what is kept of selects.
+  pub has_sites : AreSites program (sites_of code.blocks) → HasSites t
+  has_sites are =
+      let base = base_is program code true story is dice in
+      let long = behind_long program (site_words code) in
+      let near = near program starts code true story is dice in
+      record { are = are; room = omega arith; near = omega arith }
+
+  represents : Represented t out (opening.asked program starts code story is dice typed words) machine (state_at (state (opening.begun program starts code story is dice typed words) [] typed 0 []) t.context t.pc)
   represents = record {
-    memory = opening.begun program code story is dice typed words;
+    memory = opening.begun program starts code story is dice typed words;
     is = refl;
-    kept = (opening.follows program code story is dice typed words).kept;
+    kept = (opening.follows program starts code story is dice typed words).kept;
     cells = cells;
-    holds = opening.holding program code story is dice typed words;
+    holds = opening.holding program starts code story is dice typed words;
     next_is = refl;
     sh = none;
     trail = [];
@@ -141,13 +183,13 @@ module _ (program : CoreProgram) (code : Code) (story : List ℕ) (is : IsStoryO
   }
 
   -- The story comes to the start of its code.
-  pub starts : BlocksAt t code → Starts t.p.world (story_setting t code t.p.world.dice) (Stands t code) typed (start_state story typed)
+  pub started : BlocksAt t code → Starts t.p.world (story_setting t code t.p.world.dice) (Stands t code) typed (start_state story typed)
   unfolding printed
-  starts blocks = record {
+  started blocks = record {
     count = 3;
     few = omega arith;
-    there = state_at (state (opening.begun program code story is dice typed words) [] typed 0 []) t.context t.pc;
-    leads = opening.opens program code story is dice typed words;
-    stands = record { printed = printed; at = record { x = opening.asked program code story is dice typed words; rep = represents; ops_are = blocks.each 1 } };
+    there = state_at (state (opening.begun program starts code story is dice typed words) [] typed 0 []) t.context t.pc;
+    leads = opening.opens program starts code story is dice typed words;
+    stands = record { printed = printed; at = record { x = opening.asked program starts code story is dice typed words; rep = represents; ops_are = blocks.each 1 } };
     printed = refl;
   }

@@ -1,5 +1,5 @@
 -- What is built of a program: the story of its code. Hold it against dg_rt/specs/Areas.antt, which says where what lies in memory.
-use Rattle.std.specs.Prelude.{◌≡◌, ℕ, ◌<◌, ◌+◌, ◌-◌, ◌⊎◌, List, [], ◌∷◌, length, map, replicate, nat_le, Bool, true, false}
+use Rattle.std.specs.Prelude.{◌≡◌, ℕ, zero, suc, ◌<◌, ◌+◌, ◌-◌, ◌/◌, ◌%◌, ◌⊎◌, List, [], ◌∷◌, ◌++◌, length, map, replicate, nat_le, Bool, true, false}
 use Rattle.dg_base.specs.declared.program.ClosureBody.{ClosureBody}
 use Rattle.dg_base.specs.declared.program.CoreProgram.{CoreProgram}
 use Rattle.dg_base.specs.declared.program.Pred.{Pred}
@@ -13,9 +13,12 @@ use Rattle.z_asm.specs.Story as image
 use Rattle.z_story.specs.declared.building.Parts.{Parts}
 use Rattle.z_story.specs.Parts.{image_of}
 use Rattle.z_story.specs.Does.{StoryDoes}
+use Rattle.dg_rt.specs.Areas.{fixed_end}
 use Rattle.dg_rt.specs.Cells.{at_cell}
-use Rattle.dg_turn.specs.Rest.{aux_end}
-use Rattle.dg_emit.specs.Numbers.{number_behind}
+use Rattle.dg_rt.specs.Words.{words_table}
+use Rattle.dg_turn.specs.Sites.{sites_of}
+use Rattle.dg_turn.specs.Starts.{words_from, bytes_from}
+use Rattle.dg_emit.specs.Numbers.{numbers_end}
 use Rattle.dg_emit.specs.Story.{first_number}
 use Rattle.dg_fits.specs.Laws.{parts_with}
 use Rattle.dg_story.specs.declared.building.Built.{Built}
@@ -29,27 +32,63 @@ use Rattle.dg_story.specs.declared.refusal.BuildRefusal.TheVariants.{StoryTooLar
 abbrev pub captures_table : List ClosureBody → Table
 captures_table closures = record { bytes = map (λ (c : ClosureBody). length c.captured) closures; writable = false }
 
+-- The words of a program.
+abbrev pub words_part : List (List ℕ) → Table
+words_part words = record { bytes = words_table words; writable = false }
+
 -- So many zeros may be written.
 abbrev pub zeros_table : ℕ → Table
 zeros_table size = record { bytes = replicate size 0; writable = true }
 
--- The heap, the trail and what is gathered stand first behind the registers and the object table.
+-- The areas that every story has stand first behind the registers and the object table.
 abbrev pub areas_table : Table
-areas_table = zeros_table (at_cell aux_end - image.tables_from)
+areas_table = zeros_table (at_cell fixed_end - image.tables_from)
 
-abbrev pub story_tables : List ClosureBody → List Table
-story_tables closures = captures_table closures ∷ areas_table ∷ []
+-- Words, in two bytes each.
+abbrev pub word_bytes : List ℕ → List ℕ
+word_bytes [] = []
+word_bytes (w ∷ ws) = w / 256 ∷ w % 256 ∷ word_bytes ws
+
+-- What starts set in the world: words, and then a byte for each flag of an object, filled up to a whole word.
+abbrev pub world_table : CoreProgram → Table
+world_table program =
+    let objects = length program.objects in
+    let facts = start_facts program.places in
+    let flags = bytes_from objects facts 0 (kinds_of program) in
+    record { bytes = word_bytes (words_from objects facts 0 (kinds_of program)) ++ (flags ++ replicate (length flags % 2) 0); writable = true }
+
+-- So many words of zero.
+abbrev pub zero_words : ℕ → List ℕ
+zero_words zero = []
+zero_words (suc n) = 0 ∷ 0 ∷ zero_words n
+
+-- There is a word for each select, and one more.
+abbrev pub site_words : Code → ℕ
+site_words code = 1 + length (sites_of code.blocks)
+
+-- Nothing is kept of selects where a story starts.
+abbrev pub sites_table : Code → Table
+sites_table code = record { bytes = zero_words (site_words code); writable = true }
+
+-- The tables of a program: the world lies behind the areas.
+abbrev pub program_tables : CoreProgram → List Table
+program_tables program = captures_table program.closures ∷ words_part program.words ∷ areas_table ∷ world_table program ∷ []
+
+-- What is kept of selects lies behind the world.
+abbrev pub story_tables : CoreProgram → Code → List Table
+story_tables program code = program_tables program ++ sites_table code ∷ []
 
 -- The parts of the story of a program's code. What starts keep is within its limit, or the run ends at once.
 abbrev pub story_parts : CoreProgram → Code → Bool → Parts
-story_parts program code keeps = parts_with (story_tables program.closures) program code keeps
+story_parts program code keeps = parts_with (story_tables program code) program code keeps
 
 -- ## The story
 
--- The story of parts: its bytes are theirs, each routine stands in it and does what its acts mean, and the player takes it.
+-- The story of parts, which aren't too large: its bytes are theirs, each routine stands in it and does what its acts mean, and the player takes it.
 pub record IsStoryOf (parts : Parts) (story : List ℕ) : Type 0 where
   pub bytes : story ≡ image.story_of (image_of parts)
   pub assembled : IsAssembled (image_of parts) story
+  pub small : image.IsTooLarge (image_of parts) → ⊥
   pub does : StoryDoes parts story
 
 -- The story is too large.
@@ -58,7 +97,7 @@ too_large = Refused StoryTooLarge
 
 -- Code has no story of these parts: it has more routines than there are numbers, or they take more bytes than a story may have.
 abbrev pub HasNoStory : Code → Parts → Type 0
-HasNoStory code parts = (65535 < number_behind first_number code) ⊎ image.IsTooLarge (image_of parts)
+HasNoStory code parts = (65535 < numbers_end first_number code) ⊎ image.IsTooLarge (image_of parts)
 
 -- What starts keep is within the limit of a story.
 abbrev pub keeps_within : CoreProgram → Bool

@@ -1,22 +1,26 @@
 // The story of a program.
-ghost use Rattle.std.specs.Prelude.{◌≡◌, ◌<◌, ◌≤◌, None, All, IfOk, IsErrOf, length};
+ghost use Rattle.std.specs.Prelude.{◌≡◌, ◌<◌, ◌≤◌, ◌++◌, ◌∷◌, [], None, All, IfOk, OnOk, IsErrOf, length};
 ghost use Rattle.dg_base.specs.Sound.{IsSound};
 ghost use Rattle.dg_base.specs.declared.program.ClosureBody.{ClosureBody as TheClosure};
 ghost use Rattle.dg_meaning.specs.Few.{AllHoldFew, HeadsAreFew};
 ghost use Rattle.dg_chain.specs.Agrees.{Agrees};
 ghost use Rattle.dg_emit.specs.Code.{CodeFits};
-ghost use Rattle.dg_emit.specs.Numbers.{number_behind};
+ghost use Rattle.dg_emit.specs.Numbers.{numbers_end};
 ghost use Rattle.dg_emit.specs.Story.{first_number, story_routines};
+ghost use Rattle.dg_fits.specs.Sizes.{words_size};
 ghost use Rattle.z_asm.specs.Story.{IsTooLarge};
 ghost use Rattle.z_story.specs.Parts.{AreParts, image_of};
 ghost use Rattle.dg_story.specs.Refusals.{build_refusal};
 ghost use Rattle.dg_story.specs.Built as spec;
 ghost use Rattle.dg_story.specs.inside.Left.{IsLeftOf, parts_left};
+ghost use Rattle.dg_story.specs.inside.World.{AllAreSmall};
 
 use crate::laws::{programs_have_stories, stories_agree};
 use crate::refusal::{BuildFault, BuildRefusal};
+use crate::words::words_part;
+use crate::world::world_table;
 use dg_base::{ClosureBody, CoreProgram, Items, Pred};
-use dg_emit::{NumberFault, captures_of, routines_alike};
+use dg_emit::{NumberFault, outline_of, routines_alike, sites_of};
 use dg_mid::{Code, let_go, to_mid};
 use dg_world::World;
 use std::alloc::{AllocError, Global};
@@ -34,8 +38,8 @@ pub struct Built {
 /// The cells that what starts keep may have.
 const KEEP: u32 = 500;
 
-/// The bytes of the heap, the trail and what is gathered.
-const AREAS: usize = 28_024;
+/// The bytes of the areas that every story has, behind the registers and the object table.
+const AREAS: usize = 31_284;
 
 // How many values each closure captures, a byte each.
 fn captures_table(alloc: Global, closures: &[ClosureBody]) -> Result<Table, AllocError>
@@ -69,13 +73,41 @@ fn areas_table(alloc: Global) -> Result<Table, AllocError>
     zeros_table(alloc, AREAS)
 }
 
-fn tables_of(alloc: Global, closures: &[ClosureBody]) -> Result<Items<Table>, AllocError>
-    requires { All (λ (c : TheClosure). length c.captured ≤ 255) closures.now }
-    ensures { IfOk result (λ tables. tables ≡ spec.story_tables closures.now) }
+// A word of zero.
+fn put_zero(bytes: &mut Items<u8>) -> Result<(), AllocError>
+    ensures { OnOk result (bytes.new ≡ bytes.old ++ 0 ∷ 0 ∷ []) }
+{
+    bytes.push(0)?;
+    bytes.push(0)
+}
+
+// What is kept of selects, and a word more.
+fn sites_table(alloc: Global, code: &Code) -> Result<Table, AllocError>
+    ensures { IfOk result (λ table. table ≡ spec.sites_table code.now) }
+{
+    let sites = sites_of(alloc, code.blocks.as_slice())?;
+    let mut bytes = Items::new(alloc);
+    put_zero(&mut bytes)?;
+    for _site in sites.as_slice() {
+        put_zero(&mut bytes)?;
+    }
+    Ok(Table {
+        bytes,
+        writable: true,
+    })
+}
+
+fn tables_of(alloc: Global, program: &CoreProgram) -> Result<Items<Table>, AllocError>
+    requires sound { IsSound program.now }
+    requires starts { AllAreSmall program.now.places }
+    requires few { words_size program.now.words ≤ 20000 }
+    ensures { IfOk result (λ tables. tables ≡ spec.program_tables program.now) }
 {
     let mut tables = Items::new(alloc);
-    tables.push(captures_table(alloc, closures)?)?;
+    tables.push(captures_table(alloc, program.closures.as_slice())?)?;
+    tables.push(words_part(alloc, program.words.as_slice())?)?;
     tables.push(areas_table(alloc)?)?;
+    tables.push(world_table(alloc, program)?)?;
     Ok(tables)
 }
 
@@ -87,7 +119,7 @@ fn routines_of(
 ) -> Result<Items<Routine>, BuildFault>
     requires { CodeFits program.now code.now }
     ensures ok { IfOk result (λ routines. routines ≡ story_routines program.now code.now keeps) }
-    ensures many { IsErrOf result spec.too_large → 65535 < number_behind first_number code.now }
+    ensures many { IsErrOf result spec.too_large → 65535 < numbers_end first_number code.now }
 {
     match dg_emit::story_routines(alloc, program, code, keeps) {
         Ok(routines) => Ok(routines),
@@ -117,33 +149,37 @@ fn keeps_within(alloc: Global, program: &CoreProgram) -> Result<bool, AllocError
     World::starts_within(alloc, program.places.as_slice(), objects, KEEP)
 }
 
-/// What a story takes of a program beside its code: its tables, what closures capture, and whether what starts keep is within its limit.
+/// What a story takes of a program beside its code: its tables, its outline, and whether what starts keep is within its limit.
 #[derive(Drop)]
 pub struct Left {
     pub tables: Items<Table>,
-    pub captures: CoreProgram,
+    pub outline: CoreProgram,
     pub keeps: bool,
 }
 
 fn left_of(alloc: Global, program: &CoreProgram) -> Result<Left, AllocError>
-    requires { IsSound program.now }
+    requires sound { IsSound program.now }
+    requires starts { AllAreSmall program.now.places }
+    requires few { words_size program.now.words ≤ 20000 }
     ensures { IfOk result (λ left. IsLeftOf program.now left) }
 {
     Ok(Left {
-        tables: tables_of(alloc, program.closures.as_slice())?,
-        captures: captures_of(alloc, program)?,
+        tables: tables_of(alloc, program)?,
+        outline: outline_of(alloc, program)?,
         keeps: keeps_within(alloc, program)?,
     })
 }
 
 fn parts_of(alloc: Global, left: Left, code: &Code) -> Result<Parts, BuildFault>
-    requires { CodeFits left.captures code.now }
+    requires { CodeFits left.outline code.now }
     ensures ok { IfOk result (λ parts. parts ≡ parts_left left code.now) }
-    ensures many { IsErrOf result spec.too_large → 65535 < number_behind first_number code.now }
+    ensures many { IsErrOf result spec.too_large → 65535 < numbers_end first_number code.now }
 {
-    let routines = routines_of(alloc, &left.captures, code, left.keeps)?;
+    let routines = routines_of(alloc, &left.outline, code, left.keeps)?;
+    let mut tables = left.tables;
+    tables.push(sites_table(alloc, code)?)?;
     Ok(Parts {
-        tables: left.tables,
+        tables,
         strings: Items::new(alloc),
         routines,
     })
@@ -151,7 +187,7 @@ fn parts_of(alloc: Global, left: Left, code: &Code) -> Result<Parts, BuildFault>
 
 // The story of these tables and of the routines of some code.
 fn story_with(alloc: Global, left: Left, code: &Code) -> Result<Vec<u8>, BuildFault>
-    requires fits { CodeFits left.captures code.now }
+    requires fits { CodeFits left.outline code.now }
     requires parts { AreParts (parts_left left code.now) }
     ensures ok { IfOk result (λ story. spec.IsStoryOf (parts_left left code.now) story.items) }
     ensures large { IsErrOf result spec.too_large → spec.HasNoStory code.now (parts_left left code.now) }

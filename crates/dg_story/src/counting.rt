@@ -2,7 +2,6 @@
 ghost use Rattle.std.specs.Prelude.{◌≡◌, ◌<◌, ◌≤◌, ◌+◌, ◌*◌, [], ◌∷◌, length, nat_le, OnOk, IfOk, IsErrOf};
 ghost use Rattle.dg_base.specs.declared.program.Goal.{out-Goal};
 ghost use Rattle.dg_base.specs.Goals.{terms_held, option_terms};
-ghost use Rattle.dg_base.specs.Terms.{nodes};
 ghost use Rattle.dg_meaning.specs.Render.{characters};
 ghost use Rattle.dg_fits.specs.Sizes as spec;
 ghost use Rattle.dg_story.specs.inside.Counting.{part_size, left_size, lists_size, whole_size, Counted, Lacks};
@@ -25,6 +24,14 @@ const STORY: usize = 440_000;
 const NODE: usize = 100;
 
 const CHARACTER: usize = 6;
+
+/// What a closure counts, and how much more than others a term that is one.
+const CLOSURE: usize = 55;
+
+const CLOSURE_TERM: usize = 45;
+
+/// What a query of the world counts more for each of its terms.
+const QUERY_TERM: usize = 15;
 
 fn place_size(kind: PlaceKind, objects: u64) -> u64
     requires { objects ≤ 65535 }
@@ -124,8 +131,8 @@ impl<'p> Count<'p> {
     }
 
     fn add_two(&mut self, a: &'p Term, b: &'p Term) -> Result<(), Lack>
-        ensures counted { OnOk result (Counted (100 * length (nodes a.now) + 100 * length (nodes b.now)) self.old self.new) }
-        ensures lacks { IsErrOf result Room → Lacks (100 * length (nodes a.now) + 100 * length (nodes b.now)) self.old }
+        ensures counted { OnOk result (Counted (spec.term_size a.now + spec.term_size b.now) self.old self.new) }
+        ensures lacks { IsErrOf result Room → Lacks (spec.term_size a.now + spec.term_size b.now) self.old }
     {
         self.add(Left::Term(a))?;
         self.add(Left::Term(b))
@@ -192,6 +199,29 @@ impl<'p> Count<'p> {
         }
     }
 
+    // Counts what the terms of a query of the world count more than others.
+    fn take_terms(&mut self, terms: &'p [Term]) -> Result<(), Lack>
+        ensures counted { OnOk result (Counted (15 * length terms.now) self.old self.new) }
+        ensures lacks { IsErrOf result Room → Lacks (15 * length terms.now) self.old }
+    {
+        for _term in terms {
+            self.take(QUERY_TERM)?;
+        }
+        Ok(())
+    }
+
+    // Counts what a query of the world counts more than other goals.
+    fn take_query(&mut self, goal: &'p Goal) -> Result<(), Lack>
+        ensures counted { OnOk result (Counted (spec.query_size (out-Goal goal.now)) self.old self.new) }
+        ensures lacks { IsErrOf result Room → Lacks (spec.query_size (out-Goal goal.now)) self.old }
+    {
+        match goal {
+            Goal::Holds(_, terms, _) => self.take_terms(terms.as_slice()),
+            Goal::IsObject(_, _) => self.take(QUERY_TERM),
+            _ => Ok(()),
+        }
+    }
+
     // Adds the lists of goals that a goal holds.
     fn add_inner(&mut self, goal: &'p Goal) -> Result<(), Lack>
         ensures counted { OnOk result (Counted (lists_size (spec.lists_held (out-Goal goal.now))) self.old self.new) }
@@ -220,6 +250,7 @@ impl<'p> Count<'p> {
         if let Goal::Text(name) = goal {
             self.take_name(name.as_slice())?;
         }
+        self.take_query(goal)?;
         self.add_held(goal)?;
         self.add_inner(goal)
     }
@@ -239,12 +270,13 @@ impl<'p> Count<'p> {
 
     // Counts a node, and adds what it holds.
     fn term(&mut self, term: &'p Term) -> Result<(), Lack>
-        ensures counted { OnOk result (Counted (100 * length (nodes term.now)) self.old self.new) }
-        ensures lacks { IsErrOf result Room → Lacks (100 * length (nodes term.now)) self.old }
+        ensures counted { OnOk result (Counted (spec.term_size term.now) self.old self.new) }
+        ensures lacks { IsErrOf result Room → Lacks (spec.term_size term.now) self.old }
     {
         self.take(NODE)?;
         match term {
             Term::Pair(head, tail) => self.add_two(head.get(), tail.get()),
+            Term::Closure(_) => self.take(CLOSURE_TERM),
             _ => Ok(()),
         }
     }
@@ -316,7 +348,7 @@ impl<'p> Count<'p> {
         ensures lacks { IsErrOf result Room → Lacks (spec.closures_size closures.now) self.old }
     {
         for closure in closures {
-            self.take(NODE)?;
+            self.take(CLOSURE)?;
             self.add(Left::Goals(closure.body.as_slice()))?;
             self.clear()?;
         }

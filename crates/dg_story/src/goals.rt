@@ -10,7 +10,7 @@ ghost use Rattle.dg_laid.specs.Goals as spec;
 ghost use Rattle.dg_story.specs.Refusals as refusals;
 ghost use Rattle.dg_story.specs.inside.Lacking.{lacking_of, lacking_in, all_lacking, lacking_left, is_lacking};
 
-use dg_base::{ClosureBody, CoreProgram, Goal, Items, Pred, Rule};
+use dg_base::{ClosureBody, CoreProgram, Goal, Items, Place, PlaceKind, Pred, Rule};
 use std::alloc::{AllocError, Global};
 
 // Whether a goal by itself has routines.
@@ -18,13 +18,15 @@ fn has_routines(goal: &Goal) -> bool
     ensures { result ≡ spec.has_routines (out-Goal goal.now) }
 {
     match goal {
-        Goal::Text(_) | Goal::Gap(_) | Goal::GapN(_) => true,
+        Goal::Text(_) | Goal::Print(_) | Goal::Gap(_) | Goal::GapN(_) => true,
         Goal::Equal(_, _) | Goal::Test(_, _) | Goal::Compare(_, _, _) => true,
-        Goal::Arith(_, _, _, _) | Goal::Random(_, _, _) => true,
-        Goal::Ask(_, _, _) | Goal::Query(_, _, _) => true,
+        Goal::Arith(_, _, _, _) | Goal::Random(_, _, _) | Goal::Input(_) => true,
+        Goal::Ask(_, _, _) | Goal::Query(_, _, _) | Goal::Now(_, _, _) => true,
+        Goal::Holds(_, _, _) | Goal::IsObject(_, _) => true,
         Goal::Just | Goal::Fail | Goal::Stop | Goal::Quit | Goal::Forever => true,
         Goal::Either(_) | Goal::Once(_) | Goal::Not(_) | Goal::If(_, _, _) => true,
-        Goal::Exhaust(_) | Goal::Stoppable(_) => true,
+        Goal::Exhaust(_) | Goal::Stoppable(_) | Goal::Select(_, _, _) => true,
+        Goal::Collect(_, _, _) | Goal::Accumulate(_, _, _) => true,
         _ => false,
     }
 }
@@ -145,12 +147,34 @@ fn all_built(alloc: Global, program: &CoreProgram) -> Result<bool, AllocError>
     closures_have(alloc, program.closures.as_slice())
 }
 
-/// Whether a program has no closures, and routines for each of its goals.
+// Whether a place is no global variable, or starts unset.
+fn is_unset(place: &Place) -> bool
+    ensures { result ≡ refusals.is_unset place.now.kind place.now.start }
+{
+    match (place.kind, place.start.as_slice()) {
+        (PlaceKind::Global, [_, ..]) => false,
+        _ => true,
+    }
+}
+
+// Whether no global variable starts with a value.
+fn globals_unset(places: &[Place]) -> bool
+    ensures { result ≡ refusals.globals_unset places.now }
+{
+    for place in places {
+        if !is_unset(place) {
+            return false;
+        }
+    }
+    true
+}
+
+/// Whether no global variable of a program starts with a value, and each of its goals has routines.
 pub fn can_be_built(alloc: Global, program: &CoreProgram) -> Result<bool, AllocError>
     ensures { IfOk result (λ built. built ≡ refusals.can_be_built program.now) }
 {
-    match program.closures.as_slice() {
-        [] => all_built(alloc, program),
-        [_, ..] => Ok(false),
+    if !globals_unset(program.places.as_slice()) {
+        return Ok(false);
     }
+    all_built(alloc, program)
 }

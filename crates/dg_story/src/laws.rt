@@ -3,7 +3,7 @@ ghost use Rattle.dg_story.specs.inside.Stories.{StoriesAgree, ProgramsHaveStorie
 
 use dg_chain::code_fits;
 use dg_fits::{codes_suit, routines_fit, stories_fit};
-use dg_laid::{blocks_stand, goals_suit};
+use dg_laid::{blocks_stand, goals_suit, sites_suit};
 use dg_mid::{
     calls_cut_where_they_go_on, calls_fit_their_rules, code_costs_its_work, code_moves_on,
     code_runs_as_searched, heights_order_places, runs_meet_no_step_limit, trails_order_places,
@@ -33,6 +33,7 @@ pub fn stories_agree()
     code_fits();
     blocks_stand();
     goals_suit();
+    sites_suit();
     stories_fit();
     codes_suit();
     routines_fit();

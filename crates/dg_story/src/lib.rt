@@ -7,6 +7,8 @@ mod goals;
 mod laws;
 mod refusal;
 mod refused;
+mod words;
+mod world;
 
 pub use building::{Built, build_story};
 pub use refusal::{BuildFault, BuildRefusal};

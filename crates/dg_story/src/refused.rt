@@ -9,13 +9,16 @@ use crate::refusal::{BuildFault, BuildRefusal, Lack};
 use dg_base::CoreProgram;
 use std::alloc::Global;
 
+/// How many closures a program may have: as many as count no more than the whole may.
+const CLOSURES: usize = 2_200;
+
 fn refused(refusal: BuildRefusal) -> BuildFault
     ensures { result ≡ BuildFault.Refused refusal }
 {
     BuildFault::Refused(refusal)
 }
 
-/// Refuses a program that has no story: it has a closure, or a goal without routines, or its world, its words or the whole of it are too large.
+/// Refuses a program that has no story: a global variable starts with a value, it has a goal without routines, or its world, its words or the whole of it are too large.
 pub fn check(alloc: Global, program: &CoreProgram) -> Result<(), BuildFault>
     requires { IsSound program.now }
     ensures fits { IfOk result (λ _. build_refusal program.now ≡ None) }
@@ -29,6 +32,9 @@ pub fn check(alloc: Global, program: &CoreProgram) -> Result<(), BuildFault>
     }
     if !words_fit(program.words.as_slice()) {
         return Err(refused(BuildRefusal::WordsTooLarge));
+    }
+    if program.closures.len() > CLOSURES {
+        return Err(refused(BuildRefusal::StoryTooLarge));
     }
     match check_story(alloc, program) {
         Ok(()) => Ok(()),

@@ -6,6 +6,7 @@ use Rattle.dg_meaning.specs.Few.{AllHoldFew, HeadsAreFew}
 use Rattle.dg_mid.specs.declared.code.Code.{Code}
 use Rattle.dg_mid.specs.Codes.{Codes}
 use Rattle.dg_mid.specs.Potential.{Tidy}
+use Rattle.dg_mid.specs.Seeking.{BlocksLeave}
 use Rattle.dg_mid.specs.Weights.{Weights, IsLight}
 use Rattle.z_story.specs.Parts.{AreParts}
 use Rattle.dg_chain.specs.Agrees.{Agrees}
@@ -21,6 +22,7 @@ pub record IsWritten (program : CoreProgram) (code : Code) : Type 0 where
   pub fits : build_refusal program ≡ None
   pub codes : Codes program code
   pub tidy : Tidy code
+  pub leaves : BlocksLeave code
   pub light : (w : Weights) → IsLight w program code
 
 -- Its story agrees with it.

@@ -1,12 +1,13 @@
 use Rattle.std.proofs.Common.{◌≡◌, ℕ, IfOk, Result, Ok, Err, Vec, Global, ap, sym, ◌∙◌, subst, arith}
-use Rattle.dg_story.specs.Built.{story_parts, keeps_within, IsStoryOf, rule_count, too_large}
+use Rattle.dg_story.specs.Built.{IsStoryOf, rule_count, too_large}
 use Rattle.dg_story.specs.declared.building.Built.{Built}
 use Rattle.dg_story.specs.declared.refusal.BuildFault.{BuildFault}
 use Rattle.dg_story.specs.declared.refusal.BuildFault.TheVariants.{OutOfMemory}
 use Rattle.dg_story.specs.inside.Left.{parts_left}
-use Rattle.dg_story.specs.inside.Stories.{IsWritten, HasStory}
+use Rattle.dg_story.specs.inside.Stories.{IsWritten}
+use Rattle.dg_story.proofs.Begun.{all_small}
 use Rattle.dg_story.proofs.Alone.{code_fits, parts_fit, none_large, story_is}
-use Rattle.dg_story.proofs.RefusalLemmas.{rules_few}
+use Rattle.dg_story.proofs.RefusalLemmas.{rules_few, words_fit}
 use Rattle.dg_story.proofs.building.build_story.Goals as goal
 use Rattle.dg_story.proofs.building.build_story.Goals.{in-Ok, in-Err}
 
@@ -25,17 +26,23 @@ other_fault fault e f = cc
 never : (story : Vec ℕ Global) (fault : BuildFault) → ◌≡◌ {A = Result (Vec ℕ Global) BuildFault} (Ok story) (Err fault) → ⊥
 never story fault e = cc
 
+pub left_of-left-requires-clause-starts : goal.left_of-left-requires-clause-starts
+left_of-left-requires-clause-starts c = all_small c.args.program c.requires.sound c.requires.fits
+
+pub left_of-left-requires-clause-few : goal.left_of-left-requires-clause-few
+left_of-left-requires-clause-few c = words_fit c.args.program c.requires.fits
+
 pub rule_count-rule_routines-requires : goal.rule_count-rule_routines-requires
 rule_count-rule_routines-requires c = omega (arith, ap rule_count c.as_slice.ensures, rules_few c.args.program c.requires.fits)
 
 pub story_with-story-requires-clause-fits : goal.story_with-story-requires-clause-fits
 story_with-story-requires-clause-fits c =
-    let written : IsWritten c.args.program c.in_ok-code.code = record { sound = c.requires.sound; goals = c.requires.goals; heads = c.requires.heads; fits = c.requires.fits; codes = c.in_ok-code.ensures.codes; tidy = c.in_ok-code.ensures.tidy; light = c.in_ok-code.ensures.light } in
+    let written : IsWritten c.args.program c.in_ok-code.code = record { sound = c.requires.sound; goals = c.requires.goals; heads = c.requires.heads; fits = c.requires.fits; codes = c.in_ok-code.ensures.codes; tidy = c.in_ok-code.ensures.tidy; leaves = c.in_ok-code.ensures.leave; light = c.in_ok-code.ensures.light } in
     code_fits c.routines_alike.ensures c.args.program c.in_ok-code.code c.in-Ok.left c.in-Ok.ensures (c.programs_have_stories.ensures c.args.program c.in_ok-code.code written)
 
 pub story_with-story-requires-clause-parts : goal.story_with-story-requires-clause-parts
 story_with-story-requires-clause-parts c =
-    let written : IsWritten c.args.program c.in_ok-code.code = record { sound = c.requires.sound; goals = c.requires.goals; heads = c.requires.heads; fits = c.requires.fits; codes = c.in_ok-code.ensures.codes; tidy = c.in_ok-code.ensures.tidy; light = c.in_ok-code.ensures.light } in
+    let written : IsWritten c.args.program c.in_ok-code.code = record { sound = c.requires.sound; goals = c.requires.goals; heads = c.requires.heads; fits = c.requires.fits; codes = c.in_ok-code.ensures.codes; tidy = c.in_ok-code.ensures.tidy; leaves = c.in_ok-code.ensures.leave; light = c.in_ok-code.ensures.light } in
     parts_fit c.routines_alike.ensures c.args.program c.in_ok-code.code c.in-Ok.left c.in-Ok.ensures (c.programs_have_stories.ensures c.args.program c.in_ok-code.code written)
 
 pub returns-in-Ok-story-clause-built : goal.returns-in-Ok-story-clause-built
@@ -55,7 +62,7 @@ returns-in-Ok-story-clause-built c =
 
 pub returns-in-Ok-story-clause-agrees : goal.returns-in-Ok-story-clause-agrees
 returns-in-Ok-story-clause-agrees c =
-    let written : IsWritten c.args.program c.in_ok-code.code = record { sound = c.requires.sound; goals = c.requires.goals; heads = c.requires.heads; fits = c.requires.fits; codes = c.in_ok-code.ensures.codes; tidy = c.in_ok-code.ensures.tidy; light = c.in_ok-code.ensures.light } in
+    let written : IsWritten c.args.program c.in_ok-code.code = record { sound = c.requires.sound; goals = c.requires.goals; heads = c.requires.heads; fits = c.requires.fits; codes = c.in_ok-code.ensures.codes; tidy = c.in_ok-code.ensures.tidy; leaves = c.in_ok-code.ensures.leave; light = c.in_ok-code.ensures.light } in
     elim c.match-left-2.branch [
       | in-Ok w ↦
           c.stories_agree.ensures c.args.program c.in_ok-code.code written c.in-Ok-story.story.items
@@ -66,7 +73,7 @@ returns-in-Ok-story-clause-agrees c =
 
 pub returns-in-Err-story-clause-fits : goal.returns-in-Err-story-clause-fits
 returns-in-Err-story-clause-fits c e =
-    let written : IsWritten c.args.program c.in_ok-code.code = record { sound = c.requires.sound; goals = c.requires.goals; heads = c.requires.heads; fits = c.requires.fits; codes = c.in_ok-code.ensures.codes; tidy = c.in_ok-code.ensures.tidy; light = c.in_ok-code.ensures.light } in
+    let written : IsWritten c.args.program c.in_ok-code.code = record { sound = c.requires.sound; goals = c.requires.goals; heads = c.requires.heads; fits = c.requires.fits; codes = c.in_ok-code.ensures.codes; tidy = c.in_ok-code.ensures.tidy; leaves = c.in_ok-code.ensures.leave; light = c.in_ok-code.ensures.light } in
     let f = same_fault c.in-Err-story.fault e in
     elim c.match-left-2.branch [
       | in-Ok w ↦
