@@ -9,6 +9,9 @@ use std::test::Fail;
 pub const USAGE: &str =
     "usage: dialog debug FILE, build FILE OUT, play STORY, run FILE, singles FILE, make N\n";
 
+// The status of a source that has no story yet.
+const NOT_BUILT: u8 = 7;
+
 pub fn words(alloc: Global, line: &str) -> Result<Vec<String>, Fail> {
     let mut words = Vec::new(alloc);
     for word in line.split_whitespace() {
@@ -64,17 +67,17 @@ pub fn story_of(rt: &impl Abort, alloc: Global, source: &str) -> Result<Vec<u8>,
 
 // A case of a table: the words, the source p.dg, what is typed, the status, and what is written.
 #[derive(Clone, Copy)]
-struct Case<'a> {
-    line: &'a str,
-    source: &'a str,
-    typed: &'a str,
-    status: u8,
-    text: &'a str,
+pub struct Case<'a> {
+    pub line: &'a str,
+    pub source: &'a str,
+    pub typed: &'a str,
+    pub status: u8,
+    pub text: &'a str,
 }
 
 // The case that stands behind `>>> `: the words to the end of the line, and the source from the next one; behind a line `<<<` what
 // is typed, if anything is; and behind `=== ` the status to the end of the line, and from the next one what is written.
-fn case_of(text: &str) -> Option<Case<'_>> {
+pub fn case_of(text: &str) -> Option<Case<'_>> {
     let (given, written) = text.split_once("\n=== ")?;
     let (given, typed) = given.split_once("\n<<<\n").unwrap_or((given, ""));
     let (line, source) = given.split_once('\n')?;
@@ -101,4 +104,38 @@ fn play(rt: &impl Abort, alloc: Global, case: &Case<'_>) -> Result<(), Fail> {
     let (source, typed) = (case.source.as_bytes(), case.typed.as_bytes());
     let wanted = (case.status, case.text);
     gives(rt, alloc, case.line, "p.dg", source, typed, wanted)
+}
+
+// Runs the story of a case, and compares what it writes with what the source does. Answers whether there is a story, within its limits.
+fn run(rt: &impl Abort, alloc: Global, case: &Case<'_>) -> Result<bool, Fail> {
+    let words = words(alloc, "run p.dg --steps 20000000")?;
+    let mut input = SureSource::new(case.typed.as_bytes().to_vec(alloc)?);
+    let mut shelf = SureShelf::new(alloc);
+    shelf.add("p.dg", case.source.as_bytes())?;
+    let mut out = SureSink::new(alloc, 4000)?;
+    let status = tool(alloc, &words, &mut shelf, &mut input, &mut out, &[0]);
+    if status == NOT_BUILT || out.taken().ends_with(b" limit]\n") {
+        return Ok(false);
+    }
+    let found = (status, out.taken());
+    same(
+        rt,
+        &found,
+        &(case.status, case.text.as_bytes()),
+        case.source,
+    );
+    Ok(true)
+}
+
+// The cases of a table that plain `debug` runs, as stories; at least so many have one.
+pub fn run_all(rt: &impl Abort, alloc: Global, table: &str, least: usize) -> Result<(), Fail> {
+    let mut stories = 0_usize;
+    for text in table.split(">>> ").skip(1) {
+        let case = case_of(text).expect(rt, text);
+        if case.line == "debug p.dg" && case.status == 0 && run(rt, alloc, &case)? {
+            stories = stories.saturating_add(1);
+        }
+    }
+    same(rt, &(least <= stories), &true, "stories of a table");
+    Ok(())
 }

@@ -95,6 +95,23 @@ fn a_story_that_is_not_stored_is_named(rt: HostRuntime) -> Result<(), Fail> {
     answers(&rt, alloc, line, &mut shelf, &mut input, 99, wanted)
 }
 
+// Calls that fail at the output, and what is written where a source isn't there.
+const MISSING: &[(&[u64], &str)] = &[(&[], "q.dg: file fault\n"), (&[0], "")];
+
+#[test]
+fn a_source_that_is_not_there_is_named(rt: HostRuntime) -> Result<(), Fail> {
+    let alloc = rt.alloc();
+    let words = words(alloc, "debug q.dg")?;
+    for (fail_at, text) in MISSING {
+        let mut shelf = MapShelf::new(alloc, Vec::new(alloc));
+        let mut input = failing_input(alloc)?;
+        let mut out = ByteSink::new(alloc, 99, fail_at.to_vec(alloc)?)?;
+        let status = tool(alloc, &words, &mut shelf, &mut input, &mut out, &[0]);
+        same(&rt, &(status, out.taken()), &(5, text.as_bytes()), text);
+    }
+    Ok(())
+}
+
 const BYTES: &[Option<u8>] = &[Some(b'a'), Some(0), Some(b'b'), None];
 
 #[test]

@@ -102,15 +102,11 @@ p.dg:1: bad head
 === 1
 p.dg:1: unclosed construct
 >>> build p.dg p.z8
-(p 1)
-(p 2)
-(program entry point) { (p $X) $X (fail) (or) done }
+(program entry point) (split word @cat into $X) $X
 === 7
 p.dg: not built yet
 >>> run p.dg
-(p 1)
-(p 2)
-(program entry point) { (p $X) $X (fail) (or) done }
+(program entry point) (join words [@cat @s] into $X) $X
 === 7
 p.dg: not built yet
 >>> run p.dg

@@ -27,11 +27,11 @@ fn routine_of(alloc: Global, body: &[Act]) -> Result<Routine, AllocError>
     Ok(Routine { locals: 0, body })
 }
 
-// The heap and the trail in front of the routines: one to begin with, those of the run-time, and one to go on with.
+// The heap and the trail, and no words, in front of the routines: one to begin with, those of the run-time, and one to go on with.
 fn parts_of(alloc: Global, main: &[Act], next: &[Act]) -> Result<Parts, AllocError>
-    requires main { AreFit (record { routines = 85; tables = 1; texts = 0 }) (ops_of_acts main.now) main.now }
+    requires main { AreFit (record { routines = 125; tables = 2; texts = 0 }) (ops_of_acts main.now) main.now }
     requires main_short { body_bytes main.now < 8000 }
-    requires next { AreFit (record { routines = 85; tables = 1; texts = 0 }) (ops_of_acts next.now) next.now }
+    requires next { AreFit (record { routines = 125; tables = 2; texts = 0 }) (ops_of_acts next.now) next.now }
     requires next_short { body_bytes next.now < 8000 }
     ensures { IfOk result (λ parts. AreParts parts) }
 {
@@ -41,6 +41,11 @@ fn parts_of(alloc: Global, main: &[Act], next: &[Act]) -> Result<Parts, AllocErr
     tables.push(Table {
         bytes: Items::from_vec(areas),
         writable: true,
+    })?;
+    let words = Items::new(alloc);
+    tables.push(Table {
+        bytes: words,
+        writable: false,
     })?;
     let mut routines = Items::new(alloc);
     routines.push(routine_of(alloc, main)?)?;
@@ -62,9 +67,9 @@ fn printed(
     next: &[Act],
     text: &str,
 ) -> Result<(), Fail>
-    requires main { AreFit (record { routines = 85; tables = 1; texts = 0 }) (ops_of_acts main.now) main.now }
+    requires main { AreFit (record { routines = 125; tables = 2; texts = 0 }) (ops_of_acts main.now) main.now }
     requires main_short { body_bytes main.now < 8000 }
-    requires next { AreFit (record { routines = 85; tables = 1; texts = 0 }) (ops_of_acts next.now) next.now }
+    requires next { AreFit (record { routines = 125; tables = 2; texts = 0 }) (ops_of_acts next.now) next.now }
     requires next_short { body_bytes next.now < 8000 }
 {
     let parts = parts_of(alloc, main, next)?;
@@ -101,7 +106,7 @@ macro_rules! unify {
 }
 
 // The routine behind those of the run-time.
-const NEXT: u16 = 84;
+const NEXT: u16 = 124;
 
 const A: u16 = 16_384;
 

@@ -1,6 +1,6 @@
 // Sources and what they print, worked out by hand from the rules of the language. A row is written as calls.rt says. Those on what the
 // world keeps and what is gathered stand in worlds.rt.
-use crate::calls::play_all;
+use crate::calls::{play_all, run_all};
 use std::test::Fail;
 
 const SOURCES: &str = r#"
@@ -269,4 +269,9 @@ single (program entry point)
 #[test]
 fn sources_give_their_transcript(rt: HostRuntime) -> Result<(), Fail> {
     play_all(&rt, rt.alloc(), SOURCES)
+}
+
+#[test]
+fn stories_give_the_transcript_of_their_source(rt: HostRuntime) -> Result<(), Fail> {
+    run_all(&rt, rt.alloc(), SOURCES, 20)
 }

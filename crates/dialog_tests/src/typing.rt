@@ -1,5 +1,5 @@
 // Sources that read what is typed. A row is written as calls.rt says.
-use crate::calls::{gives, play_all};
+use crate::calls::{gives, play_all, run_all};
 use std::test::Fail;
 
 const TYPED: &str = r#"
@@ -71,7 +71,7 @@ a12 n
 "#;
 
 // A game, in which the world changes and its rules are asked for what was typed.
-const GAME: &str = r##"
+pub const GAME: &str = r##"
 >>> debug p.dg
 (global variable (here #hall))
 (global variable (turns 0))
@@ -176,6 +176,11 @@ const BYTES: &[(&[u8], &str)] = &[
 fn typed_lines_are_read(rt: HostRuntime) -> Result<(), Fail> {
     play_all(&rt, rt.alloc(), TYPED)?;
     play_all(&rt, rt.alloc(), GAME)
+}
+
+#[test]
+fn stories_read_typed_lines(rt: HostRuntime) -> Result<(), Fail> {
+    run_all(&rt, rt.alloc(), TYPED, 3)
 }
 
 #[test]

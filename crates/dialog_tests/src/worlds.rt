@@ -1,5 +1,5 @@
 // Sources on what the world keeps and what is gathered, and what they print, worked out by hand. A row is written as calls.rt says.
-use crate::calls::play_all;
+use crate::calls::{play_all, run_all};
 use std::test::Fail;
 
 const WORLDS: &str = r#"
@@ -157,4 +157,9 @@ x
 #[test]
 fn worlds_give_their_transcript(rt: HostRuntime) -> Result<(), Fail> {
     play_all(&rt, rt.alloc(), WORLDS)
+}
+
+#[test]
+fn stories_have_the_world_of_their_source(rt: HostRuntime) -> Result<(), Fail> {
+    run_all(&rt, rt.alloc(), WORLDS, 10)
 }
