@@ -32,5 +32,7 @@ pub mod Gatherings
 pub mod Picks
 pub mod Dictionary
 pub mod Typing
+pub mod Making
+pub mod Splits
 pub mod Fits
 pub mod inside

@@ -29,6 +29,7 @@ use Rattle.dg_rt.specs.declared.gathering.TheConstants.{OPEN_GATHERING_ACTS, KEE
 use Rattle.dg_rt.specs.declared.picks.TheConstants.{PICK_STOPPING_ACTS, PICK_CYCLING_ACTS, PICK_PURELY_ACTS, PICK_AT_RANDOM_ACTS, PICK_THEN_AT_RANDOM_ACTS, PICK_THEN_PURELY_ACTS}
 use Rattle.dg_rt.specs.declared.dictionary.TheConstants.{WORD_LETTER_ACTS, NEXT_LETTER_ACTS, SAME_WORD_ACTS, FIND_WORD_ACTS}
 use Rattle.dg_rt.specs.declared.typing.TheConstants.{UNICODE_ACTS, READ_LINE_ACTS, SPELLED_NUMBER_ACTS, SPELLED_ACTS, LETTER_KIND_ACTS, ELEMENT_ACTS, LINE_CELLS_ACTS, WRITTEN_VALUE_ACTS, BREAK_LINE_ACTS}
+use Rattle.dg_rt.specs.declared.splitting.TheConstants.{LETTER_ON_ACTS, SPLIT_NUMBER_ACTS, SPLIT_LETTERS_ACTS, SPLIT_SPELLING_ACTS, SPLIT_ACTS, MADE_ACTS}
 use Rattle.dg_rt.specs.Areas.{IsMapped}
 
 -- A routine of so many locals.
@@ -161,13 +162,20 @@ typing_routines =
     ∷ routine_of 1 LETTER_KIND_ACTS ∷ routine_of 3 ELEMENT_ACTS ∷ routine_of 5 LINE_CELLS_ACTS ∷ routine_of 2 WRITTEN_VALUE_ACTS
     ∷ routine_of 0 BREAK_LINE_ACTS ∷ []
 
+-- Those that split words.
+abbrev pub splitting_routines : List Routine
+splitting_routines =
+    routine_of 5 LETTER_ON_ACTS ∷ routine_of 3 SPLIT_NUMBER_ACTS ∷ routine_of 4 SPLIT_LETTERS_ACTS ∷ routine_of 4 SPLIT_SPELLING_ACTS
+    ∷ routine_of 2 SPLIT_ACTS ∷ routine_of 1 MADE_ACTS ∷ []
+
 -- All of them. The first has number 1, since a story begins with routine 0.
 abbrev pub runtime : List Routine
 runtime =
     value_routines ++ (closing_routines ++ (frame_routines ++ (rule_routines ++ (query_routines ++ (operand_routines ++ (world_routines
     ++ (printing_routines ++ (keeping_routines ++ (letter_routines ++ (space_routines ++ (condition_routines ++ (arithmetic_routines
     ++ (value_printing_routines ++ (change_routines ++ (reading_routines ++ (spelling_routines ++ (closure_routines ++ (trying_routines
-    ++ (kept_routines ++ (gathering_routines ++ (pick_routines ++ (dictionary_routines ++ (typing_routines)))))))))))))))))))))))
+    ++ (kept_routines ++ (gathering_routines ++ (pick_routines ++ (dictionary_routines ++ (typing_routines
+    ++ (splitting_routines))))))))))))))))))))))))
 
 -- The run-time stands in a program: its areas may be written, and each routine has its number.
 pub record HasRunTime (p : Program) : Type 0 where

@@ -1,7 +1,9 @@
 // What the routines of goals do: each function's clause is a law.
 ghost use Rattle.dg_rt.specs.Gatherings.{GatherWorks, KeepWorks, ListWorks, SumWorks};
 ghost use Rattle.dg_rt.specs.Kept.{KeptWork};
+ghost use Rattle.dg_rt.specs.Making.{MadeWorks};
 ghost use Rattle.dg_rt.specs.Picks.{PicksWork};
+ghost use Rattle.dg_rt.specs.Splits.{SplitWorks};
 ghost use Rattle.dg_rt.specs.Tries.{TriesWork};
 ghost use Rattle.dg_rt.specs.Typing.{BreakWorks, LineCellsWork, LinesWork, WrittenWorks};
 ghost use Rattle.dg_rt.specs.Words.{WordsWork};
@@ -64,4 +66,14 @@ pub fn written_works()
 /// The routine that breaks the text does so.
 pub fn break_works()
     ensures { BreakWorks }
+{}
+
+/// The routine that splits words does so, or meets the heap's limit.
+pub fn split_works()
+    ensures { SplitWorks }
+{}
+
+/// The routine that says whether a value was made does so.
+pub fn made_works()
+    ensures { MadeWorks }
 {}

@@ -28,6 +28,7 @@ pub mod registers;
 mod routines;
 mod rules;
 pub mod spelling;
+mod splitting;
 pub mod tries;
 mod typing;
 mod unify;
@@ -43,7 +44,7 @@ pub use copies::{COPY_IN_ACTS, COPY_OUT_ACTS};
 pub use frames::{CAPTURE_ACTS, ENTER_ACTS, VAR_ACTS};
 pub use goals::{
     break_works, gather_works, keep_works, kept_work, line_cells_work, lines_work, list_works,
-    picks_work, sum_works, tries_work, words_work, written_works,
+    made_works, picks_work, split_works, sum_works, tries_work, words_work, written_works,
 };
 pub use heap::CHARGE_ACTS;
 pub use keeping::{CELLS_ACTS, MOVE_ACTS};

@@ -368,3 +368,21 @@ pub const WRITTEN_VALUE: u16 = 122;
 
 /// What a line that was read leaves of the gap before the next piece.
 pub const BREAK_LINE: u16 = 123;
+
+/// Lays what a letter spells in front of a list.
+pub const LETTER_ON: u16 = 124;
+
+/// Lays the list of the digits of a number.
+pub const SPLIT_NUMBER: u16 = 125;
+
+/// Lays the list of the letters of an unknown word.
+pub const SPLIT_LETTERS: u16 = 126;
+
+/// Lays the list of the letters of a word of the program.
+pub const SPLIT_SPELLING: u16 = 127;
+
+/// Splits a word or number into its letters.
+pub const SPLIT: u16 = 128;
+
+/// Whether a value was made of letters.
+pub const MADE: u16 = 129;

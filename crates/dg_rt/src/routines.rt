@@ -2,6 +2,8 @@
 ghost use Rattle.std.specs.Prelude.{◌≡◌, ◌∷◌, ◌++◌, [], IfOk, OnOk};
 ghost use Rattle.dg_rt.specs.RunTime as spec;
 
+mod splitting;
+
 use crate::arithmetic::DIVIDE_ACTS;
 use crate::arithmetic::MINUS_ACTS;
 use crate::arithmetic::MODULO_ACTS;
@@ -471,5 +473,6 @@ pub fn runtime(alloc: Global) -> Result<Items<Routine>, AllocError>
     writer.put_picks()?;
     writer.put_dictionary()?;
     writer.put_typing()?;
+    writer.put_splitting()?;
     Ok(writer.all)
 }
