@@ -113,3 +113,5 @@ pub mod ReadingLines
 pub mod WrittenValues
 pub mod LineValues
 pub mod BreakingLines
+pub mod Made
+pub mod SplitLists

@@ -23,7 +23,7 @@ module _ (captures : ℕ → ℕ) (words : List (List ℕ)) (few : length words 
   abbrev IsOne : List ℕ → Value → Type 0
   IsOne letters v = IsSmall captures v (3 + 3 * length letters) 1 (1 + length letters)
 
-  one_value : (letters : List ℕ) → ArePrinted letters → IsOne letters (spelled_value words letters)
+  pub one_value : (letters : List ℕ) → ArePrinted letters → IsOne letters (spelled_value words letters)
   one_value letters fine = by_number (numbered letters) (short_cells words letters)
     where
       by_look : (v : Value) → length (words_of v) ≤ 1 + length letters → Looked letters v → IsOne letters v
