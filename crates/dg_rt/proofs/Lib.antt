@@ -115,3 +115,9 @@ pub mod LineValues
 pub mod BreakingLines
 pub mod Made
 pub mod SplitLists
+pub mod LetterOn
+pub mod SplitNumbers
+pub mod SplitLetters
+pub mod SpellingsBack
+pub mod SplitSpellings
+pub mod SplitWords

@@ -1,8 +1,9 @@
 -- The list of what letters spell, each by itself; and letters in the order from the last one on.
-use Rattle.std.proofs.Common.{◌≡◌, ℕ, zero, suc, ◌+◌, ◌*◌, ◌≤◌, List, [], ◌∷◌, ◌++◌, length, refl, ◌∙◌, arith, append-nil}
+use Rattle.std.proofs.Common.{◌≡◌, ℕ, zero, suc, ◌+◌, ◌*◌, ◌≤◌, List, [], ◌∷◌, ◌++◌, length, refl, ◌∙◌, subst, arith, append-nil}
 use Rattle.dg_meaning.specs.Copies.{vars_in, copy_cells}
 use Rattle.dg_meaning.specs.Values.{Value}
 use Rattle.dg_meaning.specs.Words.{each_alone, spelled_list}
+use Rattle.dg_rt.specs.Copies.{Row}
 use Rattle.dg_rt.specs.Laying.{Formed}
 use Rattle.dg_rt.specs.Shapes.{ArePrinted}
 use Rattle.dg_rt.proofs.LineValues.{one_value}
@@ -22,7 +23,7 @@ pub turned_back : (xs : List ℕ) → onto (onto xs []) [] ≡ xs
 turned_back xs = onto_onto xs [] [] ∙ append-nil xs
 
 pub onto_length : (xs ys : List ℕ) → length (onto xs ys) ≡ length xs + length ys
-onto_length [] ys = refl
+onto_length [] ys = omega arith
 onto_length (x ∷ xs) ys = onto_length xs (x ∷ ys) ∙ omega arith
 
 -- ## The list
@@ -49,3 +50,21 @@ module _ (captures : ℕ → ℕ) (words : List (List ℕ)) (few : length words 
       let a = (one_value captures words few (c ∷ []) (fine.0, tt)).free in
       let b = alone_free cs fine.1 in
       omega arith
+
+pub printed_onto : (xs ys : List ℕ) → ArePrinted xs → ArePrinted ys → ArePrinted (onto xs ys)
+printed_onto [] ys fine fine' = fine'
+printed_onto (x ∷ xs) ys fine fine' = printed_onto xs (x ∷ ys) fine.1 (fine.0, fine')
+
+-- ## Where they stand
+
+-- Letters that are given from the last one on stand in a row from a place on.
+abbrev pub Below : (ℕ → ℕ) → ℕ → List ℕ → Type 0
+Below at j [] = Unit {0}
+Below at j (c ∷ cs) = (at (j + length cs) ≡ c) × Below at j cs
+
+pub below_row : (at : ℕ → ℕ) (j : ℕ) (xs ys : List ℕ) → Row at j (onto xs ys) → Below at j xs × Row at (j + length xs) ys
+below_row at j [] ys h = let e : j ≡ j + 0 = omega arith in (tt, subst (λ (i : ℕ). Row at i ys) e h)
+below_row at j (x ∷ xs) ys h =
+    let r = below_row at j xs (x ∷ ys) h in
+    let e : suc (j + length xs) ≡ j + length (x ∷ xs) = omega arith in
+    ((r.1.0, r.0), subst (λ (i : ℕ). Row at i ys) e r.1.1)

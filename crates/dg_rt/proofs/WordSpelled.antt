@@ -49,7 +49,7 @@ behind_words [] n le = refl
 behind_words (w ∷ ws) zero le = absurd (omega (arith, le))
 behind_words (w ∷ ws) (suc n) le = behind_words ws n (omega arith)
 
-character : (c : ℕ) → IsPrintable c → is_character c ≡ true
+pub character : (c : ℕ) → IsPrintable c → is_character c ≡ true
 character c is =
     elim (scalar_cases c is.scalar) [
       | inl l ↦ (let from = is.from in rw (lt-ltb 31 c (omega arith), ne_eqb c 127 is.no_delete, le-ltb 55295 c (omega arith)) refl)

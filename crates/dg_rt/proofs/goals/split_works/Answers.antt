@@ -1,5 +1,5 @@
-use Rattle.dg_rt.proofs.Splitting as splitting
+use Rattle.dg_rt.proofs.SplitWords as splits
 use Rattle.dg_rt.proofs.goals.split_works.Goals as goal
 
 pub returns : goal.returns
-returns c = splitting.split_works
+returns c = splits.split_works
