@@ -34,5 +34,6 @@ pub mod Dictionary
 pub mod Typing
 pub mod Making
 pub mod Splits
+pub mod Joins
 pub mod Fits
 pub mod inside

@@ -1,5 +1,6 @@
 // What the routines of goals do: each function's clause is a law.
 ghost use Rattle.dg_rt.specs.Gatherings.{GatherWorks, KeepWorks, ListWorks, SumWorks};
+ghost use Rattle.dg_rt.specs.Joins.{JoinWorks};
 ghost use Rattle.dg_rt.specs.Kept.{KeptWork};
 ghost use Rattle.dg_rt.specs.Making.{MadeWorks};
 ghost use Rattle.dg_rt.specs.Picks.{PicksWork};
@@ -76,4 +77,9 @@ pub fn split_works()
 /// The routine that says whether a value was made does so.
 pub fn made_works()
     ensures { MadeWorks }
+{}
+
+/// The routine that joins words does so, or meets the heap's limit.
+pub fn join_works()
+    ensures { JoinWorks }
 {}

@@ -15,6 +15,7 @@ pub mod gaps;
 pub mod gathering;
 mod goals;
 mod heap;
+mod joining;
 mod keeping;
 pub mod kept;
 mod laws;
@@ -43,8 +44,9 @@ pub use closings::{
 pub use copies::{COPY_IN_ACTS, COPY_OUT_ACTS};
 pub use frames::{CAPTURE_ACTS, ENTER_ACTS, VAR_ACTS};
 pub use goals::{
-    break_works, gather_works, keep_works, kept_work, line_cells_work, lines_work, list_works,
-    made_works, picks_work, split_works, sum_works, tries_work, words_work, written_works,
+    break_works, gather_works, join_works, keep_works, kept_work, line_cells_work, lines_work,
+    list_works, made_works, picks_work, split_works, sum_works, tries_work, words_work,
+    written_works,
 };
 pub use heap::CHARGE_ACTS;
 pub use keeping::{CELLS_ACTS, MOVE_ACTS};

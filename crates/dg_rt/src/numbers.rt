@@ -386,3 +386,21 @@ pub const SPLIT: u16 = 128;
 
 /// Whether a value was made of letters.
 pub const MADE: u16 = 129;
+
+/// Writes the digits of a number into a row of letters.
+pub const DIGITS: u16 = 130;
+
+/// Writes the letters of a word of the program.
+pub const WORD_LETTERS: u16 = 131;
+
+/// Writes the letters of an unknown word.
+pub const BOX_LETTERS: u16 = 132;
+
+/// Writes the letters of any word or number.
+pub const VALUE_LETTERS: u16 = 133;
+
+/// Writes those of the words and numbers of a list.
+pub const LIST_LETTERS: u16 = 134;
+
+/// Joins the words and numbers of a list into a word.
+pub const JOIN: u16 = 135;

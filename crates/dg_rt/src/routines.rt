@@ -2,6 +2,7 @@
 ghost use Rattle.std.specs.Prelude.{◌≡◌, ◌∷◌, ◌++◌, [], IfOk, OnOk};
 ghost use Rattle.dg_rt.specs.RunTime as spec;
 
+mod joining;
 mod splitting;
 
 use crate::arithmetic::DIVIDE_ACTS;
@@ -474,5 +475,6 @@ pub fn runtime(alloc: Global) -> Result<Items<Routine>, AllocError>
     writer.put_dictionary()?;
     writer.put_typing()?;
     writer.put_splitting()?;
+    writer.put_joining()?;
     Ok(writer.all)
 }
