@@ -118,11 +118,11 @@ module _ (p : Program) (map' : IsMapped p) (memory typed output : List ℕ) (dra
 -- ## Where letters lie
 
 -- Letters lie in the words of a box from a place on.
-abbrev LieAt : (ℕ → ℕ) → ℕ → List ℕ → Type 0
+abbrev pub LieAt : (ℕ → ℕ) → ℕ → List ℕ → Type 0
 LieAt cells j [] = Unit {0}
 LieAt cells j (x ∷ xs) = ((cells (heap_at + (j + 3)) ≡ x) × (j + 3 < 10000)) × LieAt cells (suc j) xs
 
-lie_at : (sh : Shape) → IsShape sh → (cells : ℕ → ℕ) (S : Substitution) → Stands sh cells S → (i j : ℕ) (xs : List ℕ) → i ≡ j + 3 → Letters sh i xs → LieAt cells j xs
+pub lie_at : (sh : Shape) → IsShape sh → (cells : ℕ → ℕ) (S : Substitution) → Stands sh cells S → (i j : ℕ) (xs : List ℕ) → i ≡ j + 3 → Letters sh i xs → LieAt cells j xs
 lie_at sh is cells S st i j [] e l = tt
 lie_at sh is cells S st i j (x ∷ xs) e l =
     let top = is.room in
@@ -130,7 +130,7 @@ lie_at sh is cells S st i j (x ∷ xs) e l =
     let here : cells (heap_at + (j + 3)) ≡ x = ap (λ (k : ℕ). cells (heap_at + k)) (sym e) ∙ st.fixed i (omega arith) l.0.fixed ∙ l.0.is in
     ((here, omega arith), lie_at sh is cells S st (suc i) (suc j) xs (omega arith) l.1)
 
-lie_still : (cells cells' : ℕ → ℕ) → ((k : ℕ) → 303 ≤ k → cells' k ≡ cells k) → (j : ℕ) (xs : List ℕ) → LieAt cells j xs → LieAt cells' j xs
+pub lie_still : (cells cells' : ℕ → ℕ) → ((k : ℕ) → 303 ≤ k → cells' k ≡ cells k) → (j : ℕ) (xs : List ℕ) → LieAt cells j xs → LieAt cells' j xs
 lie_still cells cells' same j [] l = tt
 lie_still cells cells' same j (x ∷ xs) l = ((same (heap_at + (j + 3)) (omega arith) ∙ l.0.0, l.0.1), lie_still cells cells' same (suc j) xs l.1)
 

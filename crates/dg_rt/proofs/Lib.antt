@@ -121,3 +121,10 @@ pub mod SplitLetters
 pub mod SpellingsBack
 pub mod SplitSpellings
 pub mod SplitWords
+pub mod JoinedRows
+pub mod JoinedDigits
+pub mod JoinedSpellings
+pub mod JoinedBoxes
+pub mod JoinedValues
+pub mod JoinedLists
+pub mod Joined

@@ -44,7 +44,7 @@ use Rattle.dg_rt.proofs.Characters.{bytes_front, bytes_back, reads_word, Reads, 
 
 -- ## Names
 
-behind_words : (words : List (List ℕ)) (n : ℕ) → length words ≤ n → get_or words n [] ≡ []
+pub behind_words : (words : List (List ℕ)) (n : ℕ) → length words ≤ n → get_or words n [] ≡ []
 behind_words [] n le = refl
 behind_words (w ∷ ws) zero le = absurd (omega (arith, le))
 behind_words (w ∷ ws) (suc n) le = behind_words ws n (omega arith)

@@ -144,8 +144,8 @@ pub const LIST_LETTERS_ACTS: [Act; 14] = [
 /// Lays what the letters of the words and numbers of local 1 spell and answers its word, or no value where they are no list of such, or too many. A word of
 /// no letters is none of the program.
 pub const JOIN_ACTS: [Act; 15] = [
-    call!(1, WALK, 1),
-    when!(1, Equal, Atom::Num(NIL), true, 2),
+    call!(2, WALK, 1),
+    when!(2, Equal, Atom::Num(NIL), true, 2),
     Act::Call(
         Some(2),
         Atom::Routine(LIST_LETTERS),

@@ -1,5 +1,5 @@
-use Rattle.dg_rt.proofs.Joining as joining
+use Rattle.dg_rt.proofs.Joined as joined
 use Rattle.dg_rt.proofs.goals.join_works.Goals as goal
 
 pub returns : goal.returns
-returns c = joining.join_works
+returns c = joined.join_works
