@@ -49,7 +49,7 @@ use Rattle.dg_rt.proofs.ListKind.{list_kind}
 use Rattle.dg_rt.proofs.Locals.{more_by, not_more_by}
 use Rattle.dg_rt.proofs.Spellings.{none_behind}
 use Rattle.dg_rt.proofs.FindingWords.{AreSmall, name_small}
-use Rattle.dg_rt.proofs.SpelledCells.{spelled_works, word_words}
+use Rattle.dg_rt.proofs.SpelledCells.{short_cells, spelled_works}
 use Rattle.dg_rt.proofs.Standing.{walk_at}
 use Rattle.dg_rt.proofs.Walking.{walk_works}
 use Rattle.dg_rt.proofs.WrittenValues.{written_works}
@@ -241,7 +241,7 @@ module _ (p : Program) (story : List ℕ) (words : List (List ℕ)) (f w : ℕ) 
   made_none m c h kept =
       let room = has.mapped.room in
       let many = g.spelled.few in
-      let is : spelled_value words [] ≡ leaf (Unknown []) = no_letters words words 0 g.spelled.names (λ i. refl) refl in
+      let is : spelled_value words [] ≡ leaf (Unknown []) = no_letters words words 0 g.spelled.names (λ i. ap (λ (j : ℕ). get_or words j []) (omega arith)) (omega arith) in
       let m1 = with_cell m 15315 32769 in
       let size' : length (words_of (spelled_value words [])) ≡ 1 = ap (λ (u : Value). length (words_of u)) is in
       let end : 30696 ≡ at_cell (15315 + length (words_of (spelled_value words []))) = omega arith in
@@ -278,7 +278,7 @@ module _ (p : Program) (story : List ℕ) (words : List (List ℕ)) (f w : ℕ) 
         holds = r.holds;
         kept = r.kept;
         row = r.row;
-        others = λ k far. r.others k (λ q. (let far' = far q in omega arith));
+        others = λ k far. r.others k (λ q. (let far' = far q in let few' = short_cells words xs in omega arith));
         count = suc (suc r.count);
         few = omega arith;
         runs = λ o s' j rest. subst (Run (drop 4 JOIN_ACTS) (now m z) o s') (let q : suc (suc r.count + j) ≡ suc (suc r.count) + j = omega arith in q)
