@@ -1,12 +1,11 @@
 -- The routine that joins words does so.
-use Rattle.std.proofs.Common.{◌≡◌, ◌≢◌, ℕ, zero, suc, ◌+◌, ◌*◌, ◌<◌, ◌≤◌, inl, inr, Bool, true, false, List, [], ◌∷◌, ◌++◌, drop, length, get_or, Option, Some, None, refl, sym, ap, ◌∙◌, subst, arith}
-use Rattle.std.specs.Prelude.{◌==◌, nat_le, encode_utf8_all}
-use Rattle.std.proofs.lemmas.Bool.{eq-eqb, ne_eqb, le-leb, lt-leb, cases_lt}
+use Rattle.std.proofs.Common.{◌≡◌, ◌≢◌, ℕ, suc, ◌+◌, ◌*◌, ◌<◌, ◌≤◌, Bool, true, false, List, [], ◌∷◌, ◌++◌, drop, length, get_or, Option, Some, None, refl, sym, ap, ◌∙◌, subst, arith}
+use Rattle.std.specs.Prelude.{◌==◌, encode_utf8_all}
+use Rattle.std.proofs.lemmas.Bool.{eq-eqb, ne_eqb, le-leb, lt-leb}
 use Rattle.std.proofs.lemmas.Nat.{mul-le}
 use Rattle.dg_base.specs.declared.run.Ending.TheVariants.{HeapLimit}
 use Rattle.dg_base.specs.Sound.{IsName}
 use Rattle.dg_meaning.specs.Copies.{copy_cells}
-use Rattle.dg_meaning.specs.Letters.{letters_in}
 use Rattle.dg_meaning.specs.Substitutions.{Substitution, walk, links, resolved}
 use Rattle.dg_meaning.specs.inside.Substitutions.{all_resolved}
 use Rattle.dg_meaning.specs.Unify.{same_spelling, size, looks}
@@ -15,7 +14,6 @@ use Rattle.dg_meaning.specs.Words.{few_enough, letters_in_list, joined_letters, 
 use Rattle.dg_meaning.proofs.Walks.{walked, resolved_unbound}
 use Rattle.z_model.specs.declared.end.Halt.TheVariants.{AtQuit}
 use Rattle.z_lang.specs.declared.act.Act.{Act}
-use Rattle.z_lang.specs.declared.act.Act.TheVariants as acts
 use Rattle.z_lang.specs.declared.act.Atom.TheVariants as atoms
 use Rattle.z_lang.specs.declared.act.Comparison.TheVariants as comparisons
 use Rattle.z_lang.specs.declared.act.Width.TheVariants as widths
@@ -31,17 +29,16 @@ use Rattle.dg_rt.specs.Areas.{state}
 use Rattle.dg_rt.specs.Charges.{MeetsLimit}
 use Rattle.dg_rt.specs.Closings.{closing}
 use Rattle.dg_rt.specs.Copies.{words_of, Row}
-use Rattle.dg_rt.specs.Dictionary.{HasSpellings}
 use Rattle.dg_rt.specs.Joins.{JoinWorks}
 use Rattle.dg_rt.specs.Making.{IsGiven, LaysNone, LaysOn, making_most}
 use Rattle.dg_rt.specs.RunTime.{routine_of, HasRunTime}
-use Rattle.dg_rt.specs.Shapes.{Shape, Cell, Shows, ArePrinted, number, dict, object, nil, variable, boxed, Filled, pair_in, closure_in, word_in, Stands}
-use Rattle.dg_rt.specs.Typing.{WritesCells, LaysWritten, IsWritten}
+use Rattle.dg_rt.specs.Shapes.{Shape, Shows, ArePrinted, number, dict, object, nil, variable, boxed, Filled, pair_in, closure_in, word_in, Stands}
+use Rattle.dg_rt.specs.Typing.{IsWritten}
 use Rattle.dg_rt.proofs.Cells.{holds_with, writes_cell, other_cell, same_cell}
 use Rattle.dg_rt.proofs.CopySteps.{stands_away}
-use Rattle.dg_rt.proofs.Following.{some_state, tested, copies, writes, local_1, local_2, put_2}
+use Rattle.dg_rt.proofs.Following.{tested, copies, writes, local_1, local_2, put_2}
 use Rattle.dg_rt.proofs.FullSteps.{LookingThrough, Absent, resolved_walked, resolved_as}
-use Rattle.dg_rt.proofs.JoinedLists.{some_looks, pair_looks, ending_few, Refuses, refuses, list_letters}
+use Rattle.dg_rt.proofs.JoinedLists.{some_looks, pair_looks, ending_few, refuses, list_letters}
 use Rattle.dg_rt.proofs.JoinedRows.{Puts, in_row, past_row}
 use Rattle.dg_rt.proofs.LaySteps.{kept_cell}
 use Rattle.dg_rt.proofs.LineValues.{one_value}

@@ -1,12 +1,12 @@
 -- The letters of the words and numbers of a list are written into a row.
 use Rattle.std.proofs.Common.{◌≡◌, ℕ, zero, suc, ◌+◌, ◌*◌, ◌<◌, ◌≤◌, Bool, true, false, List, [], ◌∷◌, ◌++◌, drop, length, Option, Some, None, refl, sym, ap, ◌∙◌, subst, arith, length-append}
 use Rattle.std.specs.Prelude.{◌==◌}
-use Rattle.dg_meaning.specs.Substitutions.{Substitution, walk, links, resolved, contains}
+use Rattle.dg_meaning.specs.Substitutions.{walk, links, resolved, contains}
 use Rattle.dg_meaning.specs.inside.Substitutions.{all_resolved}
 use Rattle.dg_meaning.specs.Unify.{size, looks}
 use Rattle.dg_meaning.specs.Values.{Label, Num, Word, Unknown, Object, Nil, Pair, Closure, Value, Var, Node, Values, NoMore, More, leaf, pair}
 use Rattle.dg_meaning.specs.Words.{letters_in_word, followed_by, letters_in_list}
-use Rattle.dg_meaning.proofs.Walks.{walked, resolved_node, resolved_unbound}
+use Rattle.dg_meaning.proofs.Walks.{walked, resolved_unbound}
 use Rattle.z_lang.specs.declared.act.Act.{Act}
 use Rattle.z_lang.specs.declared.act.Atom.TheVariants as atoms
 use Rattle.z_lang.specs.declared.act.Comparison.TheVariants as comparisons
@@ -22,7 +22,7 @@ use Rattle.dg_rt.specs.Areas.{heap_at, state}
 use Rattle.dg_rt.specs.Copies.{Row}
 use Rattle.dg_rt.specs.Dictionary.{HasSpellings}
 use Rattle.dg_rt.specs.RunTime.{routine_of, HasRunTime}
-use Rattle.dg_rt.specs.Shapes.{Shape, IsShape, ArePrinted, Cell, Shows, number, dict, object, nil, variable, boxed, Filled, pair_in, closure_in, word_in, Stands}
+use Rattle.dg_rt.specs.Shapes.{ArePrinted, Cell, Shows, number, dict, object, nil, variable, boxed, Filled, pair_in, closure_in, word_in, Stands}
 use Rattle.dg_rt.specs.inside.Walks.{ending, Walks}
 use Rattle.dg_rt.specs.declared.unify.TheConstants.{WALK_ACTS}
 use Rattle.dg_rt.proofs.Cells.{reads_cell}

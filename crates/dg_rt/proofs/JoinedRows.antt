@@ -1,5 +1,5 @@
 -- Letters that are written into a row, for words that are joined.
-use Rattle.std.proofs.Common.{◌≡◌, ℕ, suc, ◌+◌, ◌*◌, ◌<◌, ◌≤◌, List, [], ◌∷◌, ◌++◌, length, Option, Some, arith}
+use Rattle.std.proofs.Common.{◌≡◌, ℕ, ◌+◌, ◌*◌, ◌<◌, ◌≤◌, List, [], ◌∷◌, ◌++◌, length, Option, Some, arith}
 use Rattle.z_lang.specs.State.{Program}
 use Rattle.z_lang.specs.Standing.{IsKept}
 use Rattle.dg_rt.specs.Cells.{at_cell, Holds}

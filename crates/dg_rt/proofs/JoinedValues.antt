@@ -4,8 +4,7 @@ use Rattle.std.specs.Fmt.{decimal}
 use Rattle.std.specs.Str.{chars}
 use Rattle.std.proofs.lemmas.Bool.{cases_lt}
 use Rattle.dg_meaning.specs.Substitutions.{Substitution, walk, links, resolved}
-use Rattle.dg_meaning.specs.inside.Substitutions.{all_resolved}
-use Rattle.dg_meaning.specs.Values.{Label, Num, Word, Unknown, Object, Nil, Pair, Closure, Value, Var, Node, Values, NoMore, More, leaf}
+use Rattle.dg_meaning.specs.Values.{Num, Word, Unknown, Object, Nil, Pair, Closure, Value, Var, Node, NoMore, More, leaf}
 use Rattle.dg_meaning.specs.Words.{letters_in_word}
 use Rattle.dg_meaning.proofs.Walks.{walked, resolved_node, resolved_unbound}
 use Rattle.z_lang.specs.declared.act.Act.{Act}
@@ -17,15 +16,14 @@ use Rattle.z_lang.specs.Acts.{answer_of}
 use Rattle.z_lang.specs.Runs.{ActsRun as Runs, Returns, taken, passed, done, calls, returns, behind_label}
 use Rattle.z_lang.specs.Standing.{IsKept}
 use Rattle.dg_rt.specs.declared.numbers.TheConstants.{WORD_LETTERS, BOX_LETTERS}
-use Rattle.dg_rt.specs.declared.unify.TheConstants.{WALK_ACTS}
-use Rattle.dg_rt.specs.declared.joining.TheConstants.{DIGITS_ACTS, WORD_LETTERS_ACTS, BOX_LETTERS_ACTS, VALUE_LETTERS_ACTS}
+use Rattle.dg_rt.specs.declared.joining.TheConstants.{WORD_LETTERS_ACTS, BOX_LETTERS_ACTS, VALUE_LETTERS_ACTS}
 use Rattle.dg_rt.specs.Cells.{at_cell, compared, Holds}
 use Rattle.dg_rt.specs.Areas.{heap_at, state}
 use Rattle.dg_rt.specs.Dictionary.{HasSpellings}
 use Rattle.dg_rt.specs.RunTime.{routine_of, HasRunTime}
 use Rattle.dg_rt.specs.Shapes.{Shape, IsShape, Letters, ArePrinted, Cell, Shows, number, dict, object, nil, variable, boxed, Filled, pair_in, closure_in, word_in, Stands}
-use Rattle.dg_rt.specs.inside.Walks.{ending, Walks}
-use Rattle.dg_rt.proofs.Cells.{some_list, reads_cell}
+use Rattle.dg_rt.specs.inside.Walks.{ending}
+use Rattle.dg_rt.proofs.Cells.{reads_cell}
 use Rattle.dg_rt.proofs.Following.{word, tested, computes, local_1, local_2, local_3, put_1, put_2, put_3}
 use Rattle.dg_rt.proofs.JoinedBoxes.{box_letters}
 use Rattle.dg_rt.proofs.JoinedDigits.{Digits, digits, digits_at}
