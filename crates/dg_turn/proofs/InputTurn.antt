@@ -131,13 +131,13 @@ module _ (t : Telling) (plays : Playing t) (out : Outside) (x : ℕ) (m : Mid) (
 -- ## Words outside
 
 -- Those outside, and behind what is gathered these.
-abbrev joined : (ℕ → ℕ) → (ℕ → ℕ) → ℕ → ℕ
+abbrev pub joined : (ℕ → ℕ) → (ℕ → ℕ) → ℕ → ℕ
 joined outer cells k = if nat_lt k aux_end then outer k else cells k
 
-joined_low : (outer cells : ℕ → ℕ) (k : ℕ) → k < aux_end → joined outer cells k ≡ outer k
+pub joined_low : (outer cells : ℕ → ℕ) (k : ℕ) → k < aux_end → joined outer cells k ≡ outer k
 joined_low outer cells k lt = cond-true (nat_lt k aux_end) (outer k) (cells k) (lt-ltb k aux_end lt)
 
-joined_high : (outer cells : ℕ → ℕ) (k : ℕ) → aux_end ≤ k → joined outer cells k ≡ cells k
+pub joined_high : (outer cells : ℕ → ℕ) (k : ℕ) → aux_end ≤ k → joined outer cells k ≡ cells k
 joined_high outer cells k le = cond-false (nat_lt k aux_end) (outer k) (cells k) (le-ltb k aux_end le)
 
 -- What the next piece meets behind a line.
