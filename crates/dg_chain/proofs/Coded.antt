@@ -37,16 +37,13 @@ use Rattle.dg_chain.proofs.Finding.{flag_leads}
 use Rattle.dg_chain.proofs.GlobalFinding.{find_global_leads}
 use Rattle.dg_chain.proofs.Picking.{select_leads}
 use Rattle.dg_chain.proofs.TypingLeads.{input_leads}
+use Rattle.dg_chain.proofs.WordingLeads.{split_leads, join_leads}
 use Rattle.dg_chain.proofs.Querying.{query_leads, last_query_leads}
 use Rattle.dg_chain.proofs.Gathering.{collect_leads, keep_leads}
 use Rattle.dg_chain.proofs.Trying.{find_leads}
 use Rattle.dg_chain.proofs.Going.{resumes_lead, fails_lead}
 
 module _ (t : Telling) (plays : Playing t) (code : Code) (blocks : BlocksAt t code) (dice : List ℕ) (same : t.p.world.dice ≡ dice) where
-  -- an instruction without a routine stands nowhere
-  none_leads : (x : Op) → ((behind_is : ℕ → Type 0) (y : ℕ) → OpAt behind_is t code y x → ⊥) → OpLeads t code dice x
-  none_leads x none ps m rest z e always s = absurd (none (λ y. OpsAt t code y rest) s.at.x (at_op t code dice ps m rest z x e s))
-
   -- an instruction that isn't run never comes
   never_leads : (x : Op) → ((rest : List Op) → MayRun (x ∷ rest) → ⊥) → OpLeads t code dice x
   never_leads x never ps m rest z e always s = absurd (never rest (subst MayRun e always.begins.0))
@@ -63,8 +60,8 @@ module _ (t : Telling) (plays : Playing t) (code : Code) (blocks : BlocksAt t co
   act_leads (action.Compare f a b) = compare_leads t plays code dice f a b
   act_leads (action.Random a b c) = random_leads t plays code dice same a b c
   act_leads (action.Input x) = input_leads t plays code dice x
-  act_leads (action.SplitWord a b) = none_leads (op.Do (action.SplitWord a b)) (λ b y h. h)
-  act_leads (action.JoinWords a b) = none_leads (op.Do (action.JoinWords a b)) (λ b y h. h)
+  act_leads (action.SplitWord a b) = split_leads t plays code dice a b
+  act_leads (action.JoinWords a b) = join_leads t plays code dice a b
   act_leads action.Just = just_leads t plays code blocks dice
   act_leads action.Fail = fail_leads t plays code blocks dice
   act_leads action.Stop = stop_leads t plays code blocks dice

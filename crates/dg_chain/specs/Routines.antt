@@ -1,4 +1,4 @@
--- The routines of a story's code: one for each instruction that has one so far, and where it goes on. Hold it against dg_mid/specs/Codes.antt and `does`
+-- The routines of a story's code: one for each instruction, and where it goes on. Hold it against dg_mid/specs/Codes.antt and `does`
 -- of dg_mid/specs/Step.antt.
 use Rattle.std.specs.Prelude.{◌⊎◌, ◌≡◌, ◌≢◌, ℕ, ◌≤◌, List, [], ◌∷◌, length, Option, Some, Bool}
 use Rattle.std.specs.List.{slice_get}
@@ -34,6 +34,7 @@ use Rattle.dg_turn.specs.Seeking.{find_routine}
 use Rattle.dg_turn.specs.World.{HasWorld, now_routine, holds_routine}
 use Rattle.dg_turn.specs.Globals.{global_routine}
 use Rattle.dg_turn.specs.Typing.{HasTables, input_routine}
+use Rattle.dg_turn.specs.Wording.{split_routine, join_routine}
 use Rattle.dg_turn.specs.Rules.{keyed}
 use Rattle.dg_turn.specs.Bodies.{query_routine, last_query_routine, FindsBodies}
 use Rattle.dg_turn.specs.Texts.{text_routine, gap_routine, gap_n_routine, quit_routine}
@@ -134,6 +135,11 @@ pub record Reads (behind_is : ℕ → Type 0) (t : Telling) (x : ℕ) (a : Term)
   pub nodes : AreNodes t.program (nodes_of (a ∷ []))
   pub tables : HasTables t
 
+-- So does that of words that are split or joined, whose terms are those of a story that has the tables.
+pub record Words (behind_is : ℕ → Type 0) (t : Telling) (x : ℕ) (a b : Term) (routine : ℕ → Routine) : Type 0 where
+  pub writes : Writes behind_is t x (a ∷ b ∷ []) routine
+  pub tables : HasTables t
+
 -- So does the first of a rule, of no more than 300 variables and 12 terms in its head.
 pub record Enters (behind_is : ℕ → Type 0) (t : Telling) (x vars : ℕ) (head : List Term) : Type 0 where
   pub goes : GoesOn behind_is t x (enter_routine t.program vars head)
@@ -200,7 +206,7 @@ FailsAt t x = t.p.routine_at x ≡ Some (goto_routine FAIL)
 
 -- ## Code
 
--- The routine of an instruction stands at an address, and what is said of the one behind it. The other instructions have no routines yet.
+-- The routine of an instruction stands at an address, and what is said of the one behind it.
 abbrev pub OpAt : (ℕ → Type 0) → Telling → Code → ℕ → Op → Type 0
 OpAt behind_is t code x (op.Do (action.Text text)) = Says behind_is t x text
 OpAt behind_is t code x (op.Do (action.Print a)) = Prints behind_is t x a
@@ -217,7 +223,8 @@ OpAt behind_is t code x (op.Do action.Fail) = FailsAt t x
 OpAt behind_is t code x (op.Do action.Stop) = x ≡ t.p.names.routine UNSTOP
 OpAt behind_is t code x (op.Do (action.Now place args sets)) = ChangesPlace behind_is t x place args sets
 OpAt behind_is t code x (op.Do (action.Input a)) = Reads behind_is t x a
-OpAt behind_is t code x (op.Do a) = ⊥
+OpAt behind_is t code x (op.Do (action.SplitWord a b)) = Words behind_is t x a b (split_routine t.program a b)
+OpAt behind_is t code x (op.Do (action.JoinWords a b)) = Words behind_is t x a b (join_routine t.program a b)
 OpAt behind_is t code x (op.Find (Some place) [] many next) = FindsFlag behind_is t x place
 OpAt behind_is t code x (op.Find (Some place) (a ∷ []) many next) =
     FindsObjects behind_is t x (Some place) (a ∷ []) many next ⊎ FindsGlobal behind_is t x place a

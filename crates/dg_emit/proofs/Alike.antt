@@ -151,6 +151,8 @@ module _ (p q : CoreProgram) (same : SameOutline p q) where
   op_same numbers behind (op.Do (action.Equal a b)) = rw (terms_same ARGS (a ∷ b ∷ [])) refl
   op_same numbers behind (op.Do (action.Now place args sets)) = change_same place args sets behind
   op_same numbers behind (op.Do (action.Input a)) = rw (terms_same ARGS (a ∷ [])) refl
+  op_same numbers behind (op.Do (action.SplitWord a b)) = rw (terms_same ARGS (a ∷ b ∷ [])) refl
+  op_same numbers behind (op.Do (action.JoinWords a b)) = rw (terms_same ARGS (a ∷ b ∷ [])) refl
   op_same numbers behind (op.Do (action.Print a)) = rw (terms_same ARGS (a ∷ [])) refl
   op_same numbers behind (op.Do other) = refl
   op_same numbers behind (op.Find (Some place) [] many next) = rw (same.kinds, many_same) refl
@@ -283,6 +285,8 @@ module _ (p q : CoreProgram) (same : SameOutline p q) where
   op_fits (op.Do (action.Random a b c)) fits = terms_fit (a ∷ b ∷ c ∷ []) fits
   op_fits (op.Do (action.Now place args sets)) fits = (terms_fit args fits.0, change_fits place (length args) fits.1)
   op_fits (op.Do (action.Input a)) fits = terms_fit (a ∷ []) fits
+  op_fits (op.Do (action.SplitWord a b)) fits = terms_fit (a ∷ b ∷ []) fits
+  op_fits (op.Do (action.JoinWords a b)) fits = terms_fit (a ∷ b ∷ []) fits
   op_fits (op.Do other) fits = fits
   op_fits (op.Find (Some place) [] many next) fits = flag_fits place fits
   op_fits (op.Find place (t ∷ ts) many next) fits = (terms_fit (t ∷ ts) fits.0, world_fits fits.1, query_fits place (length (t ∷ ts)) fits.2)

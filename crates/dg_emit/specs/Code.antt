@@ -29,6 +29,7 @@ use Rattle.dg_turn.specs.Stopping.{shield_routine, leave_routine}
 use Rattle.dg_turn.specs.Gatherings.{collect_routine, take_routine}
 use Rattle.dg_turn.specs.Bodies.{query_routine, last_query_routine}
 use Rattle.dg_turn.specs.Typing.{input_routine}
+use Rattle.dg_turn.specs.Wording.{split_routine, join_routine}
 use Rattle.dg_turn.specs.Texts.{text_routine, gap_routine, gap_n_routine, quit_routine}
 use Rattle.dg_turn.specs.Operating.{test_routine, compare_routine, arith_routine, random_routine}
 use Rattle.dg_turn.specs.World.{holds_routine}
@@ -59,10 +60,11 @@ is_built (op.Do (action.Compare f a b)) = true
 is_built (op.Do (action.Arith f a b c)) = true
 is_built (op.Do (action.Random a b c)) = true
 is_built (op.Do (action.Input a)) = true
+is_built (op.Do (action.SplitWord a b)) = true
+is_built (op.Do (action.JoinWords a b)) = true
 is_built (op.Do (action.Equal a b)) = true
 is_built (op.Do (action.Now place args sets)) = true
 is_built (op.Do (action.Print a)) = true
-is_built (op.Do other) = false
 is_built (op.Ask pred terms many next) = true
 is_built (op.LastAsk pred terms many) = true
 is_built (op.Query a b many next) = true
@@ -105,6 +107,8 @@ op_routine program numbers behind (op.Do (action.Compare f a b)) = compare_routi
 op_routine program numbers behind (op.Do (action.Arith f a b c)) = arith_routine program f a b c behind
 op_routine program numbers behind (op.Do (action.Random a b c)) = random_routine program a b c behind
 op_routine program numbers behind (op.Do (action.Input a)) = input_routine program a behind
+op_routine program numbers behind (op.Do (action.SplitWord a b)) = split_routine program a b behind
+op_routine program numbers behind (op.Do (action.JoinWords a b)) = join_routine program a b behind
 op_routine program numbers behind (op.Do (action.Equal a b)) = equal_routine program a b behind
 op_routine program numbers behind (op.Do (action.Now place args sets)) =
     change_routine program place (slice_get (kinds_of program) place) args sets behind
@@ -205,6 +209,8 @@ OpFits program (op.Do (action.Compare f a b)) = TermsFit program (a ∷ b ∷ []
 OpFits program (op.Do (action.Arith f a b c)) = TermsFit program (a ∷ b ∷ c ∷ [])
 OpFits program (op.Do (action.Random a b c)) = TermsFit program (a ∷ b ∷ c ∷ [])
 OpFits program (op.Do (action.Input a)) = TermsFit program (a ∷ [])
+OpFits program (op.Do (action.SplitWord a b)) = TermsFit program (a ∷ b ∷ [])
+OpFits program (op.Do (action.JoinWords a b)) = TermsFit program (a ∷ b ∷ [])
 OpFits program (op.Do (action.Equal a b)) = TermsFit program (a ∷ b ∷ [])
 OpFits program (op.Do (action.Now place args sets)) = TermsFit program args × ChangeFits program place (length args)
 OpFits program (op.Find (Some place) [] many next) = FlagFits program place

@@ -35,8 +35,8 @@ pub fn is_built(op: &Op) -> bool
         Op::Do(Action::Text(_)) | Op::Do(Action::Gap(_)) | Op::Do(Action::GapN(_)) => true,
         Op::Do(Action::Now(_, _, _)) => true,
         Op::Do(Action::Input(_)) => true,
+        Op::Do(Action::SplitWord(_, _)) | Op::Do(Action::JoinWords(_, _)) => true,
         Op::Do(Action::Print(_)) => true,
-        Op::Do(_) => false,
         Op::Find(None, terms, _, _) => !terms.is_empty(),
         _ => true,
     }
@@ -188,6 +188,8 @@ impl CodeWriter<'_> {
             Action::Equal(a, b) => self.writer.equal_routine(a, b, behind),
             Action::Now(place, args, sets) => self.now(*place, args.as_slice(), *sets, behind),
             Action::Input(term) => self.writer.input_routine(term, behind),
+            Action::SplitWord(a, b) => self.writer.split_routine(a, b, behind),
+            Action::JoinWords(a, b) => self.writer.join_routine(a, b, behind),
             Action::Print(a) => self.writer.print_routine(a, self.numbers.objects, behind),
             _ => goto(alloc, FAIL),
         }

@@ -21,6 +21,7 @@ mod story;
 mod terms;
 mod texts;
 mod typing;
+mod wording;
 mod world;
 
 pub use choices::{branch, commit, goto, just, leave, once, shield, try_first};

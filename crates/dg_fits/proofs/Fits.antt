@@ -49,7 +49,7 @@ use Rattle.dg_rt.specs.Conditions.{test_number}
 use Rattle.dg_rt.specs.Arithmetic.{arith_number}
 use Rattle.dg_rt.specs.Rules.{key_word}
 use Rattle.dg_rt.specs.RunTime.{runtime, routine_of}
-use Rattle.dg_rt.specs.declared.numbers.TheConstants.{TAIL_CALL, FAIL, DONE, ASK_SPACES, IF_LESS, THROW, IF_SET, OPEN, OPEN_GATHERING, PRINT_VALUE, READ_KEPT, SPELL}
+use Rattle.dg_rt.specs.declared.numbers.TheConstants.{TAIL_CALL, FAIL, DONE, ASK_SPACES, IF_LESS, THROW, IF_SET, OPEN, OPEN_GATHERING, PRINT_VALUE, READ_KEPT, SPELL, SPLIT, MADE, JOIN}
 use Rattle.dg_rt.specs.declared.registers.TheConstants.{ARGS, BACK, CLASH, INNER, LAST, WORD}
 use Rattle.dg_rt.proofs.Straight.{AreStraight, straight_append, straight_fits}
 use Rattle.dg_turn.specs.Told.{found_acts, rule_acts, KeyFits}
@@ -62,6 +62,7 @@ use Rattle.dg_turn.specs.Operating.{deciding_routine, making_routine}
 use Rattle.dg_turn.specs.Gatherings.{taker}
 use Rattle.dg_turn.specs.Texts.{say, text_acts, text_routine, gap_routine}
 use Rattle.dg_turn.specs.Typing.{read_acts}
+use Rattle.dg_turn.specs.Wording.{word_routine}
 use Rattle.dg_turn.specs.World.{words_at, changer, changer_args}
 use Rattle.dg_turn.specs.Tries.{OBJECT_TRIED, Sought, AnyObject, Flagged, Valued, sought_at, sought_terms, look_acts as looked_acts, tried_acts, landing_acts, try_acts, tries_by}
 use Rattle.dg_turn.specs.Seeking.{seek_acts, find_acts}
@@ -183,6 +184,12 @@ module _ (c : Counts) (many : 1 + length runtime ≤ c.routines) where
       written_fits p ARGS (a ∷ b ∷ d ∷ [])
       (acts.Call (Some WORD) (atoms.Routine maker) (args.Two (atoms.Var ARGS) (atoms.Var (ARGS + 1))) ∷ (match_acts (ARGS + 2) WORD 1 ++ last_acts behind)) (omega arith) fits
       ((omega arith, mk, (omega arith, omega arith)), ((tt, omega arith, (omega arith, omega arith)), last_straight behind lt))
+
+  wording_fits : (p : CoreProgram) (maker : ℕ) (a b : Term) (behind : ℕ) → maker < c.routines → behind < c.routines → TermsFit p (a ∷ b ∷ []) → IsFit c (word_routine p maker a b behind)
+  wording_fits p maker a b behind mk lt fits =
+      written_fits p ARGS (a ∷ b ∷ [])
+      (acts.Call (Some WORD) (atoms.Routine maker) (args.One (atoms.Var ARGS)) ∷ acts.Call (Some WORD) (atoms.Routine MADE) (args.One (atoms.Var WORD)) ∷ (match_acts (ARGS + 1) WORD 1 ++ last_acts behind)) (omega arith) fits
+      ((omega arith, mk, omega arith), ((omega arith, omega arith, omega arith), ((tt, omega arith, (omega arith, omega arith)), last_straight behind lt)))
 
   -- a change of the world
   changer_below : (kind : PlaceKind) (sets : Bool) → changer kind sets < c.routines
@@ -357,6 +364,8 @@ module _ (c : Counts) (many : 1 + length runtime ≤ c.routines) where
         ((omega arith, omega arith, tt), ((omega arith, omega arith, omega arith), ((omega arith, omega arith, omega arith), ((tt, omega arith, tt), ((omega arith, omega arith), ((tt, omega arith, (omega arith, omega arith)), last_straight behind lt)))))),
     tt,
   )
+  op_fit p numbers number behind (op.Do (action.SplitWord a b)) below le lt fits few = (wording_fits p SPLIT a b behind (omega arith) lt fits, tt)
+  op_fit p numbers number behind (op.Do (action.JoinWords a b)) below le lt fits few = (wording_fits p JOIN a b behind (omega arith) lt fits, tt)
   op_fit p numbers number behind (op.Find (Some place) [] ask next) below le lt fits few = (
     written_fits p ARGS [] (acts.Call (Some WORD) (atoms.Routine IF_SET) (args.Two (atoms.Num (at_cell (words_at p place))) (atoms.Routine behind)) ∷ acts.Return (atoms.Var WORD) ∷ []) (omega arith) (omega arith, tt)
         ((omega arith, omega arith, (words_small p fits.world place, lt)), (omega arith, tt)),

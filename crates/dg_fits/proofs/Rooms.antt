@@ -45,13 +45,14 @@ use Rattle.dg_turn.specs.Terms.{capped, terms_acts}
 use Rattle.dg_turn.specs.Turns.{HEAD, match_acts, last_acts, enter_routine}
 use Rattle.dg_turn.specs.Queries.{some_of, ask_acts}
 use Rattle.dg_turn.specs.Bodies.{CALLED, look_acts, body_routine, fork_routine}
-use Rattle.dg_rt.specs.declared.numbers.TheConstants.{TAIL_CALL, ASK_SPACES, IF_LESS, THROW, IF_SET, OPEN, OPEN_GATHERING, PRINT_VALUE, READ_KEPT, SPELL}
+use Rattle.dg_rt.specs.declared.numbers.TheConstants.{TAIL_CALL, ASK_SPACES, IF_LESS, THROW, IF_SET, OPEN, OPEN_GATHERING, PRINT_VALUE, READ_KEPT, SPELL, SPLIT, MADE, JOIN}
 use Rattle.dg_rt.specs.declared.registers.TheConstants.{ARGS, BACK, CLASH, INNER, LAST, WORD}
 use Rattle.dg_rt.specs.RunTime.{routine_of}
 use Rattle.dg_turn.specs.Operating.{compared_args, making_routine}
 use Rattle.dg_turn.specs.Names.{objects_routines}
 use Rattle.dg_turn.specs.Texts.{say, text_acts, text_routine}
 use Rattle.dg_turn.specs.Typing.{read_acts}
+use Rattle.dg_turn.specs.Wording.{word_routine}
 use Rattle.dg_turn.specs.Globals.{global_routine}
 use Rattle.dg_turn.specs.World.{words_at, bytes_at, flag_word, changer, changer_args}
 use Rattle.dg_emit.specs.declared.numbers.Numbers.{Numbers}
@@ -208,6 +209,13 @@ module _ (p : CoreProgram) where
       acts.Call (Some WORD) (atoms.Routine maker) (args.Two (atoms.Var ARGS) (atoms.Var (ARGS + 1))) ∷ (match_acts (ARGS + 2) WORD 1 ++ last_acts behind) in
       omega (arith, written_room ARGS (a ∷ b ∷ c ∷ []) rest 22 (omega arith))
 
+  wording_room : (maker : ℕ) (a b : Term) (behind : ℕ) → room (word_routine p maker a b behind) ≤ 48 + terms_weight (bytes p) (a ∷ b ∷ [])
+  wording_room maker a b behind =
+      let rest =
+      acts.Call (Some WORD) (atoms.Routine maker) (args.One (atoms.Var ARGS)) ∷ acts.Call (Some WORD) (atoms.Routine MADE) (args.One (atoms.Var WORD))
+      ∷ (match_acts (ARGS + 1) WORD 1 ++ last_acts behind) in
+      omega (arith, written_room ARGS (a ∷ b ∷ []) rest 34 (omega arith))
+
   given_few : (kind : PlaceKind) (place : ℕ) (sets : Bool) (behind : ℕ) → args_bytes (changer_args p kind place sets behind) ≤ 6
   given_few Flag place sets behind = omega (arith, num_bytes (nat_lt (at_cell (words_at p place)) 256), num_bytes (nat_lt (flag_word sets) 256))
   given_few ObjectFlag place sets behind = omega (arith, num_bytes (nat_lt (64 + bytes_at p place) 256), num_bytes (nat_lt (length p.objects) 256))
@@ -349,6 +357,8 @@ module _ (p : CoreProgram) where
       omega (arith, written_room ARGS (a ∷ []) rest 10 (omega arith))
   op_room numbers number behind (op.Do (action.Now place ts sets)) fits = omega (arith, change_room place (slice_get (kinds_of p) place) ts sets behind)
   op_room numbers number behind (op.Do (action.Input a)) fits = omega (arith, written_room ARGS (a ∷ []) (read_acts ++ (match_acts ARGS WORD 1 ++ last_acts behind)) 34 (omega arith))
+  op_room numbers number behind (op.Do (action.SplitWord a b)) fits = omega (arith, wording_room SPLIT a b behind)
+  op_room numbers number behind (op.Do (action.JoinWords a b)) fits = omega (arith, wording_room JOIN a b behind)
   op_room numbers number behind (op.Find (Some place) [] many next) fits =
       let at = at_cell (words_at p place) in
       let rest = acts.Call (Some WORD) (atoms.Routine IF_SET) (args.Two (atoms.Num at) (atoms.Routine behind)) ∷ acts.Return (atoms.Var WORD) ∷ [] in

@@ -40,6 +40,7 @@ use Rattle.dg_turn.specs.Terms.{AreNodes}
 use Rattle.dg_turn.specs.Texts.{text_routine, gap_routine, gap_n_routine}
 use Rattle.dg_turn.specs.Turns.{enter_routine, equal_routine, goto_routine, commit_routine}
 use Rattle.dg_turn.specs.Typing.{HasTables, input_routine}
+use Rattle.dg_turn.specs.Wording.{split_routine, join_routine}
 use Rattle.dg_turn.specs.Sites.{select_of, sites_of, numbers_of, site_at, select_routine}
 use Rattle.dg_turn.specs.World.{HasWorld, now_routine, holds_routine}
 use Rattle.dg_turn.proofs.Sites.{site_placed, numbers_long}
@@ -274,6 +275,14 @@ module _ (t : Telling) (plays : Playing t) (world : HasWorld t) (tables : HasTab
       let is : t.p.routine_at (at n) ≡ Some (now_routine t.program f.kind place args sets behind) = lie.0 ∙ ap (λ (k : Option PlaceKind). Some (change_routine t.program place k args sets behind)) f.kind_is in
       record { kind = f.kind; kind_is = f.kind_is; fits = f.fits; world = world; writes = writes args (now_routine t.program f.kind place args sets) n ops is (ops_stand (n + 1) ops lie.1 built calls.1 fit.1) fit.0.0.1 }
   ops_stand n (op.Do (action.Input a) ∷ ops) lie built calls fit = record { goes = goes (input_routine t.program a) n ops lie.0 (ops_stand (n + 1) ops lie.1 built calls.1 fit.1); nodes = fit.0.1; tables = tables }
+  ops_stand n (op.Do (action.SplitWord a b) ∷ ops) lie built calls fit = record {
+    writes = writes (a ∷ b ∷ []) (split_routine t.program a b) n ops lie.0 (ops_stand (n + 1) ops lie.1 built calls.1 fit.1) fit.0.1;
+    tables = tables;
+  }
+  ops_stand n (op.Do (action.JoinWords a b) ∷ ops) lie built calls fit = record {
+    writes = writes (a ∷ b ∷ []) (join_routine t.program a b) n ops lie.0 (ops_stand (n + 1) ops lie.1 built calls.1 fit.1) fit.0.1;
+    tables = tables;
+  }
   ops_stand n (op.Do (action.Print a) ∷ ops) lie built calls fit = record {
     words = SPELL;
     objects = numbers.objects;
@@ -281,7 +290,6 @@ module _ (t : Telling) (plays : Playing t) (world : HasWorld t) (tables : HasTab
     nodes = fit.0.1;
     spells = all_spelled;
   }
-  ops_stand n (op.Do a ∷ ops) lie built calls fit = absurd (cc)
   ops_stand n (op.Find (Some place) [] many next ∷ ops) lie built calls fit =
       record { kind_is = (fit.0).kind_is; world = world; goes = goes (holds_routine t.program place) n ops lie.0 (ops_stand (n + 1) ops lie.1 built calls.1 fit.1) }
   ops_stand n (op.Find None (a ∷ ts) many next ∷ ops) lie built calls fit =

@@ -26,6 +26,8 @@ has_routines (form.Now place args sets) = true
 has_routines (form.Holds place terms many) = true
 has_routines (form.IsObject a many) = true
 has_routines (form.Input a) = true
+has_routines (form.SplitWord a b) = true
+has_routines (form.JoinWords a b) = true
 has_routines (form.Select site mode lists) = true
 has_routines (form.Ask pred terms many) = true
 has_routines (form.Query a b many) = true
@@ -42,7 +44,6 @@ has_routines (form.Stoppable goals) = true
 has_routines form.Forever = true
 has_routines (form.Collect a goals b) = true
 has_routines (form.Accumulate a goals b) = true
-has_routines other = false
 
 -- So has each of some goals.
 abbrev pub all_have : List Goal → Bool

@@ -6,6 +6,7 @@ use Rattle.dg_base.specs.declared.program.Term.{Term}
 use Rattle.dg_base.specs.declared.run.Ending.TheVariants.{HeapLimit, TrailLimit}
 use Rattle.dg_meaning.specs.Cells.{cells as cells_of}
 use Rattle.dg_meaning.specs.Copies.{copy_cells}
+use Rattle.dg_meaning.specs.Substitutions.{Substitution}
 use Rattle.dg_meaning.specs.Unify.{Unified}
 use Rattle.dg_meaning.specs.Values.{Value}
 use Rattle.dg_mid.specs.State.{Mid}
@@ -19,11 +20,15 @@ use Rattle.z_lang.specs.declared.act.Args.TheVariants as args
 use Rattle.z_lang.specs.declared.act.Atom.TheVariants as atoms
 use Rattle.z_lang.specs.declared.act.Routine.{Routine}
 use Rattle.z_lang.specs.State.{Program, State}
-use Rattle.z_lang.specs.Runs.{ActsRun, ActsOutcome, Returns, Stops, calls, calls_last}
+use Rattle.z_lang.specs.Runs.{ActsRun, ActsOutcome, Returns, Stops, Rests, rests, calls, calls_last}
+use Rattle.dg_rt.specs.declared.numbers.TheConstants.{FAIL, MADE}
+use Rattle.dg_rt.specs.declared.splitting.TheConstants.{MADE_ACTS}
 use Rattle.dg_rt.specs.inside.Walks.{steps}
 use Rattle.dg_rt.specs.Cells.{Holds, with_cell, replaced}
 use Rattle.dg_rt.specs.Areas.{heap_at, state}
+use Rattle.dg_rt.specs.Charges.{MeetsLimit}
 use Rattle.dg_rt.specs.Closings.{closing, closing_most}
+use Rattle.dg_rt.specs.Making.{IsGiven, LaysNone, LaysOn, MadeWorks}
 use Rattle.dg_rt.specs.Operands.{no_value}
 use Rattle.dg_rt.specs.RunTime.{routine_of, HasRunTime}
 use Rattle.dg_rt.specs.Shapes.{Shape, IsShape, Shows, number, dict, object, nil, variable, boxed}
@@ -32,7 +37,6 @@ use Rattle.dg_rt.proofs.Cells.{other_cell, same_cell}
 use Rattle.dg_rt.proofs.Following.{word as word_is, register, puts}
 use Rattle.dg_rt.proofs.Grows.{grown_shows}
 use Rattle.dg_rt.proofs.UnifySteps.{steps_are}
-use Rattle.dg_turn.specs.LawForm.{MADE, LaysOn, MakesValue, TellsMade}
 use Rattle.dg_turn.specs.Told.{Telling}
 use Rattle.dg_turn.specs.Lies.{StateIn, MidIn}
 use Rattle.dg_turn.specs.Plays.{Playing, Outside, Represented, Closes}
@@ -41,11 +45,12 @@ use Rattle.dg_turn.specs.Terms.{written_in, Wrote}
 use Rattle.dg_turn.specs.Turns.{agreed_next, match_acts, last_acts}
 use Rattle.dg_turn.specs.Operating.{term_value, InFront}
 use Rattle.dg_turn.specs.World.{value_equation, value_unified}
+use Rattle.dg_turn.specs.Typing.{HasTables}
 use Rattle.dg_turn.specs.Wording.{word_routine, wording_most, worded_most, ComesLined, Wording}
 use Rattle.dg_turn.proofs.Ends.{next_small, concludes}
 use Rattle.dg_turn.proofs.Growing.{stands_same}
 use Rattle.dg_turn.proofs.Grows.{mid_grown}
-use Rattle.dg_turn.proofs.InputTurn.{joined, joined_low, joined_high}
+use Rattle.dg_turn.proofs.InputTurn.{acts_keep, joined, joined_low, joined_high}
 use Rattle.dg_turn.proofs.Matching.{Goes, matches, skips}
 use Rattle.dg_turn.proofs.Moving.{moves_to, closes}
 use Rattle.dg_turn.proofs.Staying.{IsKept, mid_same}
@@ -61,7 +66,16 @@ shown_low is nil = omega arith
 shown_low is (variable n lt) = let w = is.within n lt in omega arith
 shown_low is (boxed k h lt at c b) = omega arith
 
-module _ (made_acts : List Act) (made_at : (p : Program) → HasRunTime p → p.routine_at (p.names.routine MADE) ≡ Some (routine_of 1 made_acts)) (made_works : (p : Program) → HasRunTime p → (f w : ℕ) (memory typed output : List ℕ) (drawn x : ℕ) (cells : ℕ → ℕ) → Holds p.world.layout memory cells → x < 65536 → TellsMade p f w made_acts memory typed output drawn x cells) (t : Telling) (plays : Playing t) (out : Outside) (maker many : ℕ) (making : List Act) (a b : Term) (behind : ℕ) (made : Option Value) (cost : ℕ) (m : Mid) (z : ZState) (e : InFront t out (word_routine t.program maker a b behind) (a ∷ b ∷ []) m z) where
+-- A routine makes a value, or none; where there is no room for it the heap's limit is met.
+pub record Makes (p : Program) (f w : ℕ) (acts : List Act) (memory locals typed output : List ℕ) (drawn : ℕ) (cells : ℕ → ℕ) (sh : Shape) (S : Substitution) (made : Option Value) (most : ℕ) : Type 0 where
+  pub nothing : made ≡ None → LaysNone p f w acts memory locals typed output drawn cells most
+  pub lays : (v : Value) → made ≡ Some v → sh.top + copy_cells v ≤ 10000 → LaysOn p f w acts memory locals typed output drawn cells sh S v most
+  pub meets : (v : Value) → made ≡ Some v → 10000 < sh.top + copy_cells v → MeetsLimit p f w acts memory locals typed output drawn cells most
+
+made_at : (p : Program) → HasRunTime p → p.routine_at (p.names.routine MADE) ≡ Some (routine_of 1 MADE_ACTS)
+made_at p has = has.each (MADE - 1) (routine_of 1 MADE_ACTS) refl
+
+module _ (made_works : MadeWorks) (t : Telling) (plays : Playing t) (out : Outside) (maker many : ℕ) (making : List Act) (a b : Term) (behind : ℕ) (made : Option Value) (cost : ℕ) (m : Mid) (z : ZState) (e : InFront t out (word_routine t.program maker a b behind) (a ∷ b ∷ []) m z) where
   abbrev r : Represented t out e.x m z
   r = e.rep
 
@@ -100,7 +114,7 @@ module _ (made_acts : List Act) (made_at : (p : Program) → HasRunTime p → p.
   given w1 = take many (w1.cells' 16 ∷ 0 ∷ 0 ∷ zeros)
 
   abbrev pub MadeOf : Written → Type 0
-  MadeOf w1 = MakesValue t.p 3400 15000 making w1.memory' (given w1) out.typed out.output out.drawn w1.cells' w1.sh' m.state.subst made cost
+  MadeOf w1 = Makes t.p 3400 15000 making w1.memory' (given w1) out.typed out.output out.drawn w1.cells' w1.sh' m.state.subst made cost
 
   written : m.state.heap + n ≤ 10000 → Written
   written room = writes_terms t plays.has 3500 19000 r.sh r.memory out.typed out.output out.drawn r.cells r.trail m r.holds r.mid routine.body (omega arith) (omega arith) rest1 32 ts (omega arith) (omega arith) (λ q. absurd (omega arith)) e.nodes room
@@ -110,6 +124,28 @@ module _ (made_acts : List Act) (made_at : (p : Program) → HasRunTime p → p.
       let k = meets_terms t plays.has 3500 19000 r.sh r.memory out.typed out.output out.drawn r.cells r.trail m r.holds r.mid routine.body (omega arith) (omega arith) rest1 32 ts over in
       let few = k.few in
       closes t plays out e.x m z r routine e.there (omega arith) k.count (10 + closing_most) HeapLimit k.memory' k.locals' k.runs (omega arith)
+
+  -- the word of the first term is given, in a story that has the tables
+  pub is_given : HasTables t → (w1 : Written) → IsGiven t.p t.story t.program.words w1.memory' w1.cells' w1.sh' m.state.subst (w1.cells' 16) (term_value t.program m a)
+  is_given tables w1 =
+      let s = w1.mid.state in
+      record {
+        told = record {
+          has = plays.has;
+          told = λ memory place lt few kept.
+              let same = s.told place in
+              tables.captures.told memory place lt (omega arith) kept ∙ ap (λ (i : ℕ). Some i) (sym same);
+        };
+        spelled = tables.words;
+        holds = w1.holds;
+        kept = acts_keep t plays e.x routine e.there refl r.memory out.typed out.output out.drawn r.kept (Rests rest1) (now w1.memory') (steps w1.count 0) (w1.runs (Rests rest1) (now w1.memory') 0 rests);
+        shape = s.shape;
+        low = s.low;
+        stands = s.stands;
+        known = s.known;
+        heap = w1.mid.heap ∙ sym s.heap;
+        shows = w1.words.0;
+      }
 
   module _ (stands : t.p.routine_at (t.p.names.routine maker) ≡ Some (routine_of many making)) (fits : many ≤ 15) (w1 : Written) (law : MadeOf w1) where
     -- words outside are as they were but for those of the line
@@ -140,7 +176,7 @@ module _ (made_acts : List Act) (made_at : (p : Program) → HasRunTime p → p.
         let put1 = puts t.p (now memory1) cells1 52 x h (omega arith) (omega arith) (omega arith) small in
         let memory2 = with_cell memory1 36 x in
         let c2 = replaced cells1 36 x in
-        let k = made_works t.p plays.has 3400 15000 memory2 out.typed out.output out.drawn x c2 put1.holds small in
+        let k = made_works t.p plays.has 3400 15000 memory2 out.typed out.output out.drawn x c2 put1.holds in
         let put2 = puts t.p (now k.memory') k.cells' 52 x k.holds (omega arith) (omega arith) (omega arith) small in
         let memory4 = with_cell k.memory' 36 x in
         record {
@@ -155,7 +191,7 @@ module _ (made_acts : List Act) (made_at : (p : Program) → HasRunTime p → p.
           to_match = λ o s' j go. w1.runs o s' (suc count1 + (suc k.count + j))
               (calls {f' = 3400} {w' = 15000} {n = count1} {n' = suc k.count + j} {xs = (w1.cells' 16, 0, 0)} {s1 = state memory1 locals1 out.typed out.drawn out.output} {s2 = now memory2} refl
               (rw (register t.p (now w1.memory') w1.cells' 32 w1.holds (omega arith) (omega arith) (omega arith)) refl) stands (omega arith) (omega arith) runs put1.put_is
-              (calls {f' = 3400} {w' = 15000} {n = k.count} {n' = j} {xs = (x, 0, 0)} {s1 = state k.memory' k.locals' out.typed out.drawn out.output} {s2 = now memory4} refl
+              (calls {f' = 3400} {w' = 15000} {n = k.count} {n' = j} {xs = (x, 0, 0)} {s1 = state k.memory' (x ∷ []) out.typed out.drawn out.output} {s2 = now memory4} refl
               (rw (register t.p (now memory2) c2 52 put1.holds (omega arith) (omega arith) (omega arith) ∙ ap word_is (same_cell cells1 36 x)) refl) (made_at t.p plays.has) (omega arith) (omega arith) k.runs put2.put_is go));
         }
 
@@ -167,10 +203,10 @@ module _ (made_acts : List Act) (made_at : (p : Program) → HasRunTime p → p.
         let k = answered 65535 g.count g.memory' g.locals' g.cells' (omega arith) g.holds g.runs in
         let c3 = k.cells' in
         let one : c3 13 ≡ 1 = k.clash in
-        let stays : (j : ℕ) → j ≢ 13 → j ≢ 36 → j ≢ 38 → j ≢ 39 → (15315 ≤ j → 15945 ≤ j) → c3 j ≡ w1.cells' j = λ j n13 n36 n38 n39 far. k.others j n13 n36 ∙ g.others j n38 n39 far in
+        let stays : (j : ℕ) → j ≢ 13 → j ≢ 36 → (15315 ≤ j → 15945 ≤ j) → c3 j ≡ w1.cells' j = λ j n13 n36 far. k.others j n13 n36 ∙ g.others j far in
         let words3 = joined out.words c3 in
         let mid3 : MidIn t words3 w1.sh' c3 r.trail (more n m) = mid_world t w1.sh' w1.cells' c3 r.trail (more n m) words3
-            (λ j n0 kept lt. stays j (λ (q : j ≡ 13). (let y = kept.0 (omega arith) in omega arith)) (λ (q : j ≡ 36). (let y = kept.1 (omega arith) in omega arith)) (λ (q : j ≡ 38). (let y = kept.1 (omega arith) in omega arith)) (λ (q : j ≡ 39). (let y = kept.1 (omega arith) in omega arith)) (λ q. absurd (omega arith)))
+            (λ j n0 kept lt. stays j (λ (q : j ≡ 13). (let y = kept.0 (omega arith) in omega arith)) (λ (q : j ≡ 36). (let y = kept.1 (omega arith) in omega arith)) (λ q. absurd (omega arith)))
             (λ j lt. joined_low out.words c3 j lt) (λ j le. sym (joined_high out.words c3 j le)) w1.mid in
         let last = concludes t.p plays.has plays.words 3500 19000 (omega arith) (omega arith) routine.body k.memory' out.typed out.output out.drawn behind c3 k.holds false one in
         let y = t.p.names.routine FAIL in
@@ -182,7 +218,7 @@ module _ (made_acts : List Act) (made_at : (p : Program) → HasRunTime p → p.
         let e2 = steps_are (3 * 1) 4 in
         record {
           words' = words3;
-          others = lined c3 (λ j le far. stays j (λ q. (omega arith)) (λ q. (omega arith)) (λ q. (omega arith)) (λ q. (omega arith)) far);
+          others = lined c3 (λ j le far. stays j (λ q. (omega arith)) (λ q. (omega arith)) far);
           comes = moves_to t plays out e.x m z r routine e.there (omega arith) (record out { words = words3 }) y (steps w1.count (suc g.count + (suc k.count + steps (3 * 1) 4))) (wording_most t.program a b cost) last.memory' [] last.cells' w1.sh' r.trail (more n m)
               (k.to_match (Returns y) (now last.memory') (steps (3 * 1) 4) skip)
               last.holds (next_small t.p plays.words behind false) (mid_same t w1.sh' c3 last.cells' r.trail (more n m) (λ j ne far. last.others j (λ (q : j ≡ 36). (let v = far.1 (omega arith) in omega arith))) mid3) (omega arith);
@@ -226,7 +262,7 @@ module _ (made_acts : List Act) (made_at : (p : Program) → HasRunTime p → p.
         clear : c3 13 ≡ 0
         clear = let low = low_word in k.clash ∙ cond-false (g.word == no_value) 1 0 (ne_eqb g.word no_value (λ q. (omega arith)))
 
-        stays : (j : ℕ) → j ≢ 3 → j ≢ 13 → j ≢ 36 → j ≢ 38 → j ≢ 39 → (heap_at + w1.sh'.top ≤ j → heap_at + (w1.sh'.top + copy_cells v) ≤ j) → (15315 ≤ j → 15945 ≤ j) → c3 j ≡ w1.cells' j
+        stays : (j : ℕ) → j ≢ 3 → j ≢ 13 → j ≢ 36 → j ≢ 38 → j ≢ 39 → (heap_at + w1.sh'.top ≤ j → 10315 ≤ j) → (15315 ≤ j → 15945 ≤ j) → c3 j ≡ w1.cells' j
         stays j n3 n13 n36 n38 n39 far far' = k.others j n13 n36 ∙ g.others j n3 n38 n39 far far'
 
         abbrev words3 : ℕ → ℕ
@@ -258,7 +294,7 @@ module _ (made_acts : List Act) (made_at : (p : Program) → HasRunTime p → p.
 
         mid_hybrid : MidIn t out.words g.sh' hybrid r.trail m2
         mid_hybrid =
-            let heap : hybrid 3 ≡ m2.state.heap = (let a1 = g.heap in let b1 = w1.mid.heap in joined_low c3 w1.cells' 3 (omega arith) ∙ k.others 3 (λ q. (omega arith)) (λ q. (omega arith)) ∙ a1 ∙ (omega arith)) in
+            let heap : hybrid 3 ≡ m2.state.heap = (let a1 = g.heap in let b1 = w1.mid.state.heap in joined_low c3 w1.cells' 3 (omega arith) ∙ k.others 3 (λ q. (omega arith)) (λ q. (omega arith)) ∙ a1 ∙ (omega arith)) in
             mid_grown t w1.sh' g.sh' w1.cells' hybrid r.trail (more n m) m2.state g.grown g.boxes (λ i le lt. (let vars = g.vars in absurd (omega arith))) refl refl heap
             (λ j n0 n3 kept far. by_side j n3 kept far (cases_lt j aux_end)) grown_state w1.mid
           where
@@ -266,7 +302,7 @@ module _ (made_acts : List Act) (made_at : (p : Program) → HasRunTime p → p.
             by_side j n3 kept far (inl lt) =
                 let few = w1.mid.state.few in
                 let top = w1.mid.state.heap in
-                joined_low c3 w1.cells' j lt ∙ stays j n3 (λ (q : j ≡ 13). (let y = kept.0 (omega arith) in omega arith)) (λ (q : j ≡ 36). (let y = kept.1 (omega arith) in omega arith)) (λ (q : j ≡ 38). (let y = kept.1 (omega arith) in omega arith)) (λ (q : j ≡ 39). (let y = kept.1 (omega arith) in omega arith)) (λ q. (let y = far q in omega arith)) (λ q. absurd (omega arith))
+                joined_low c3 w1.cells' j lt ∙ stays j n3 (λ (q : j ≡ 13). (let y = kept.0 (omega arith) in omega arith)) (λ (q : j ≡ 36). (let y = kept.1 (omega arith) in omega arith)) (λ (q : j ≡ 38). (let y = kept.1 (omega arith) in omega arith)) (λ (q : j ≡ 39). (let y = kept.1 (omega arith) in omega arith)) far (λ q. absurd (omega arith))
             by_side j n3 kept far (inr le) = joined_high c3 w1.cells' j le
 
         mid3 : MidIn t words3 g.sh' c3 r.trail m2

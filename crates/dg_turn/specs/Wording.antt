@@ -1,14 +1,14 @@
 -- Words that are split and joined, as turns. Hold it against docs/LANGUAGE.md, "Built-in queries", on splitting and joining words, and `splits` and
 -- `joins` of dg_meaning/specs/Moves.antt.
-use Rattle.std.specs.Prelude.{◌≡◌, ℕ, ◌+◌, ◌<◌, ◌≤◌, List, [], ◌∷◌, ◌++◌, Option, Some, None}
+use Rattle.std.specs.Prelude.{◌≡◌, ℕ, ◌+◌, ◌*◌, ◌<◌, ◌≤◌, List, [], ◌∷◌, ◌++◌, Option, Some, None}
 use Rattle.dg_base.specs.declared.program.CoreProgram.{CoreProgram}
 use Rattle.dg_base.specs.declared.program.Term.{Term}
 use Rattle.dg_base.specs.declared.run.Ending.TheVariants.{HeapLimit, TrailLimit}
 use Rattle.dg_meaning.specs.Cells.{cells}
 use Rattle.dg_meaning.specs.Copies.{copy_cells}
-use Rattle.dg_meaning.specs.Substitutions.{walk, resolved}
+use Rattle.dg_meaning.specs.Substitutions.{walk}
 use Rattle.dg_meaning.specs.Values.{Value}
-use Rattle.dg_meaning.specs.Words.{letters_in_word, joined_letters, each_alone, spelled_value, spelled_list}
+use Rattle.dg_meaning.specs.Words.{letters_in_word, each_alone, spelled_list}
 use Rattle.dg_mid.specs.State.{Mid}
 use Rattle.dg_mid.specs.Step.{bound, more, trail_more}
 use Rattle.z_model.specs.Run.{ZState}
@@ -16,18 +16,19 @@ use Rattle.z_lang.specs.declared.act.Act.TheVariants as acts
 use Rattle.z_lang.specs.declared.act.Args.TheVariants as args
 use Rattle.z_lang.specs.declared.act.Atom.TheVariants as atoms
 use Rattle.z_lang.specs.declared.act.Routine.{Routine}
-use Rattle.dg_rt.specs.declared.numbers.TheConstants.{FAIL}
+use Rattle.dg_rt.specs.declared.numbers.TheConstants.{FAIL, SPLIT, MADE}
 use Rattle.dg_rt.specs.declared.registers.TheConstants.{ARGS, WORD}
 use Rattle.dg_rt.specs.Areas.{line_at, fixed_end}
 use Rattle.dg_rt.specs.Closings.{closing_most}
+use Rattle.dg_rt.specs.Making.{making_most}
 use Rattle.dg_rt.specs.RunTime.{routine_of}
 use Rattle.dg_rt.specs.Unifies.{price}
-use Rattle.dg_turn.specs.LawForm.{SPLIT, JOIN, MADE}
 use Rattle.dg_turn.specs.Told.{Telling}
 use Rattle.dg_turn.specs.Plays.{Playing, Outside, Comes, Closes}
-use Rattle.dg_turn.specs.Operating.{InFront, term_value}
+use Rattle.dg_turn.specs.Operating.{InFront, term_value, term_links}
 use Rattle.dg_turn.specs.Terms.{terms_acts, written_in}
 use Rattle.dg_turn.specs.Turns.{agreed_next, match_acts, last_acts}
+use Rattle.dg_turn.specs.Typing.{HasTables}
 use Rattle.dg_turn.specs.World.{value_equation, value_unified}
 
 -- ## The routines
@@ -40,12 +41,9 @@ word_routine program maker a b behind =
     ∷ acts.Call (Some WORD) (atoms.Routine MADE) (args.One (atoms.Var WORD))
     ∷ (match_acts (ARGS + 1) WORD 1 ++ last_acts behind)))
 
--- The routines of the two goals.
+-- The routine that splits a word.
 abbrev pub split_routine : CoreProgram → Term → Term → ℕ → Routine
 split_routine program a b behind = word_routine program SPLIT a b behind
-
-abbrev pub join_routine : CoreProgram → Term → Term → ℕ → Routine
-join_routine program a b behind = word_routine program JOIN a b behind
 
 -- ## What is made
 
@@ -54,21 +52,25 @@ abbrev pub spelled_apart : List (List ℕ) → Option (List ℕ) → Option Valu
 spelled_apart words None = None
 spelled_apart words (Some letters) = Some (spelled_list words (each_alone letters))
 
--- The value that letters spell together, where there are letters.
-abbrev pub spelled_whole : List (List ℕ) → Option (List ℕ) → Option Value
-spelled_whole words None = None
-spelled_whole words (Some letters) = Some (spelled_value words letters)
+-- The letters of a term that is looked up, if it is a word or a number, and what they are split into.
+abbrev pub split_letters : CoreProgram → Term → Mid → Option (List ℕ)
+split_letters program a m = letters_in_word program.words (walk m.state.subst (term_value program m a))
 
--- What a term is split into, and what it is joined to, if it can be.
 abbrev pub split_of : CoreProgram → Term → Mid → Option Value
-split_of program a m = spelled_apart program.words (letters_in_word program.words (walk m.state.subst (term_value program m a)))
+split_of program a m = spelled_apart program.words (split_letters program a m)
 
-abbrev pub joined_of : CoreProgram → Term → Mid → Option Value
-joined_of program a m = spelled_whole program.words (joined_letters program.words (resolved m.state.subst (term_value program m a)))
+-- ## What it takes
 
--- ## What it comes to
+-- What it takes at most to split letters behind what was looked at, and to lay their list.
+abbrev pub splitting : List (List ℕ) → ℕ → Option (List ℕ) → ℕ
+splitting words looks None = looks
+splitting words looks (Some letters) = looks + making_most words letters (spelled_list words (each_alone letters))
 
--- What it takes at most, where a value is made, or found to be none, in so many instructions, and with unifying the value.
+-- The same of a term.
+abbrev pub split_most : CoreProgram → Term → Mid → ℕ
+split_most program a m = splitting program.words (5 * term_links program m a + 40) (split_letters program a m)
+
+-- What the whole takes at most, where a value is made, or found to be none, in so many instructions, and with unifying the value.
 abbrev pub wording_most : CoreProgram → Term → Term → ℕ → ℕ
 wording_most program a b making = written_in program (a ∷ b ∷ []) + making + 50
 
@@ -79,6 +81,8 @@ worded_most program a b v making m = wording_most program a b making + price m.s
 abbrev pub word_paid : CoreProgram → Term → Term → Option Value → ℕ → Mid → ℕ
 word_paid program a b None making m = wording_most program a b making
 word_paid program a b (Some v) making m = worded_most program a b v making m
+
+-- ## What it comes to
 
 -- The player comes to a machine; the words outside are as before but for those of the line.
 pub record ComesLined (t : Telling) (out : Outside) (next : ℕ) (m : Mid) (most : ℕ) (z : ZState) : Type 0 where
@@ -101,3 +105,9 @@ pub record Wording (t : Telling) (out : Outside) (a b : Term) (behind : ℕ) (ma
       Closes t out HeapLimit (worded_most t.program a b v making m + closing_most) z
   pub meets_trail : (v : Value) → m.state.heap + cells t.program (a ∷ b ∷ []) + copy_cells v ≤ 10000 → made ≡ Some v →
       2000 < trail_more m.state (value_unified t.program b v m) → Closes t out TrailLimit (worded_most t.program a b v making m + closing_most) z
+
+-- Splitting a word is such a turn, in a story that has the tables.
+abbrev pub SplitTurns : Type 0
+SplitTurns = (t : Telling) → Playing t → HasTables t → (out : Outside) (a b : Term) (behind : ℕ) (m : Mid) (z : ZState) →
+    InFront t out (split_routine t.program a b behind) (a ∷ b ∷ []) m z →
+    Wording t out a b behind (split_of t.program a m) (split_most t.program a m) m z

@@ -10,14 +10,11 @@ use Rattle.dg_mid.specs.declared.code.Op.TheVariants as op
 use Rattle.dg_mid.specs.State.{Mid, Runs}
 use Rattle.dg_mid.specs.Step.{Setting}
 use Rattle.dg_turn.specs.Terms.{AreNodes}
-use Rattle.dg_turn.specs.Wording.{split_of, split_making, joined_of, join_making, word_paid}
+use Rattle.dg_turn.specs.Wording.{split_of, split_most, word_paid}
 use Rattle.dg_turn.specs.Paid.{paid}
 
--- So it is with both.
+-- So it is with splitting.
 pub record WordsArePaid : Type 0 where
   pub split : (g : Setting) (ps : List Print) (m : Mid) (a b : Term) (ops : List Op) → m.ops ≡ op.Do (action.SplitWord a b) ∷ ops →
       AreNodes g.game.program (nodes_of (a ∷ b ∷ [])) →
-      word_paid g.game.program a b (split_of g.game.program a m) (split_making g.game.program a m) m ≤ paid g ps (Runs m)
-  pub join : (g : Setting) (ps : List Print) (m : Mid) (a b : Term) (ops : List Op) → m.ops ≡ op.Do (action.JoinWords a b) ∷ ops →
-      AreNodes g.game.program (nodes_of (a ∷ b ∷ [])) →
-      word_paid g.game.program a b (joined_of g.game.program a m) (join_making g.game.program a m) m ≤ paid g ps (Runs m)
+      word_paid g.game.program a b (split_of g.game.program a m) (split_most g.game.program a m) m ≤ paid g ps (Runs m)
