@@ -21,6 +21,7 @@ pub mod Finding
 pub mod GlobalChanging
 pub mod GlobalFinding
 pub mod TypingLeads
+pub mod WordingLeads
 pub mod Querying
 pub mod Printing
 pub mod PrintingValues

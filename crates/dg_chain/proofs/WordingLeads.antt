@@ -7,10 +7,9 @@ use Rattle.dg_meaning.specs.Cells.{cells}
 use Rattle.dg_meaning.specs.Copies.{copy_cells}
 use Rattle.dg_meaning.specs.Moves.{gives, splits, joins, spelled, looked_up, whole_looks}
 use Rattle.dg_meaning.specs.Path.{Registers}
-use Rattle.dg_meaning.specs.Substitutions.{walk, resolved}
 use Rattle.dg_meaning.specs.Unify.{Unified}
 use Rattle.dg_meaning.specs.Values.{Value}
-use Rattle.dg_meaning.specs.Words.{letters_in_word, joined_letters, each_alone, spelled_value, spelled_list}
+use Rattle.dg_meaning.specs.Words.{spelled_value}
 use Rattle.dg_meaning.specs.World.{World, Print, worked}
 use Rattle.dg_mid.specs.declared.code.Action.TheVariants as action
 use Rattle.dg_mid.specs.declared.code.Code.{Code}
@@ -26,11 +25,11 @@ use Rattle.dg_turn.specs.Told.{Telling}
 use Rattle.dg_turn.specs.Plays.{Playing}
 use Rattle.dg_turn.specs.Paid.{paid}
 use Rattle.dg_turn.specs.Operating.{term_value, InFront}
-use Rattle.dg_turn.specs.Wording.{split_routine, join_routine, spelled_apart, spelled_whole, wording_most, worded_most, word_paid, ComesLined, Wording}
+use Rattle.dg_turn.specs.Wording.{split_routine, join_routine, spelled_by, split_letters, apart, split_most, join_letters, join_most, wording_most, worded_most, word_paid, ComesLined, Wording}
 use Rattle.dg_turn.specs.World.{value_unified}
 use Rattle.dg_turn.proofs.Places.{facts_apart}
 use Rattle.dg_turn.proofs.Sites.{sites_same}
-use Rattle.dg_turn.proofs.Wordings.{split_turns, join_turns}
+use Rattle.dg_turn.proofs.WordTurns.{split_turns, join_turns}
 use Rattle.dg_turn.proofs.PaidWording.{words_are_paid}
 use Rattle.dg_chain.specs.Routines.{Words, OpsAt}
 use Rattle.dg_chain.specs.Stands.{Printed, Stands}
@@ -138,11 +137,12 @@ module _ (t : Telling) (plays : Playing t) (code : Code) (dice : List ℕ) where
           (λ over. finishes t code dice 1 (omega arith) ps s.printed ending.TrailLimit (most + closing_most) cost z (λ q. (cc)) (let f = fits in omega arith) (k.meets_trail v more_room refl over)))
           (λ over. finishes t code dice 1 (omega arith) ps s.printed ending.HeapLimit (most + closing_most) cost z (λ q. (cc)) (let f = fits in omega arith) (k.meets_value v room refl over)))
 
-    split_by : (letters : Option (List ℕ)) → Wording t s.printed.out a b behind (spelled_apart t.program.words letters) making m z → word_paid t.program a b (spelled_apart t.program.words letters) making m ≤ cost → m.state.heap + n ≤ 10000 → Lead t code dice 1 ps (done set (splits set.game letters into r looked) m') cost z
+    -- by the letters, if there are any
+    split_by : (letters : Option (List ℕ)) → Wording t s.printed.out a b behind (spelled_by (apart t.program) letters) making m z → word_paid t.program a b (spelled_by (apart t.program) letters) making m ≤ cost → m.state.heap + n ≤ 10000 → Lead t code dice 1 ps (done set (splits set.game letters into r looked) m') cost z
     split_by None k fits room = fails_leads k fits room
-    split_by (Some l) k fits room = given_leads (spelled_list t.program.words (each_alone l)) (length l) k fits room
+    split_by (Some l) k fits room = given_leads (apart t.program l) (length l) k fits room
 
-    joined_by : (letters : Option (List ℕ)) → Wording t s.printed.out a b behind (spelled_whole t.program.words letters) making m z → word_paid t.program a b (spelled_whole t.program.words letters) making m ≤ cost → m.state.heap + n ≤ 10000 → Lead t code dice 1 ps (done set (joins set.game letters into r looked) m') cost z
+    joined_by : (letters : Option (List ℕ)) → Wording t s.printed.out a b behind (spelled_by (spelled_value t.program.words) letters) making m z → word_paid t.program a b (spelled_by (spelled_value t.program.words) letters) making m ≤ cost → m.state.heap + n ≤ 10000 → Lead t code dice 1 ps (done set (joins set.game letters into r looked) m') cost z
     joined_by None k fits room = fails_leads k fits room
     joined_by (Some l) k fits room = given_leads (spelled_value t.program.words l) (length l) k fits room
 
@@ -155,13 +155,13 @@ module _ (t : Telling) (plays : Playing t) (code : Code) (dice : List ℕ) where
       let m' = more n (record m { ops = rest }) in
       let r = registers_of m' in
       let v = term_value t.program m a in
-      let letters = letters_in_word t.program.words (walk m.state.subst v) in
+      let letters = split_letters t.program a m in
       let looks = looked_up r v in
       let cost = paid set ps (Runs m) in
       let unit = a_unit t code dice ps m in
       silently t code dice ps m rest z x e _ cost (none_split letters (term_value t.program m b) r looks m')
       (charged_leads t code dice 1 (omega arith) ps s.printed n (record m { ops = rest }) (done set (splits set.game letters (term_value t.program m b) r (worked looks (world_of [] m'))) m') cost z s.at.rep.mid.state.few
-      (λ room. split_by a b ps m rest z s o.writes.goes.behind o.writes.goes.next looks (split_making t.program a m) letters k (words_are_paid.split set ps m a b rest e o.writes.nodes) room)
+      (λ room. split_by a b ps m rest z s o.writes.goes.behind o.writes.goes.next looks (split_most t.program a m) letters k (words_are_paid.split set ps m a b rest e o.writes.nodes) room)
       (λ over. finishes t code dice 1 (omega arith) ps s.printed ending.HeapLimit (10 + closing_most) cost z (λ q. (cc)) (omega arith) (k.meets_heap over)))
 
   pub join_leads : (a b : Term) → OpLeads t code dice (op.Do (action.JoinWords a b))
@@ -173,11 +173,11 @@ module _ (t : Telling) (plays : Playing t) (code : Code) (dice : List ℕ) where
       let m' = more n (record m { ops = rest }) in
       let r = registers_of m' in
       let v = term_value t.program m a in
-      let letters = joined_letters t.program.words (resolved m.state.subst v) in
+      let letters = join_letters t.program a m in
       let looks = whole_looks r v in
       let cost = paid set ps (Runs m) in
       let unit = a_unit t code dice ps m in
       silently t code dice ps m rest z x e _ cost (none_joined letters (term_value t.program m b) r looks m')
       (charged_leads t code dice 1 (omega arith) ps s.printed n (record m { ops = rest }) (done set (joins set.game letters (term_value t.program m b) r (worked looks (world_of [] m'))) m') cost z s.at.rep.mid.state.few
-      (λ room. joined_by a b ps m rest z s o.writes.goes.behind o.writes.goes.next looks (join_making t.program a m) letters k (words_are_paid.join set ps m a b rest e o.writes.nodes) room)
+      (λ room. joined_by a b ps m rest z s o.writes.goes.behind o.writes.goes.next looks (join_most t.program a m) letters k (words_are_paid.join set ps m a b rest e o.writes.nodes) room)
       (λ over. finishes t code dice 1 (omega arith) ps s.printed ending.HeapLimit (10 + closing_most) cost z (λ q. (cc)) (omega arith) (k.meets_heap over)))

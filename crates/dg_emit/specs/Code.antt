@@ -1,5 +1,5 @@
 -- The routines of code, in the order of their numbers. Hold it against dg_mid/specs/Step.antt, and each against what dg_turn says that it does.
-use Rattle.std.specs.Prelude.{ℕ, ◌+◌, ◌≤◌, List, [], ◌∷◌, ◌++◌, length, map, All, Some, Bool, true, false, ◌&&◌}
+use Rattle.std.specs.Prelude.{ℕ, ◌+◌, ◌≤◌, List, [], ◌∷◌, ◌++◌, length, map, All, Some, None}
 use Rattle.std.specs.List.{slice_get}
 use Rattle.std.specs.Str.{chars}
 use Rattle.dg_base.specs.declared.program.CoreProgram.{CoreProgram}
@@ -46,56 +46,7 @@ use Rattle.dg_emit.specs.World.{change_routine, ChangeFits, FlagFits, WorldFits}
 
 -- ## Instructions
 
--- Instructions that have a routine so far.
-abbrev pub is_built : Op → Bool
-is_built (op.Do action.Just) = true
-is_built (op.Do action.Fail) = true
-is_built (op.Do action.Stop) = true
-is_built (op.Do action.Quit) = true
-is_built (op.Do (action.Text text)) = true
-is_built (op.Do (action.Gap kind)) = true
-is_built (op.Do (action.GapN a)) = true
-is_built (op.Do (action.Test kind a)) = true
-is_built (op.Do (action.Compare f a b)) = true
-is_built (op.Do (action.Arith f a b c)) = true
-is_built (op.Do (action.Random a b c)) = true
-is_built (op.Do (action.Input a)) = true
-is_built (op.Do (action.SplitWord a b)) = true
-is_built (op.Do (action.JoinWords a b)) = true
-is_built (op.Do (action.Equal a b)) = true
-is_built (op.Do (action.Now place args sets)) = true
-is_built (op.Do (action.Print a)) = true
-is_built (op.Ask pred terms many next) = true
-is_built (op.LastAsk pred terms many) = true
-is_built (op.Query a b many next) = true
-is_built (op.LastQuery a b many) = true
-is_built (op.Find (Some place) [] many next) = true
-is_built (op.Find place (t ∷ ts) many next) = true
-is_built (op.Select site mode blocks next) = true
-is_built op.Take = true
-is_built (op.Branch alt) = true
-is_built op.Once = true
-is_built (op.Try alt) = true
-is_built (op.Shield alt) = true
-is_built (op.Retry alt) = true
-is_built (op.Collect a b alt) = true
-is_built (op.TakeOut whole into) = true
-is_built (op.Keep a) = true
-is_built op.Commit = true
-is_built op.Refuse = true
-is_built op.Leave = true
-is_built op.Back = true
-is_built op.Return = true
-is_built (op.Goto block) = true
-is_built (op.Enter vars head) = true
-is_built op.Done = true
-is_built other = false
-
-abbrev pub are_built : List Op → Bool
-are_built [] = true
-are_built (x ∷ ops) = is_built x && are_built ops
-
--- The routine of an instruction that has one of its own, where the code behind it begins with another. What isn't built fails.
+-- The routine of an instruction that has one of its own, where the code behind it begins with another.
 abbrev pub op_routine : CoreProgram → Numbers → ℕ → Op → Routine
 op_routine program numbers behind (op.Do action.Just) = just_routine behind
 op_routine program numbers behind (op.Do action.Quit) = quit_routine
@@ -200,7 +151,7 @@ code_routines program first code =
 abbrev pub TermsFit : CoreProgram → List Term → Type 0
 TermsFit program terms = (length terms ≤ 12) × AreNodes program (nodes_of terms)
 
--- An instruction whose terms are those of a story, and whose text is one of printable characters.
+-- An instruction whose terms are those of a story, and whose text is one of printable characters; a query of objects has a term.
 abbrev pub OpFits : CoreProgram → Op → Type 0
 OpFits program (op.Do (action.Text text)) = IsName text
 OpFits program (op.Do (action.GapN a)) = TermsFit program (a ∷ [])
@@ -214,6 +165,7 @@ OpFits program (op.Do (action.JoinWords a b)) = TermsFit program (a ∷ b ∷ []
 OpFits program (op.Do (action.Equal a b)) = TermsFit program (a ∷ b ∷ [])
 OpFits program (op.Do (action.Now place args sets)) = TermsFit program args × ChangeFits program place (length args)
 OpFits program (op.Find (Some place) [] many next) = FlagFits program place
+OpFits program (op.Find None [] many next) = ⊥
 OpFits program (op.Find place (t ∷ ts) many next) = TermsFit program (t ∷ ts) × WorldFits program × QueryFits program place (length (t ∷ ts))
 OpFits program (op.Do (action.Print a)) = TermsFit program (a ∷ [])
 OpFits program (op.Ask pred terms many next) = TermsFit program terms

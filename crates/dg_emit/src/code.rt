@@ -23,37 +23,6 @@ use dg_rt::numbers::{DONE, FAIL};
 use std::alloc::AllocError;
 use z_lang::Routine;
 
-/// Whether an instruction has a routine so far.
-pub fn is_built(op: &Op) -> bool
-    ensures { result ≡ spec.is_built op.now }
-{
-    match op {
-        Op::Do(Action::Just) | Op::Do(Action::Fail) | Op::Do(Action::Stop) => true,
-        Op::Do(Action::Quit) | Op::Do(Action::Equal(_, _)) => true,
-        Op::Do(Action::Test(_, _)) | Op::Do(Action::Compare(_, _, _)) => true,
-        Op::Do(Action::Arith(_, _, _, _)) | Op::Do(Action::Random(_, _, _)) => true,
-        Op::Do(Action::Text(_)) | Op::Do(Action::Gap(_)) | Op::Do(Action::GapN(_)) => true,
-        Op::Do(Action::Now(_, _, _)) => true,
-        Op::Do(Action::Input(_)) => true,
-        Op::Do(Action::SplitWord(_, _)) | Op::Do(Action::JoinWords(_, _)) => true,
-        Op::Do(Action::Print(_)) => true,
-        Op::Find(None, terms, _, _) => !terms.is_empty(),
-        _ => true,
-    }
-}
-
-/// Whether all of them have.
-pub fn are_built(ops: &[Op]) -> bool
-    ensures { result ≡ spec.are_built ops.now }
-{
-    for op in ops {
-        if !is_built(op) {
-            return false;
-        }
-    }
-    true
-}
-
 /// Writes the routines of code.
 #[derive(Clone, Copy)]
 pub struct CodeWriter<'p> {

@@ -25,7 +25,7 @@ mod wording;
 mod world;
 
 pub use choices::{branch, commit, goto, just, leave, once, shield, try_first};
-pub use code::{CodeWriter, are_built, is_built};
+pub use code::CodeWriter;
 pub use counting::{all_of, captured, cells};
 pub use laws::routines_alike;
 pub use layout::{RuleWriter, put_code};

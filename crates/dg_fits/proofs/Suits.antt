@@ -194,6 +194,7 @@ op_fits p world (op.Do (action.Now place args sets)) e =
     let h = and_parts (terms_ok p args) (change_ok (slice_get (kinds_of p) place) (length args)) e in
     (terms_fit p args h.0, change_is p world place (length args) (slice_get (kinds_of p) place) refl h.1)
 op_fits p world (op.Find (Some place) [] many next) e = flag_is p world place (slice_get (kinds_of p) place) refl e
+op_fits p world (op.Find None [] many next) e = let no : false ≡ true = e in absurd (cc no)
 op_fits p world (op.Find None (t ∷ []) many next) e = (terms_fit p (t ∷ []) e, world, inl (record { sought = AnyObject; sought_is = refl; fits = refl; world = world }))
 op_fits p world (op.Find None (t ∷ u ∷ ts) many next) e = let no : false ≡ true = e in absurd (cc no)
 op_fits p world (op.Find (Some place) (t ∷ ts) many next) e =

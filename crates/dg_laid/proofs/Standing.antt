@@ -47,7 +47,7 @@ use Rattle.dg_turn.proofs.Sites.{site_placed, numbers_long}
 use Rattle.dg_emit.specs.declared.numbers.Numbers.{Numbers}
 use Rattle.dg_emit.specs.Numbers.{first_of, first_rule, rules_count, blocks_size, behind_blocks, number_behind, bodies_size, block_starts, pred_starts, numbers_from, number_or, block_number, pred_number}
 use Rattle.dg_emit.specs.Bodies.{bodies_routines}
-use Rattle.dg_emit.specs.Code.{are_built, parameters_of, ops_routines, blocks_routines, rules_routines, preds_routines, code_routines, OpsFit, BlocksFit, RulesFit, PredsFit, CodeFits}
+use Rattle.dg_emit.specs.Code.{parameters_of, ops_routines, blocks_routines, rules_routines, preds_routines, code_routines, OpsFit, BlocksFit, RulesFit, PredsFit, CodeFits}
 use Rattle.dg_emit.specs.Sites.{site_address}
 use Rattle.dg_emit.specs.World.{change_routine, ChangeFits}
 use Rattle.dg_emit.proofs.Names.{name_chars}
@@ -252,56 +252,56 @@ module _ (t : Telling) (plays : Playing t) (world : HasWorld t) (tables : HasTab
         };
       }
 
-  ops_stand : (n : ℕ) (ops : List Op) → LieAt t.p n (ops_routines t.program numbers n ops) → are_built ops ≡ true → OpsReach code ops → OpsFit t.program ops →
+  ops_stand : (n : ℕ) (ops : List Op) → LieAt t.p n (ops_routines t.program numbers n ops) → OpsReach code ops → OpsFit t.program ops →
       OpsAt t code (at (first_of n ops)) ops
-  ops_stand n [] lie built calls fit = tt
-  ops_stand n (op.Do action.Just ∷ ops) lie built calls fit = goes just_routine n ops lie.0 (ops_stand (n + 1) ops lie.1 built calls.1 fit.1)
-  ops_stand n (op.Do action.Fail ∷ ops) lie built calls fit = lie.0
-  ops_stand n (op.Do action.Stop ∷ ops) lie built calls fit = refl
-  ops_stand n (op.Do action.Quit ∷ ops) lie built calls fit = lie.0
-  ops_stand n (op.Do (action.Text text) ∷ ops) lie built calls fit =
+  ops_stand n [] lie calls fit = tt
+  ops_stand n (op.Do action.Just ∷ ops) lie calls fit = goes just_routine n ops lie.0 (ops_stand (n + 1) ops lie.1 calls.1 fit.1)
+  ops_stand n (op.Do action.Fail ∷ ops) lie calls fit = lie.0
+  ops_stand n (op.Do action.Stop ∷ ops) lie calls fit = refl
+  ops_stand n (op.Do action.Quit ∷ ops) lie calls fit = lie.0
+  ops_stand n (op.Do (action.Text text) ∷ ops) lie calls fit =
       let is : t.p.routine_at (at n) ≡ Some (text_routine fit.0.characters (first_of (n + 1) ops)) = lie.0 ∙ ap (λ (cs : List ℕ). Some (text_routine cs (first_of (n + 1) ops))) (name_chars text fit.0) in
-      record { name = fit.0; goes = goes (text_routine fit.0.characters) n ops is (ops_stand (n + 1) ops lie.1 built calls.1 fit.1) }
-  ops_stand n (op.Do (action.Gap kind) ∷ ops) lie built calls fit = goes (gap_routine kind) n ops lie.0 (ops_stand (n + 1) ops lie.1 built calls.1 fit.1)
-  ops_stand n (op.Do (action.GapN a) ∷ ops) lie built calls fit = record { goes = goes (gap_n_routine t.program a) n ops lie.0 (ops_stand (n + 1) ops lie.1 built calls.1 fit.1); nodes = fit.0.1 }
-  ops_stand n (op.Do (action.Equal a b) ∷ ops) lie built calls fit = record { goes = goes (equal_routine t.program a b) n ops lie.0 (ops_stand (n + 1) ops lie.1 built calls.1 fit.1); nodes = fit.0.1 }
-  ops_stand n (op.Do (action.Test kind a) ∷ ops) lie built calls fit = writes (a ∷ []) (test_routine t.program kind a) n ops lie.0 (ops_stand (n + 1) ops lie.1 built calls.1 fit.1) fit.0.1
-  ops_stand n (op.Do (action.Compare f a b) ∷ ops) lie built calls fit = writes (a ∷ b ∷ []) (compare_routine t.program f a b) n ops lie.0 (ops_stand (n + 1) ops lie.1 built calls.1 fit.1) fit.0.1
-  ops_stand n (op.Do (action.Arith f a b c) ∷ ops) lie built calls fit = writes (a ∷ b ∷ c ∷ []) (arith_routine t.program f a b c) n ops lie.0 (ops_stand (n + 1) ops lie.1 built calls.1 fit.1) fit.0.1
-  ops_stand n (op.Do (action.Random a b c) ∷ ops) lie built calls fit = writes (a ∷ b ∷ c ∷ []) (random_routine t.program a b c) n ops lie.0 (ops_stand (n + 1) ops lie.1 built calls.1 fit.1) fit.0.1
-  ops_stand n (op.Do (action.Now place args sets) ∷ ops) lie built calls fit =
+      record { name = fit.0; goes = goes (text_routine fit.0.characters) n ops is (ops_stand (n + 1) ops lie.1 calls.1 fit.1) }
+  ops_stand n (op.Do (action.Gap kind) ∷ ops) lie calls fit = goes (gap_routine kind) n ops lie.0 (ops_stand (n + 1) ops lie.1 calls.1 fit.1)
+  ops_stand n (op.Do (action.GapN a) ∷ ops) lie calls fit = record { goes = goes (gap_n_routine t.program a) n ops lie.0 (ops_stand (n + 1) ops lie.1 calls.1 fit.1); nodes = fit.0.1 }
+  ops_stand n (op.Do (action.Equal a b) ∷ ops) lie calls fit = record { goes = goes (equal_routine t.program a b) n ops lie.0 (ops_stand (n + 1) ops lie.1 calls.1 fit.1); nodes = fit.0.1 }
+  ops_stand n (op.Do (action.Test kind a) ∷ ops) lie calls fit = writes (a ∷ []) (test_routine t.program kind a) n ops lie.0 (ops_stand (n + 1) ops lie.1 calls.1 fit.1) fit.0.1
+  ops_stand n (op.Do (action.Compare f a b) ∷ ops) lie calls fit = writes (a ∷ b ∷ []) (compare_routine t.program f a b) n ops lie.0 (ops_stand (n + 1) ops lie.1 calls.1 fit.1) fit.0.1
+  ops_stand n (op.Do (action.Arith f a b c) ∷ ops) lie calls fit = writes (a ∷ b ∷ c ∷ []) (arith_routine t.program f a b c) n ops lie.0 (ops_stand (n + 1) ops lie.1 calls.1 fit.1) fit.0.1
+  ops_stand n (op.Do (action.Random a b c) ∷ ops) lie calls fit = writes (a ∷ b ∷ c ∷ []) (random_routine t.program a b c) n ops lie.0 (ops_stand (n + 1) ops lie.1 calls.1 fit.1) fit.0.1
+  ops_stand n (op.Do (action.Now place args sets) ∷ ops) lie calls fit =
       let f : ChangeFits t.program place (length args) = fit.0.1 in
       let behind : ℕ = first_of (n + 1) ops in
       let is : t.p.routine_at (at n) ≡ Some (now_routine t.program f.kind place args sets behind) = lie.0 ∙ ap (λ (k : Option PlaceKind). Some (change_routine t.program place k args sets behind)) f.kind_is in
-      record { kind = f.kind; kind_is = f.kind_is; fits = f.fits; world = world; writes = writes args (now_routine t.program f.kind place args sets) n ops is (ops_stand (n + 1) ops lie.1 built calls.1 fit.1) fit.0.0.1 }
-  ops_stand n (op.Do (action.Input a) ∷ ops) lie built calls fit = record { goes = goes (input_routine t.program a) n ops lie.0 (ops_stand (n + 1) ops lie.1 built calls.1 fit.1); nodes = fit.0.1; tables = tables }
-  ops_stand n (op.Do (action.SplitWord a b) ∷ ops) lie built calls fit = record {
-    writes = writes (a ∷ b ∷ []) (split_routine t.program a b) n ops lie.0 (ops_stand (n + 1) ops lie.1 built calls.1 fit.1) fit.0.1;
+      record { kind = f.kind; kind_is = f.kind_is; fits = f.fits; world = world; writes = writes args (now_routine t.program f.kind place args sets) n ops is (ops_stand (n + 1) ops lie.1 calls.1 fit.1) fit.0.0.1 }
+  ops_stand n (op.Do (action.Input a) ∷ ops) lie calls fit = record { goes = goes (input_routine t.program a) n ops lie.0 (ops_stand (n + 1) ops lie.1 calls.1 fit.1); nodes = fit.0.1; tables = tables }
+  ops_stand n (op.Do (action.SplitWord a b) ∷ ops) lie calls fit = record {
+    writes = writes (a ∷ b ∷ []) (split_routine t.program a b) n ops lie.0 (ops_stand (n + 1) ops lie.1 calls.1 fit.1) fit.0.1;
     tables = tables;
   }
-  ops_stand n (op.Do (action.JoinWords a b) ∷ ops) lie built calls fit = record {
-    writes = writes (a ∷ b ∷ []) (join_routine t.program a b) n ops lie.0 (ops_stand (n + 1) ops lie.1 built calls.1 fit.1) fit.0.1;
+  ops_stand n (op.Do (action.JoinWords a b) ∷ ops) lie calls fit = record {
+    writes = writes (a ∷ b ∷ []) (join_routine t.program a b) n ops lie.0 (ops_stand (n + 1) ops lie.1 calls.1 fit.1) fit.0.1;
     tables = tables;
   }
-  ops_stand n (op.Do (action.Print a) ∷ ops) lie built calls fit = record {
+  ops_stand n (op.Do (action.Print a) ∷ ops) lie calls fit = record {
     words = SPELL;
     objects = numbers.objects;
-    goes = goes (print_routine t.program a SPELL numbers.objects) n ops lie.0 (ops_stand (n + 1) ops lie.1 built calls.1 fit.1);
+    goes = goes (print_routine t.program a SPELL numbers.objects) n ops lie.0 (ops_stand (n + 1) ops lie.1 calls.1 fit.1);
     nodes = fit.0.1;
     spells = all_spelled;
   }
-  ops_stand n (op.Find (Some place) [] many next ∷ ops) lie built calls fit =
-      record { kind_is = (fit.0).kind_is; world = world; goes = goes (holds_routine t.program place) n ops lie.0 (ops_stand (n + 1) ops lie.1 built calls.1 fit.1) }
-  ops_stand n (op.Find None (a ∷ ts) many next ∷ ops) lie built calls fit =
-      ⊎_elim (λ f. objects n None (a ∷ ts) many next ops lie (ops_stand (n + 2) ops (behind_two n _ _ ops lie) built calls.1 fit.1) f fit.0.0.1)
+  ops_stand n (op.Find (Some place) [] many next ∷ ops) lie calls fit =
+      record { kind_is = (fit.0).kind_is; world = world; goes = goes (holds_routine t.program place) n ops lie.0 (ops_stand (n + 1) ops lie.1 calls.1 fit.1) }
+  ops_stand n (op.Find None (a ∷ ts) many next ∷ ops) lie calls fit =
+      ⊎_elim (λ f. objects n None (a ∷ ts) many next ops lie (ops_stand (n + 2) ops (behind_two n _ _ ops lie) calls.1 fit.1) f fit.0.0.1)
       (λ g. absurd (let none = g.place_is in cc)) fit.0.2
-  ops_stand n (op.Find (Some place) (a ∷ []) many next ∷ ops) lie built calls fit =
-      let there = ops_stand (n + 2) ops (behind_two n _ _ ops lie) built calls.1 fit.1 in
+  ops_stand n (op.Find (Some place) (a ∷ []) many next ∷ ops) lie calls fit =
+      let there = ops_stand (n + 2) ops (behind_two n _ _ ops lie) calls.1 fit.1 in
       ⊎_elim (λ f. inl (objects n (Some place) (a ∷ []) many next ops lie there f fit.0.0.1)) (λ g. inr (global n place a many next ops lie there g fit.0.0.1)) fit.0.2
-  ops_stand n (op.Find (Some place) (a ∷ b ∷ ts) many next ∷ ops) lie built calls fit =
-      ⊎_elim (λ f. objects n (Some place) (a ∷ b ∷ ts) many next ops lie (ops_stand (n + 2) ops (behind_two n _ _ ops lie) built calls.1 fit.1) f fit.0.0.1)
+  ops_stand n (op.Find (Some place) (a ∷ b ∷ ts) many next ∷ ops) lie calls fit =
+      ⊎_elim (λ f. objects n (Some place) (a ∷ b ∷ ts) many next ops lie (ops_stand (n + 2) ops (behind_two n _ _ ops lie) calls.1 fit.1) f fit.0.0.1)
       (λ g. absurd (let one = g.fits in omega arith)) fit.0.2
-  ops_stand n (op.Ask pred terms many next ∷ ops) lie built calls fit = record {
+  ops_stand n (op.Ask pred terms many next ∷ ops) lie calls fit = record {
     behind = block_number numbers next;
     number = pred_number numbers pred;
     is = lie.0;
@@ -309,7 +309,7 @@ module _ (t : Telling) (plays : Playing t) (world : HasWorld t) (tables : HasTab
     rules = rules_from (length terms) pred fit.0.0 calls.0;
     nodes = fit.0.1;
   }
-  ops_stand n (op.LastAsk pred terms many ∷ ops) lie built calls fit = record {
+  ops_stand n (op.LastAsk pred terms many ∷ ops) lie calls fit = record {
     end = block_number numbers 0;
     number = pred_number numbers pred;
     is = lie.0;
@@ -317,31 +317,31 @@ module _ (t : Telling) (plays : Playing t) (world : HasWorld t) (tables : HasTab
     rules = rules_from (length terms) pred fit.0.0 calls.0;
     nodes = fit.0.1;
   }
-  ops_stand n (op.Query a b many next ∷ ops) lie built calls fit =
+  ops_stand n (op.Query a b many next ∷ ops) lie calls fit =
       record { behind = block_number numbers next; find = numbers.find; is = lie.0; goes = to_block next; all = all_found; nodes = fit.0.1 }
-  ops_stand n (op.LastQuery a b many ∷ ops) lie built calls fit =
+  ops_stand n (op.LastQuery a b many ∷ ops) lie calls fit =
       record { end = block_number numbers 0; find = numbers.find; is = lie.0; end_is = to_block 0; all = all_found; nodes = fit.0.1 }
-  ops_stand n (op.Select site mode blocks next ∷ ops) lie built calls fit = selects n site mode blocks next lie.0 calls.0
-  ops_stand n (op.Take ∷ ops) lie built calls fit = goes goto_routine n ops lie.0 (ops_stand (n + 1) ops lie.1 built calls.1 fit.1)
-  ops_stand n (op.Branch alt ∷ ops) lie built calls fit = opens branch_routine alt n ops lie.0 (ops_stand (n + 1) ops lie.1 built calls.1 fit.1)
-  ops_stand n (op.Once ∷ ops) lie built calls fit = goes once_routine n ops lie.0 (ops_stand (n + 1) ops lie.1 built calls.1 fit.1)
-  ops_stand n (op.Try alt ∷ ops) lie built calls fit = opens try_routine alt n ops lie.0 (ops_stand (n + 1) ops lie.1 built calls.1 fit.1)
-  ops_stand n (op.Shield alt ∷ ops) lie built calls fit = opens shield_routine alt n ops lie.0 (ops_stand (n + 1) ops lie.1 built calls.1 fit.1)
-  ops_stand n (op.Retry alt ∷ ops) lie built calls fit = opens branch_routine alt n ops lie.0 (ops_stand (n + 1) ops lie.1 built calls.1 fit.1)
-  ops_stand n (op.Collect a b alt ∷ ops) lie built calls fit =
-      record { alt = block_number numbers alt; alt_is = to_block alt; goes = goes (collect_routine t.program a b (block_number numbers alt)) n ops lie.0 (ops_stand (n + 1) ops lie.1 built calls.1 fit.1); nodes = fit.0.1 }
-  ops_stand n (op.TakeOut whole into ∷ ops) lie built calls fit = record { goes = goes (take_routine whole) n ops lie.0 (ops_stand (n + 1) ops lie.1 built calls.1 fit.1); told = laid.told }
-  ops_stand n (op.Keep a ∷ ops) lie built calls fit = refl
-  ops_stand n (op.Commit ∷ ops) lie built calls fit = goes commit_routine n ops lie.0 (ops_stand (n + 1) ops lie.1 built calls.1 fit.1)
-  ops_stand n (op.Refuse ∷ ops) lie built calls fit = lie.0
-  ops_stand n (op.Leave ∷ ops) lie built calls fit = goes leave_routine n ops lie.0 (ops_stand (n + 1) ops lie.1 built calls.1 fit.1)
-  ops_stand n (op.Back ∷ ops) lie built calls fit = lie.0
-  ops_stand n (op.Return ∷ ops) lie built calls fit = refl
-  ops_stand n (op.Goto b ∷ ops) lie built calls fit = record { next = block_number numbers b; is = lie.0; next_is = to_block b }
-  ops_stand n (op.Enter vars head ∷ ops) lie built calls fit =
-      record { goes = goes (enter_routine t.program vars head) n ops lie.0 (ops_stand (n + 1) ops lie.1 built calls.1 fit.1); few_vars = calls.0; short = fit.0.0; nodes = fit.0.1 }
-  ops_stand n (op.Done ∷ ops) lie built calls fit = lie.0
-  ops_stand n (x ∷ ops) lie built calls fit = absurd (cc)
+  ops_stand n (op.Select site mode blocks next ∷ ops) lie calls fit = selects n site mode blocks next lie.0 calls.0
+  ops_stand n (op.Take ∷ ops) lie calls fit = goes goto_routine n ops lie.0 (ops_stand (n + 1) ops lie.1 calls.1 fit.1)
+  ops_stand n (op.Branch alt ∷ ops) lie calls fit = opens branch_routine alt n ops lie.0 (ops_stand (n + 1) ops lie.1 calls.1 fit.1)
+  ops_stand n (op.Once ∷ ops) lie calls fit = goes once_routine n ops lie.0 (ops_stand (n + 1) ops lie.1 calls.1 fit.1)
+  ops_stand n (op.Try alt ∷ ops) lie calls fit = opens try_routine alt n ops lie.0 (ops_stand (n + 1) ops lie.1 calls.1 fit.1)
+  ops_stand n (op.Shield alt ∷ ops) lie calls fit = opens shield_routine alt n ops lie.0 (ops_stand (n + 1) ops lie.1 calls.1 fit.1)
+  ops_stand n (op.Retry alt ∷ ops) lie calls fit = opens branch_routine alt n ops lie.0 (ops_stand (n + 1) ops lie.1 calls.1 fit.1)
+  ops_stand n (op.Collect a b alt ∷ ops) lie calls fit =
+      record { alt = block_number numbers alt; alt_is = to_block alt; goes = goes (collect_routine t.program a b (block_number numbers alt)) n ops lie.0 (ops_stand (n + 1) ops lie.1 calls.1 fit.1); nodes = fit.0.1 }
+  ops_stand n (op.TakeOut whole into ∷ ops) lie calls fit = record { goes = goes (take_routine whole) n ops lie.0 (ops_stand (n + 1) ops lie.1 calls.1 fit.1); told = laid.told }
+  ops_stand n (op.Keep a ∷ ops) lie calls fit = refl
+  ops_stand n (op.Commit ∷ ops) lie calls fit = goes commit_routine n ops lie.0 (ops_stand (n + 1) ops lie.1 calls.1 fit.1)
+  ops_stand n (op.Refuse ∷ ops) lie calls fit = lie.0
+  ops_stand n (op.Leave ∷ ops) lie calls fit = goes leave_routine n ops lie.0 (ops_stand (n + 1) ops lie.1 calls.1 fit.1)
+  ops_stand n (op.Back ∷ ops) lie calls fit = lie.0
+  ops_stand n (op.Return ∷ ops) lie calls fit = refl
+  ops_stand n (op.Goto b ∷ ops) lie calls fit = record { next = block_number numbers b; is = lie.0; next_is = to_block b }
+  ops_stand n (op.Enter vars head ∷ ops) lie calls fit =
+      record { goes = goes (enter_routine t.program vars head) n ops lie.0 (ops_stand (n + 1) ops lie.1 calls.1 fit.1); few_vars = calls.0; short = fit.0.0; nodes = fit.0.1 }
+  ops_stand n (op.Done ∷ ops) lie calls fit = lie.0
+  ops_stand n (op.Find None [] many next ∷ ops) lie calls fit = absurd fit.0
 
   -- ## Blocks
 
@@ -357,9 +357,8 @@ module _ (t : Telling) (plays : Playing t) (world : HasWorld t) (tables : HasTab
       ops_lie t.p t.program numbers (first + rules_count code.preds) code.blocks b block e blocks_all_lie in
       let these : block_at code b ≡ block.ops = ap ops_of e in
       let number : block_number numbers b ≡ first_of there.start block.ops = ap (number_or FAIL) there.told_is in
-      let s : BlockSuits code b = suits b in
       let stand : OpsAt t code (at (first_of there.start block.ops)) block.ops =
-      ops_stand there.start block.ops there.lie (subst (λ (l : List Op). are_built l ≡ true) these s.built) (ops_reach code block.ops (block_sites code.blocks b block e) (subst (OpsCall code) these s.calls)) (blocks_fit_at code.blocks b block e fits.0) in
+      ops_stand there.start block.ops there.lie (ops_reach code block.ops (block_sites code.blocks b block e) (subst (OpsCall code) these (suits b))) (blocks_fit_at code.blocks b block e fits.0) in
       subst (OpsAt t code (t.at_block b)) (sym these) (subst (λ (x : ℕ). OpsAt t code x block.ops) (sym (laid.blocks b ∙ ap at number)) stand)
 
   -- ## Addresses

@@ -1,4 +1,4 @@
--- The code of a sound program whose goals have routines suits.
+-- The code of a sound program suits.
 use Rattle.std.proofs.Common.{◌≡◌, ℕ, zero, suc, ◌≤◌, List, [], ◌∷◌, ◌++◌, length, map, Option, Some, None, refl, sym, ap, ◌∙◌, arith}
 use Rattle.std.specs.Prelude.{Bool, true, false, ◌&&◌, not}
 use Rattle.std.specs.List.{All, flat_map, slice_get}
@@ -30,9 +30,8 @@ use Rattle.dg_mid.specs.Code.{block_at, rules_at}
 use Rattle.dg_mid.specs.Codes.{RulesStand, RuleStands, BodyStands, Codes}
 use Rattle.dg_mid.specs.Passing.{Tests, GoalPasses, GoalsPass, RulesPass, PredsPass, ClosuresPass, ProgramPasses, OpPasses, OpsPass}
 use Rattle.dg_mid.proofs.Passing.{code_passes}
-use Rattle.dg_emit.specs.Code.{is_built, are_built}
 use Rattle.dg_laid.specs.Laid.{OpCalls, OpsCall, BodiesAreFew}
-use Rattle.dg_laid.specs.Goals.{has_routines, all_have, all_built, GoalsSuit, BodiesSuit}
+use Rattle.dg_laid.specs.Goals.{GoalsSuit, BodiesSuit}
 
 -- ## Tests that pass
 
@@ -42,12 +41,6 @@ both false b e = absurd (cc)
 
 and_true : (a b : Bool) → a ≡ true → b ≡ true → a && b ≡ true
 and_true a b d e = ap (λ (x : Bool). x && b) d ∙ e
-
-have_both : (xs ys : List Goal) → all_have (xs ++ ys) ≡ true → (all_have xs ≡ true) × (all_have ys ≡ true)
-have_both [] ys e = (refl, e)
-have_both (x ∷ xs) ys e =
-    let k = both (has_routines (out-Goal x)) (all_have (xs ++ ys)) e in
-    let more = have_both xs ys k.1 in (and_true (has_routines (out-Goal x)) (all_have xs) k.0 more.0, more.1)
 
 rest_of : {A : Type 0} (P : A → Type 0) (x : A) (xs : List A) → All P (x ∷ xs) → All P xs
 rest_of P x xs h k d lt = h (suc k) d (omega (arith, lt))
@@ -103,75 +96,60 @@ module _ (program : CoreProgram) where
   asks_right other = true
 
   abbrev tests : Tests
-  tests = record { goal = λ g. has_routines g && asks_right g; head = λ vars head. not (ltb 300 vars); gathers = true }
+  tests = record { goal = asks_right; head = λ vars head. not (ltb 300 vars); gathers = true }
 
   -- ## The program
 
-  goal_passes : (layer : form.Goal-F Goal) → has_routines layer ≡ true → FitsProgram program layer → GoalPasses tests layer
-  goal_passes (form.Ask pred terms many) h fits = pred_right (length terms) (slice_get program.preds pred) fits
-  goal_passes (form.Holds place [] many) h fits = flag_right program.places place fits
-  goal_passes (form.Either lists) h fits = tt
-  goal_passes (form.Once goals) h fits = tt
-  goal_passes (form.Not goals) h fits = tt
-  goal_passes (form.If test first other) h fits = tt
-  goal_passes (form.Exhaust goals) h fits = tt
-  goal_passes (form.Stoppable goals) h fits = tt
-  goal_passes form.Forever h fits = tt
-  goal_passes (form.Collect a goals b) h fits = (refl, refl)
-  goal_passes (form.Accumulate a goals b) h fits = (refl, refl)
-  goal_passes (form.Select site mode lists) h fits = refl
-  goal_passes layer h fits = and_true (has_routines layer) (asks_right layer) h refl
+  goal_passes : (layer : form.Goal-F Goal) → FitsProgram program layer → GoalPasses tests layer
+  goal_passes (form.Ask pred terms many) fits = pred_right (length terms) (slice_get program.preds pred) fits
+  goal_passes (form.Holds place [] many) fits = flag_right program.places place fits
+  goal_passes (form.Either lists) fits = tt
+  goal_passes (form.Once goals) fits = tt
+  goal_passes (form.Not goals) fits = tt
+  goal_passes (form.If test first other) fits = tt
+  goal_passes (form.Exhaust goals) fits = tt
+  goal_passes (form.Stoppable goals) fits = tt
+  goal_passes form.Forever fits = tt
+  goal_passes (form.Collect a goals b) fits = (refl, refl)
+  goal_passes (form.Accumulate a goals b) fits = (refl, refl)
+  goal_passes (form.Select site mode lists) fits = refl
+  goal_passes layer fits = refl
 
-  goals_pass : (vars : ℕ) (gs : List Goal) → all_have gs ≡ true → All (IsGoalOf program vars) gs → GoalsPass tests gs
-  goals_pass vars [] h a = tt
-  goals_pass vars (g ∷ gs) h a =
-      let k = both (has_routines (out-Goal g)) (all_have gs) h in
+  goals_pass : (vars : ℕ) (gs : List Goal) → All (IsGoalOf program vars) gs → GoalsPass tests gs
+  goals_pass vars [] a = tt
+  goals_pass vars (g ∷ gs) a =
       let is : IsGoalOf program vars g = a 0 g (omega arith) in
-      (goal_passes (out-Goal g) k.0 is.fits, goals_pass vars gs k.1 (rest_of (IsGoalOf program vars) g gs a))
+      (goal_passes (out-Goal g) is.fits, goals_pass vars gs (rest_of (IsGoalOf program vars) g gs a))
 
-  abbrev rule_goals : Rule → List Goal
-  rule_goals rule = all_goals_of rule.body
-
-  abbrev pred_goals : Pred → List Goal
-  pred_goals pred = flat_map rule_goals pred.rules
-
-  abbrev closure_goals : ClosureBody → List Goal
-  closure_goals closure = all_goals_of closure.body
-
-  rules_pass : (rs : List Rule) → all_have (flat_map rule_goals rs) ≡ true → All (IsRuleOf program) rs → RulesPass tests rs
-  rules_pass [] h a = tt
-  rules_pass (r ∷ rs) h a =
-      let k = have_both (rule_goals r) (flat_map rule_goals rs) h in
+  rules_pass : (rs : List Rule) → All (IsRuleOf program) rs → RulesPass tests rs
+  rules_pass [] a = tt
+  rules_pass (r ∷ rs) a =
       let is : IsRuleOf program r = a 0 r (omega arith) in
       let few = is.few in
-      (ap not (le-ltb 300 r.vars (omega arith)), goals_pass r.vars (rule_goals r) k.0 is.body, rules_pass rs k.1 (rest_of (IsRuleOf program) r rs a))
+      (ap not (le-ltb 300 r.vars (omega arith)), goals_pass r.vars (all_goals_of r.body) is.body, rules_pass rs (rest_of (IsRuleOf program) r rs a))
 
-  preds_pass : (ps : List Pred) → all_have (flat_map pred_goals ps) ≡ true → All (IsPredOf program) ps → PredsPass tests ps
-  preds_pass [] h a = tt
-  preds_pass (p ∷ ps) h a =
-      let k = have_both (pred_goals p) (flat_map pred_goals ps) h in
+  preds_pass : (ps : List Pred) → All (IsPredOf program) ps → PredsPass tests ps
+  preds_pass [] a = tt
+  preds_pass (p ∷ ps) a =
       let is : IsPredOf program p = a 0 p (omega arith) in
-      (rules_pass p.rules k.0 is.rules, preds_pass ps k.1 (rest_of (IsPredOf program) p ps a))
+      (rules_pass p.rules is.rules, preds_pass ps (rest_of (IsPredOf program) p ps a))
 
-  closures_pass : (cs : List ClosureBody) → all_have (flat_map closure_goals cs) ≡ true → All (IsClosureOf program) cs → ClosuresPass tests cs
-  closures_pass [] h a = tt
-  closures_pass (c ∷ cs) h a =
-      let k = have_both (closure_goals c) (flat_map closure_goals cs) h in
+  closures_pass : (cs : List ClosureBody) → All (IsClosureOf program) cs → ClosuresPass tests cs
+  closures_pass [] a = tt
+  closures_pass (c ∷ cs) a =
       let is : IsClosureOf program c = a 0 c (omega arith) in
-      (goals_pass (closure_vars c) (closure_goals c) k.0 is.body, closures_pass cs k.1 (rest_of (IsClosureOf program) c cs a))
+      (goals_pass (closure_vars c) (all_goals_of c.body) is.body, closures_pass cs (rest_of (IsClosureOf program) c cs a))
 
   entry_right : (o : Option Pred) → IsEntry o → pred_takes 0 o ≡ true
   entry_right None h = absurd h
   entry_right (Some pred) h = rules_right 0 pred.rules (λ k d lt. ap length (h k d lt))
 
-  program_passes : IsSound program → all_built program ≡ true → ProgramPasses tests program
-  program_passes sound h =
-      let k = have_both (flat_map pred_goals program.preds) (flat_map closure_goals program.closures) h in
-      record {
-        entry = entry_right (slice_get program.preds program.entry) sound.entry;
-        preds = preds_pass program.preds k.0 sound.preds;
-        closures = closures_pass program.closures k.1 sound.closures;
-      }
+  program_passes : IsSound program → ProgramPasses tests program
+  program_passes sound = record {
+    entry = entry_right (slice_get program.preds program.entry) sound.entry;
+    preds = preds_pass program.preds sound.preds;
+    closures = closures_pass program.closures sound.closures;
+  }
 
   -- ## The code
 
@@ -194,28 +172,15 @@ module _ (program : CoreProgram) where
         untrue true e = absurd (cc)
         untrue false e = refl
 
-    -- what is done at once is built where its goal has routines
-    act_built : (a : Action) → is_built (op.Do a) ≡ has_routines (form_of a)
-    act_built (action.Text text) = refl
-    act_built a = refl
+    op_suits : (x : Op) → OpPasses tests x → OpCalls code x
+    op_suits (op.Ask pred terms many next) h = pred_enters (length terms) pred h
+    op_suits (op.LastAsk pred terms many) h = pred_enters (length terms) pred h
+    op_suits (op.Enter vars head) h = few_vars vars h
+    op_suits x h = tt
 
-    op_suits : (x : Op) → OpPasses tests x → (is_built x ≡ true) × OpCalls code x
-    op_suits (op.Do a) h = (act_built a ∙ (both (has_routines (form_of a)) (asks_right (form_of a)) h).0, tt)
-    op_suits (op.Ask pred terms many next) h = (refl, pred_enters (length terms) pred h)
-    op_suits (op.LastAsk pred terms many) h = (refl, pred_enters (length terms) pred h)
-    op_suits (op.Find None [] many next) h = absurd (cc)
-    op_suits (op.Find None (term ∷ []) many next) h = (refl, tt)
-    op_suits (op.Find None (term ∷ other ∷ terms) many next) h = absurd (cc)
-    op_suits (op.Find (Some place) [] many next) h = (refl, tt)
-    op_suits (op.Find (Some place) (term ∷ terms) many next) h = (refl, tt)
-    op_suits (op.Enter vars head) h = (refl, few_vars vars h)
-    op_suits x h = (refl, tt)
-
-    ops_suit : (ops : List Op) → OpsPass tests ops → (are_built ops ≡ true) × OpsCall code ops
-    ops_suit [] h = (refl, tt)
-    ops_suit (x ∷ ops) h =
-        let first = op_suits x h.0 in
-        let more = ops_suit ops h.1 in (and_true (is_built x) (are_built ops) first.0 more.0, (first.1, more.1))
+    ops_suit : (ops : List Op) → OpsPass tests ops → OpsCall code ops
+    ops_suit [] h = tt
+    ops_suit (x ∷ ops) h = (op_suits x h.0, ops_suit ops h.1)
 
     bodies_few : (cs : List BodyCode) (qs : List ClosureBody) → ((n : ℕ) → BodyStands code (slice_get cs n) (slice_get qs n)) → All (IsClosureOf program) qs → BodiesAreFew cs
     bodies_few [] qs h a = tt
@@ -227,8 +192,8 @@ module _ (program : CoreProgram) where
         (omega arith, bodies_few cs qs (λ n. h (suc n)) (rest_of (IsClosureOf program) q qs a))
 
 pub goals_suit : GoalsSuit
-goals_suit program code sound codes light h b =
-    let k = ops_suit program code codes sound.parent (block_at code b) (code_passes (tests program) program code light (program_passes program sound h) b) in record { built = k.0; calls = k.1 }
+goals_suit program code sound codes light b =
+    ops_suit program code codes sound.parent (block_at code b) (code_passes (tests program) program code light (program_passes program sound) b)
 
 pub bodies_suit : BodiesSuit
 bodies_suit program code sound codes = bodies_few program code codes sound.parent code.closures program.closures codes.bodies sound.closures

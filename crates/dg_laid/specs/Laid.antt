@@ -1,5 +1,5 @@
 -- Routines that lie in a story in the order of their numbers stand for its code. Hold it against dg_emit/specs/Code.antt and dg_chain/specs/Routines.antt.
-use Rattle.std.specs.Prelude.{◌≡◌, ℕ, ◌+◌, ◌≤◌, List, [], ◌∷◌, length, Some, true}
+use Rattle.std.specs.Prelude.{◌≡◌, ℕ, ◌+◌, ◌≤◌, List, [], ◌∷◌, length, Some}
 use Rattle.std.specs.List.{slice_get}
 use Rattle.dg_mid.specs.declared.code.BodyCode.{BodyCode}
 use Rattle.dg_mid.specs.declared.code.Code.{Code}
@@ -17,7 +17,7 @@ use Rattle.dg_turn.specs.Typing.{HasTables}
 use Rattle.dg_turn.specs.Sites.{sites_of, HasSites}
 use Rattle.dg_turn.specs.World.{HasWorld}
 use Rattle.dg_emit.specs.Numbers.{numbers_from, block_number}
-use Rattle.dg_emit.specs.Code.{are_built, code_routines, CodeFits}
+use Rattle.dg_emit.specs.Code.{code_routines, CodeFits}
 use Rattle.dg_chain.specs.Routines.{BlocksAt}
 
 -- ## Where they lie
@@ -32,7 +32,7 @@ pub record CodeIsLaid (t : Telling) (first : ℕ) (code : Code) : Type 0 where
   pub sites : t.sites ≡ sites_of code.blocks
   pub has_sites : HasSites t
 
--- ## Code that has routines
+-- ## Code that suits
 
 -- A query of a predicate has as many terms as the heads of its rules; a rule has at most 300 variables.
 abbrev pub OpCalls : Code → Op → Type 0
@@ -46,10 +46,9 @@ abbrev pub OpsCall : Code → List Op → Type 0
 OpsCall code [] = Unit {0}
 OpsCall code (x ∷ ops) = OpCalls code x × OpsCall code ops
 
--- Each instruction of a block is built, and calls as it should.
-pub record BlockSuits (code : Code) (b : ℕ) : Type 0 where
-  pub built : are_built (block_at code b) ≡ true
-  pub calls : OpsCall code (block_at code b)
+-- Each instruction of a block calls as it should.
+abbrev pub BlockSuits : Code → ℕ → Type 0
+BlockSuits code b = OpsCall code (block_at code b)
 
 -- The bodies of closures have at most 300 variables of their own each.
 abbrev pub BodiesAreFew : List BodyCode → Type 0

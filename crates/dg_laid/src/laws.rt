@@ -7,7 +7,7 @@ pub fn blocks_stand()
     ensures { BlocksStand }
 {}
 
-/// The code of a program whose goals have routines has them.
+/// The code of a sound program suits.
 pub fn goals_suit()
     ensures blocks { GoalsSuit }
     ensures bodies { BodiesSuit }

@@ -17,4 +17,3 @@ pub mod Keeping
 pub mod Agreeing
 pub mod Fitting
 pub mod Alone
-pub mod LackingLemmas

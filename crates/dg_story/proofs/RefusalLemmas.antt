@@ -10,7 +10,6 @@ use Rattle.dg_base.specs.declared.program.Rule.{Rule}
 use Rattle.dg_base.specs.declared.program.Pred.{Pred}
 use Rattle.dg_base.specs.declared.program.Term.{Term}
 use Rattle.dg_base.specs.declared.program.CoreProgram.{CoreProgram}
-use Rattle.dg_laid.specs.Goals.{all_built}
 use Rattle.dg_fits.specs.Sizes.{world_size, words_size, rules_size, preds_size, story_size}
 use Rattle.dg_story.specs.declared.refusal.BuildRefusal.TheVariants.{NotBuiltYet, WorldTooLarge, WordsTooLarge, StoryTooLarge}
 use Rattle.dg_story.specs.Refusals.{is_unset, globals_unset, can_be_built, build_refusal}
@@ -54,12 +53,9 @@ module _ (p : CoreProgram) (e : build_refusal p ≡ None) where
   none : NoneHolds (can_be_built p) (nat_lt 8000 (world_size p)) (nat_lt 20000 (words_size p.words)) (nat_lt 2200 (length p.closures)) (nat_lt 440000 (story_size p))
   none = none_holds (can_be_built p) (nat_lt 8000 (world_size p)) (nat_lt 20000 (words_size p.words)) (nat_lt 2200 (length p.closures)) (nat_lt 440000 (story_size p)) e
 
-  -- No global variable starts with a value, all goals have routines, there are few closures, and the sizes are within theirs.
+  -- No global variable starts with a value, there are few closures, and the sizes are within theirs.
   pub unset : UnsetGlobals p.places
-  unset = are_unset p.places (both_hold (globals_unset p.places) (all_built p) none.built).0
-
-  pub goals_built : all_built p ≡ true
-  goals_built = (both_hold (globals_unset p.places) (all_built p) none.built).1
+  unset = are_unset p.places none.built
 
   pub closures_few : length p.closures ≤ 2200
   closures_few = ltb-false 2200 (length p.closures) none.few

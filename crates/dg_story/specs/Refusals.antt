@@ -5,7 +5,6 @@ use Rattle.dg_base.specs.declared.program.Place.{Place}
 use Rattle.dg_base.specs.declared.program.PlaceKind.{PlaceKind}
 use Rattle.dg_base.specs.declared.program.PlaceKind.TheVariants.{Global}
 use Rattle.dg_base.specs.declared.program.Term.{Term}
-use Rattle.dg_laid.specs.Goals.{all_built}
 use Rattle.dg_fits.specs.Sizes.{world_size, words_size, story_size}
 use Rattle.dg_story.specs.declared.refusal.BuildRefusal.{BuildRefusal}
 use Rattle.dg_story.specs.declared.refusal.BuildRefusal.TheVariants.{NotBuiltYet, WorldTooLarge, WordsTooLarge, StoryTooLarge}
@@ -20,11 +19,11 @@ abbrev pub globals_unset : List Place → Bool
 globals_unset [] = true
 globals_unset (place ∷ places) = is_unset place.kind place.start && globals_unset places
 
--- No global variable of the program starts with a value, and each of its goals has routines.
+-- No global variable of the program starts with a value.
 abbrev pub can_be_built : CoreProgram → Bool
-can_be_built program = globals_unset program.places && all_built program
+can_be_built program = globals_unset program.places
 
--- The first of these that holds: there is a global variable that starts with a value or a goal without routines, the world, the words or the whole are
+-- The first of these that holds: there is a global variable that starts with a value, the world, the words or the whole are
 -- too large. In a source a closure counts 200, so there the whole is too large, too, where there are more than 2,200.
 abbrev pub build_refusal : CoreProgram → Option BuildRefusal
 build_refusal program =

@@ -18,13 +18,13 @@ fn refused(refusal: BuildRefusal) -> BuildFault
     BuildFault::Refused(refusal)
 }
 
-/// Refuses a program that has no story: a global variable starts with a value, it has a goal without routines, or its world, its words or the whole of it are too large.
+/// Refuses a program that has no story: a global variable starts with a value, or its world, its words or the whole of it are too large.
 pub fn check(alloc: Global, program: &CoreProgram) -> Result<(), BuildFault>
     requires { IsSound program.now }
     ensures fits { IfOk result (λ _. build_refusal program.now ≡ None) }
     ensures refused { (r : BuildRefusal) → IsErrOf result (BuildFault.Refused r) → build_refusal program.now ≡ Some r }
 {
-    if !can_be_built(alloc, program)? {
+    if !can_be_built(program) {
         return Err(refused(BuildRefusal::NotBuiltYet));
     }
     if !world_fits(program.places.as_slice(), program.objects.len() as u16) {

@@ -91,3 +91,6 @@ pub mod NameFound
 pub mod ObjectPrinted
 pub mod InputTurn
 pub mod PaidTyping
+pub mod WordTurn
+pub mod WordTurns
+pub mod PaidWording

@@ -27,3 +27,5 @@ pub mod GatheringsPaid
 pub mod Names
 pub mod Typing
 pub mod TypingPaid
+pub mod Wording
+pub mod WordingPaid

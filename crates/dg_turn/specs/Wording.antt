@@ -6,9 +6,10 @@ use Rattle.dg_base.specs.declared.program.Term.{Term}
 use Rattle.dg_base.specs.declared.run.Ending.TheVariants.{HeapLimit, TrailLimit}
 use Rattle.dg_meaning.specs.Cells.{cells}
 use Rattle.dg_meaning.specs.Copies.{copy_cells}
-use Rattle.dg_meaning.specs.Substitutions.{walk}
+use Rattle.dg_meaning.specs.Substitutions.{walk, resolved}
+use Rattle.dg_meaning.specs.Unify.{looks}
 use Rattle.dg_meaning.specs.Values.{Value}
-use Rattle.dg_meaning.specs.Words.{letters_in_word, each_alone, spelled_list}
+use Rattle.dg_meaning.specs.Words.{letters_in_word, joined_letters, each_alone, spelled_value, spelled_list}
 use Rattle.dg_mid.specs.State.{Mid}
 use Rattle.dg_mid.specs.Step.{bound, more, trail_more}
 use Rattle.z_model.specs.Run.{ZState}
@@ -16,7 +17,7 @@ use Rattle.z_lang.specs.declared.act.Act.TheVariants as acts
 use Rattle.z_lang.specs.declared.act.Args.TheVariants as args
 use Rattle.z_lang.specs.declared.act.Atom.TheVariants as atoms
 use Rattle.z_lang.specs.declared.act.Routine.{Routine}
-use Rattle.dg_rt.specs.declared.numbers.TheConstants.{FAIL, SPLIT, MADE}
+use Rattle.dg_rt.specs.declared.numbers.TheConstants.{FAIL, SPLIT, MADE, JOIN}
 use Rattle.dg_rt.specs.declared.registers.TheConstants.{ARGS, WORD}
 use Rattle.dg_rt.specs.Areas.{line_at, fixed_end}
 use Rattle.dg_rt.specs.Closings.{closing_most}
@@ -41,34 +42,44 @@ word_routine program maker a b behind =
     ∷ acts.Call (Some WORD) (atoms.Routine MADE) (args.One (atoms.Var WORD))
     ∷ (match_acts (ARGS + 1) WORD 1 ++ last_acts behind)))
 
--- The routine that splits a word.
+-- The routine that splits a word, and the one that joins words.
 abbrev pub split_routine : CoreProgram → Term → Term → ℕ → Routine
 split_routine program a b behind = word_routine program SPLIT a b behind
 
+abbrev pub join_routine : CoreProgram → Term → Term → ℕ → Routine
+join_routine program a b behind = word_routine program JOIN a b behind
+
 -- ## What is made
 
--- The list of letters, each a word of its own, where there are letters.
-abbrev pub spelled_apart : List (List ℕ) → Option (List ℕ) → Option Value
-spelled_apart words None = None
-spelled_apart words (Some letters) = Some (spelled_list words (each_alone letters))
+-- The value that letters spell, where there are letters.
+abbrev pub spelled_by : (List ℕ → Value) → Option (List ℕ) → Option Value
+spelled_by spells None = None
+spelled_by spells (Some letters) = Some (spells letters)
 
--- The letters of a term that is looked up, if it is a word or a number, and what they are split into.
+-- What it takes at most to make it behind what was looked at, and to lay it, where a program has these words.
+abbrev pub making : List (List ℕ) → (List ℕ → Value) → ℕ → Option (List ℕ) → ℕ
+making words spells looks None = looks
+making words spells looks (Some letters) = looks + making_most words letters (spells letters)
+
+-- The letters of a term that is a word or a number, and what they spell apart.
 abbrev pub split_letters : CoreProgram → Term → Mid → Option (List ℕ)
 split_letters program a m = letters_in_word program.words (walk m.state.subst (term_value program m a))
 
-abbrev pub split_of : CoreProgram → Term → Mid → Option Value
-split_of program a m = spelled_apart program.words (split_letters program a m)
+abbrev pub apart : CoreProgram → List ℕ → Value
+apart program letters = spelled_list program.words (each_alone letters)
+
+abbrev pub split_most : CoreProgram → Term → Mid → ℕ
+split_most program a m = making program.words (apart program) (5 * term_links program m a + 40) (split_letters program a m)
+
+-- The letters of a term that is a list of words and numbers, and what they spell together.
+abbrev pub join_letters : CoreProgram → Term → Mid → Option (List ℕ)
+join_letters program a m = joined_letters program.words (resolved m.state.subst (term_value program m a))
+
+abbrev pub join_most : CoreProgram → Term → Mid → ℕ
+join_most program a m =
+    making program.words (spelled_value program.words) (800 * looks m.state.subst m.state.vars (term_value program m a) + 900) (join_letters program a m)
 
 -- ## What it takes
-
--- What it takes at most to split letters behind what was looked at, and to lay their list.
-abbrev pub splitting : List (List ℕ) → ℕ → Option (List ℕ) → ℕ
-splitting words looks None = looks
-splitting words looks (Some letters) = looks + making_most words letters (spelled_list words (each_alone letters))
-
--- The same of a term.
-abbrev pub split_most : CoreProgram → Term → Mid → ℕ
-split_most program a m = splitting program.words (5 * term_links program m a + 40) (split_letters program a m)
 
 -- What the whole takes at most, where a value is made, or found to be none, in so many instructions, and with unifying the value.
 abbrev pub wording_most : CoreProgram → Term → Term → ℕ → ℕ
@@ -110,4 +121,10 @@ pub record Wording (t : Telling) (out : Outside) (a b : Term) (behind : ℕ) (ma
 abbrev pub SplitTurns : Type 0
 SplitTurns = (t : Telling) → Playing t → HasTables t → (out : Outside) (a b : Term) (behind : ℕ) (m : Mid) (z : ZState) →
     InFront t out (split_routine t.program a b behind) (a ∷ b ∷ []) m z →
-    Wording t out a b behind (split_of t.program a m) (split_most t.program a m) m z
+    Wording t out a b behind (spelled_by (apart t.program) (split_letters t.program a m)) (split_most t.program a m) m z
+
+-- So is joining words.
+abbrev pub JoinTurns : Type 0
+JoinTurns = (t : Telling) → Playing t → HasTables t → (out : Outside) (a b : Term) (behind : ℕ) (m : Mid) (z : ZState) →
+    InFront t out (join_routine t.program a b behind) (a ∷ b ∷ []) m z →
+    Wording t out a b behind (spelled_by (spelled_value t.program.words) (join_letters t.program a m)) (join_most t.program a m) m z

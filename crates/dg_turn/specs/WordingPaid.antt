@@ -3,6 +3,7 @@
 use Rattle.std.specs.Prelude.{◌≡◌, ℕ, ◌≤◌, List, [], ◌∷◌}
 use Rattle.dg_base.specs.declared.program.Term.{Term}
 use Rattle.dg_meaning.specs.Cells.{nodes_of}
+use Rattle.dg_meaning.specs.Words.{spelled_value}
 use Rattle.dg_meaning.specs.World.{Print}
 use Rattle.dg_mid.specs.declared.code.Action.TheVariants as action
 use Rattle.dg_mid.specs.declared.code.Op.{Op}
@@ -10,11 +11,16 @@ use Rattle.dg_mid.specs.declared.code.Op.TheVariants as op
 use Rattle.dg_mid.specs.State.{Mid, Runs}
 use Rattle.dg_mid.specs.Step.{Setting}
 use Rattle.dg_turn.specs.Terms.{AreNodes}
-use Rattle.dg_turn.specs.Wording.{split_of, split_most, word_paid}
+use Rattle.dg_turn.specs.Wording.{spelled_by, split_letters, apart, split_most, join_letters, join_most, word_paid}
 use Rattle.dg_turn.specs.Paid.{paid}
 
--- So it is with splitting.
+-- So it is with both.
 pub record WordsArePaid : Type 0 where
   pub split : (g : Setting) (ps : List Print) (m : Mid) (a b : Term) (ops : List Op) → m.ops ≡ op.Do (action.SplitWord a b) ∷ ops →
       AreNodes g.game.program (nodes_of (a ∷ b ∷ [])) →
-      word_paid g.game.program a b (split_of g.game.program a m) (split_most g.game.program a m) m ≤ paid g ps (Runs m)
+      word_paid g.game.program a b (spelled_by (apart g.game.program) (split_letters g.game.program a m)) (split_most g.game.program a m) m
+      ≤ paid g ps (Runs m)
+  pub join : (g : Setting) (ps : List Print) (m : Mid) (a b : Term) (ops : List Op) → m.ops ≡ op.Do (action.JoinWords a b) ∷ ops →
+      AreNodes g.game.program (nodes_of (a ∷ b ∷ [])) →
+      word_paid g.game.program a b (spelled_by (spelled_value g.game.program.words) (join_letters g.game.program a m)) (join_most g.game.program a m) m
+      ≤ paid g ps (Runs m)

@@ -21,6 +21,8 @@ ghost use Rattle.dg_turn.specs.Texts.{GapNTurns, GapTurns, QuitTurns, TextTurns}
 ghost use Rattle.dg_turn.specs.Turns.{CommitTurns, EnterTurns, EqualTurns, GotoTurns};
 ghost use Rattle.dg_turn.specs.Typing.{InputTurns};
 ghost use Rattle.dg_turn.specs.TypingPaid.{InputIsPaid};
+ghost use Rattle.dg_turn.specs.Wording.{JoinTurns, SplitTurns};
+ghost use Rattle.dg_turn.specs.WordingPaid.{WordsArePaid};
 ghost use Rattle.dg_turn.specs.World.{FlagTurns, HoldsTurns, NowTurns, ReadTurns};
 
 /// Terms are written on the heap, or its limit is met.
@@ -351,4 +353,19 @@ pub fn input_turns()
 /// What it costs is paid for.
 pub fn input_is_paid()
     ensures { InputIsPaid }
+{}
+
+/// Splitting a word is a turn.
+pub fn split_turns()
+    ensures { SplitTurns }
+{}
+
+/// Joining words is a turn.
+pub fn join_turns()
+    ensures { JoinTurns }
+{}
+
+/// What they cost is paid for.
+pub fn words_are_paid()
+    ensures { WordsArePaid }
 {}

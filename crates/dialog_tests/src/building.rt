@@ -133,6 +133,18 @@ deep
   (s) *(t $X) ($X = 2) (bound $X) ~(unbound $X) z (list []) (quit)
 === 0
 x one two z
+>>> run p.dg
+(program entry point)
+  (split word 120 into $A) $A (split word @cat into $B) $B (split word @lighthousekeeper into [$C $D | $]) $C $D (line)
+  (join words [@1 2] into $E) ($E = 12) twelve (join words [light house] into $F) $F
+  (if) ($F = @lighthouse) (then) known (endif) (join words [a 12 @b] into $G) $G (unknown word $G) (split word $G into $H) $H (line)
+  (if) (split word $ into $) (or) (split word [] into $) (or) (join words [a $] into $) (or) (join words [] into $) (then) wrong (else) none (endif)
+  (join words [1 2] into 13)
+=== 0
+[1 2 0] [c a t] l i
+twelve lighthouse known a12b [a 1 2 b]
+none
+[Failed]
 "#;
 
 #[test]

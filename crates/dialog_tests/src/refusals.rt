@@ -101,14 +101,6 @@ p.dg:1: bad head
 (program entry point) (bold)
 === 1
 p.dg:1: unclosed construct
->>> build p.dg p.z8
-(program entry point) (split word @cat into $X) $X
-=== 7
-p.dg: not built yet
->>> run p.dg
-(program entry point) (join words [@cat @s] into $X) $X
-=== 7
-p.dg: not built yet
 >>> run p.dg
 (p)
 === 1
