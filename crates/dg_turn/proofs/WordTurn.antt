@@ -1,5 +1,5 @@
 -- A value is made of a word or a list, if there is one, and unified with a term, in one turn.
-use Rattle.std.proofs.Common.{◌≡◌, ◌≢◌, ℕ, suc, ◌+◌, ◌*◌, ◌<◌, ◌≤◌, inl, inr, false, List, [], ◌∷◌, ◌++◌, map, take, Option, Some, None, refl, sym, ap, ◌∙◌, subst, ◌⊎◌, arith}
+use Rattle.std.proofs.Common.{◌≡◌, ◌≢◌, ℕ, suc, ◌+◌, ◌-◌, ◌*◌, ◌<◌, ◌≤◌, inl, inr, false, List, [], ◌∷◌, ◌++◌, map, take, Option, Some, None, refl, sym, ap, ◌∙◌, subst, ◌⊎◌, arith}
 use Rattle.std.specs.Prelude.{◌==◌, if◌then◌else◌}
 use Rattle.std.proofs.lemmas.Bool.{cases_lt, ne_eqb, cond-false}
 use Rattle.dg_base.specs.declared.program.Term.{Term}
@@ -167,7 +167,7 @@ module _ (made_works : MadeWorks) (t : Telling) (plays : Playing t) (out : Outsi
       word : cells' 36 ≡ x
       others : (j : ℕ) → j ≢ 13 → j ≢ 36 → cells' j ≡ cells1 j
       count : ℕ
-      few : count ≤ 6
+      few : count ≤ 4
       to_match : (o : ActsOutcome) (s' : State) (j : ℕ) → Run matching (now memory') o s' j → Run routine.body (now r.memory) o s' (steps w1.count (suc count1 + (suc count + j)))
 
     answered : (x count1 : ℕ) (memory1 locals1 : List ℕ) (cells1 : ℕ → ℕ) → x < 65536 → Holds t.p.world.layout memory1 cells1 → ActsRun t.p 3400 15000 making making (state w1.memory' (given w1) out.typed out.drawn out.output) (Returns x) (state memory1 locals1 out.typed out.drawn out.output) count1 → Answered x count1 cells1
