@@ -19,8 +19,8 @@ use Rattle.dg_rt.specs.RunTime.{routine_of, HasRunTime}
 use Rattle.dg_rt.specs.Splits.{SplitWorks}
 use Rattle.dg_rt.proofs.Absent.{next_absent}
 use Rattle.dg_rt.proofs.Made.{made_works}
-use Rattle.dg_rt.proofs.Splitting.{split_works}
-use Rattle.dg_rt.proofs.Joining.{join_works}
+use Rattle.dg_rt.proofs.SplitWords.{split_works}
+use Rattle.dg_rt.proofs.Joined.{join_works}
 use Rattle.dg_turn.specs.Told.{Telling}
 use Rattle.dg_turn.specs.Plays.{Playing, Outside}
 use Rattle.dg_turn.specs.Operating.{term_value, term_links, InFront}
