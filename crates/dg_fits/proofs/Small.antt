@@ -14,7 +14,8 @@ use Rattle.dg_rt.specs.RunTime.{runtime, routine_of}
 use Rattle.dg_mid.specs.Weights.{blocks_weight}
 use Rattle.dg_emit.specs.Numbers.{number_behind, rules_count, numbers_from, block_number}
 use Rattle.dg_emit.specs.Code.{code_routines}
-use Rattle.dg_emit.specs.Story.{start_acts, first_number, story_routines}
+use Rattle.dg_rt.specs.Start.{start_acts}
+use Rattle.dg_emit.specs.Story.{first_number, story_routines}
 use Rattle.dg_fits.specs.Sizes.{names_size, story_size}
 use Rattle.dg_fits.specs.inside.Bytes.{room, rooms, bytes}
 use Rattle.dg_fits.specs.Laws.{IsSized, StoryFits, parts_with}

@@ -26,7 +26,8 @@ use Rattle.dg_turn.specs.Names.{objects_routines}
 use Rattle.dg_emit.specs.Numbers.{rules_count, behind_blocks, number_behind, numbers_from, block_number}
 use Rattle.dg_emit.specs.Bodies.{bodies_routines}
 use Rattle.dg_emit.specs.Code.{preds_routines, blocks_routines, code_routines}
-use Rattle.dg_emit.specs.Story.{start_acts, first_number, story_routines}
+use Rattle.dg_rt.specs.Start.{start_acts}
+use Rattle.dg_emit.specs.Story.{first_number, story_routines}
 use Rattle.dg_fits.specs.Laws.{IsSized, parts_with, RoutinesFit}
 use Rattle.dg_fits.proofs.Suits.{tests, terms_ok, passes_all, objects_few, suits}
 use Rattle.dg_fits.proofs.Objects.{objects_count}

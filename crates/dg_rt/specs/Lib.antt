@@ -4,6 +4,7 @@ pub mod Shapes
 pub mod Back
 pub mod Closings
 pub mod RunTime
+pub mod Start
 pub mod Moments
 pub mod Unifies
 pub mod Undoes

@@ -30,6 +30,7 @@ mod routines;
 mod rules;
 pub mod spelling;
 mod splitting;
+mod start;
 pub mod tries;
 mod typing;
 mod unify;
@@ -63,4 +64,5 @@ pub use pieces::{LETTER_ACTS, PRINT_LETTERS_ACTS, PRINT_MARK_ACTS, PRINT_NUMBER_
 pub use queries::{ASK_ACTS, BODY_ACTS, LEAVE_ACTS, TAIL_CALL_ACTS};
 pub use routines::runtime;
 pub use rules::{FOUND_ACTS, KEY_OF_ACTS, MATCH_ACTS, MATCHED_ACTS, NONE_ACTS};
+pub use start::start_routine;
 pub use unify::{BIND_ACTS, OCCURS_ACTS, UNDO_ACTS, UNIFY_ACTS, WALK_ACTS};

@@ -10,7 +10,8 @@ use Rattle.dg_rt.specs.RunTime.{routine_of, runtime}
 use Rattle.dg_emit.specs.Outline.{RoutinesAlike, SameOutline}
 use Rattle.dg_emit.specs.Code.{CodeFits}
 use Rattle.dg_emit.specs.Numbers.{numbers_from, block_number}
-use Rattle.dg_emit.specs.Story.{start_acts, first_number}
+use Rattle.dg_rt.specs.Start.{start_acts}
+use Rattle.dg_emit.specs.Story.{first_number}
 use Rattle.dg_fits.specs.Laws.{parts_with}
 use Rattle.dg_story.specs.declared.building.Left.{Left}
 use Rattle.dg_story.specs.Built.{sites_table, story_tables, story_parts, keeps_within, IsStoryOf, HasNoStory}

@@ -22,9 +22,9 @@ use Rattle.dg_rt.specs.Cells.{with_cell, replaced, Holds}
 use Rattle.dg_rt.specs.Areas.{state}
 use Rattle.dg_rt.specs.RunTime.{routine_of}
 use Rattle.dg_rt.proofs.Following.{copies, puts}
-use Rattle.dg_turn.specs.Plays.{turn_acts}
 use Rattle.dg_emit.specs.Numbers.{numbers_from, block_number}
-use Rattle.dg_emit.specs.Story.{start_acts, first_number}
+use Rattle.dg_rt.specs.Start.{start_acts, turn_acts}
+use Rattle.dg_emit.specs.Story.{first_number}
 use Rattle.dg_story.specs.Built.{site_words, story_parts, IsStoryOf}
 use Rattle.dg_story.proofs.Mapped.{p, routine_is, base_is}
 use Rattle.dg_story.proofs.Memory.{memory_is, starts_holding}

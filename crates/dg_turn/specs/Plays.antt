@@ -17,20 +17,10 @@ use Rattle.dg_rt.specs.Cells.{Holds}
 use Rattle.dg_rt.specs.Areas.{back_reg, cut_reg, many_reg, args_reg, last_reg, state}
 use Rattle.dg_rt.specs.Shapes.{Shape}
 use Rattle.dg_rt.specs.RunTime.{HasRunTime}
+use Rattle.dg_rt.specs.Start.{next_reg, turn_acts}
 use Rattle.dg_rt.specs.Closings.{closing}
 use Rattle.dg_turn.specs.Told.{Telling}
 use Rattle.dg_turn.specs.Lies.{CallIn, MidIn}
-
--- The register that names the routine that comes next, as a variable and as a word.
-abbrev pub NEXT : ℕ
-NEXT = 16
-
-abbrev pub next_reg : ℕ
-next_reg = 0
-
--- What a story does first and forever: it calls the routine that comes next, which answers the one that comes behind it.
-abbrev pub turn_acts : List Act
-turn_acts = acts.Label 0 ∷ acts.Call (Some NEXT) (atoms.Var NEXT) args.Zero ∷ acts.Goto 0 ∷ []
 
 -- The story's routines stand in it, the run-time among them, its first one calls one after another, and there is room on the player's stack.
 pub record Playing (t : Telling) : Type 0 where

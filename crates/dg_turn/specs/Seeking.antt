@@ -39,11 +39,12 @@ use Rattle.dg_rt.specs.Closings.{closing_most}
 use Rattle.dg_rt.specs.RunTime.{routine_of}
 use Rattle.dg_rt.specs.Shapes.{Shape}
 use Rattle.dg_rt.specs.Unifies.{price}
+use Rattle.dg_rt.specs.Start.{next_reg}
 use Rattle.dg_turn.specs.Told.{Telling}
 use Rattle.dg_turn.specs.Layout.{words_at, bytes_at}
 use Rattle.dg_turn.specs.Tries.{Sought, AnyObject, Flagged, Valued, sought_at, sought_terms}
 use Rattle.dg_turn.specs.Lies.{WordsIn, TriesIn, MidIn}
-use Rattle.dg_turn.specs.Plays.{Outside, Playing, Represented, registers, next_reg, Comes, Closes}
+use Rattle.dg_turn.specs.Plays.{Outside, Playing, Represented, registers, Comes, Closes}
 use Rattle.dg_turn.specs.Terms.{AreNodes, terms_acts, written_in}
 use Rattle.dg_turn.specs.Turns.{agreed_next, match_acts, commit_routine}
 use Rattle.dg_turn.specs.Operating.{term_value, term_links, InFront, Deciding}
