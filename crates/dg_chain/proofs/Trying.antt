@@ -5,7 +5,9 @@ use Rattle.std.specs.List.{slice_get}
 use Rattle.std.proofs.lemmas.Bool.{cases_lt}
 use Rattle.dg_base.specs.declared.program.PlaceKind.{PlaceKind}
 use Rattle.dg_base.specs.declared.program.PlaceKind.TheVariants.{Flag, ObjectFlag, ObjectVar, Parent, Global}
-use Rattle.dg_base.specs.declared.program.Term.{Term}
+use Rattle.dg_base.specs.declared.program.CoreProgram.{CoreProgram}
+use Rattle.dg_base.specs.declared.program.Term.{Term, out-Term, Pair'}
+use Rattle.dg_base.specs.declared.program.Term as written
 use Rattle.dg_base.specs.declared.run.Ending.TheVariants as ending
 use Rattle.dg_meaning.specs.Cells.{cells}
 use Rattle.dg_meaning.specs.Changes.{found}
@@ -14,16 +16,18 @@ use Rattle.dg_meaning.specs.Facts.{Fact, value_at, is_object, kinds_of}
 use Rattle.dg_meaning.specs.Letters.{copied}
 use Rattle.dg_meaning.specs.Moves.{numbers, looked_up, reads_if_set, ask_object, finds_if_set, begun, behind_copy, copy_of}
 use Rattle.dg_meaning.specs.Path.{Registers, Act, Unifies as UnifiesNow, Effect, Acts}
+use Rattle.dg_meaning.specs.Selection.{label_at}
 use Rattle.dg_meaning.specs.Substitutions.{Substitution, walk}
 use Rattle.dg_meaning.specs.Unify.{Unified, Equations, solve}
-use Rattle.dg_meaning.specs.Values.{Label, Num, Word, Unknown, Object, Nil, Pair, Closure, Value, Var, Node, Values, NoMore, leaf}
+use Rattle.dg_meaning.specs.Values.{Label, Num, Word, Unknown, Object, Nil, Pair, Closure, Value, Var, Node, Values, NoMore, leaf, value_of}
 use Rattle.dg_meaning.specs.World.{Print, World, worked}
+use Rattle.dg_meaning.proofs.LookUps.{walk_node}
 use Rattle.dg_unify.specs.Store.{State}
 use Rattle.dg_mid.specs.declared.code.Code.{Code}
 use Rattle.dg_mid.specs.declared.code.Op.{Op}
 use Rattle.dg_mid.specs.declared.code.Op.TheVariants as op
 use Rattle.dg_mid.specs.Actions.{registers_of, world_of, asked_at, found_at, lasting_in}
-use Rattle.dg_mid.specs.Code.{block_at}
+use Rattle.dg_mid.specs.Code.{block_at, first_label}
 use Rattle.dg_mid.specs.Seeking.{begins_commit, LeavesFirst}
 use Rattle.dg_mid.specs.State.{Find, Tries, Lasting, Mid, Status, Runs, Resumes, Fails, Ended, vars_of, place_of, inner_for}
 use Rattle.dg_mid.specs.Step.{Setting, charged, done, unified, if_agreed, if_passed, bound, more, passed, inside, within, seeks, trying, trying_cells, tries, trail_more}
@@ -134,6 +138,20 @@ unifies_simple v k r c w = ap (λ (q : Registers). UnifiesNow q ((c, copy_of v r
 both_simple : (v : Value) → IsSimple v → (r : Registers) (a b : Value) (o : ℕ) (w : World) → UnifiesNow (behind_copy v r) ((a, leaf (Object o)) ∷ (b, copy_of v r) ∷ []) w ≡ UnifiesNow r ((a, leaf (Object o)) ∷ (b, v) ∷ []) w
 both_simple v k r a b o w = ap (λ (q : Registers). UnifiesNow q ((a, leaf (Object o)) ∷ (b, copy_of v r) ∷ []) w) (no_copy v k r) ∙ ap (λ (x : Value). UnifiesNow r ((a, leaf (Object o)) ∷ (b, x) ∷ []) w) (k.copied_is r.next_var)
 
+-- Only a variable is unbound.
+never_open : (S : Substitution) (f : Label) (vs : Values) (x : ℕ) → walk S (Node f vs) ≡ Var x → ⊥
+never_open S f vs x is = let e = sym (walk_node S f vs) ∙ is in cc
+
+begins_open : (S : Substitution) (program : CoreProgram) (env : List Value) (a : Term) (x : ℕ) → walk S (value_of program env a) ≡ Var x → label_at (out-Term a) ≡ None
+unfolding out-Term denote.Hole.Carrier.out
+begins_open S program env (written.Var n) x is = refl
+begins_open S program env (written.Num n) x is = absurd (never_open S (Num n) NoMore x is)
+begins_open S program env (written.Word n) x is = absurd (never_open S (Word n) NoMore x is)
+begins_open S program env (written.Object n) x is = absurd (never_open S (Object n) NoMore x is)
+begins_open S program env written.Nil x is = absurd (never_open S Nil NoMore x is)
+begins_open S program env (Pair' s head t tail) x is = absurd (never_open S Pair _ x is)
+begins_open S program env (written.Closure c) x is = absurd (never_open S (Closure c) _ x is)
+
 none_sought : (s : Sought) → 0 ≡ sought_terms s → ⊥
 none_sought AnyObject e = omega arith
 none_sought (Flagged q) e = omega arith
@@ -209,9 +227,9 @@ module _ (t : Telling) (plays : Playing t) (code : Code) (dice : List ℕ) where
 
     -- ---- all objects in turn
 
-    seeking_comes : ComesSeeking t s.printed.out o.tries (map (term_value t.program m) ts) (more n m) (find_most t.program a others m) z → Comes t.p.world (Stands t code) 1 ps (Resumes (Tries f (numbers 0 t.program.objects)) m') cost z
+    seeking_comes : first_label ts ≡ None → ComesSeeking t s.printed.out o.tries (map (term_value t.program m) ts) (more n m) (find_most t.program a others m) z → Comes t.p.world (Stands t code) 1 ps (Resumes (Tries f (numbers 0 t.program.objects)) m') cost z
     unfolding alike
-    seeking_comes k =
+    seeking_comes open k =
         let few = k.few in
         let low = fits in
         let objects = t.program.objects in
@@ -228,7 +246,7 @@ module _ (t : Telling) (plays : Playing t) (code : Code) (dice : List ℕ) where
                 count = length_map t.program (vars_of m.frames) ts ∙ o.fits;
                 next = o.block;
                 next_is = o.block_is;
-                is = o.tries_is;
+                is = o.tries_is open;
                 args_are = k.args_are;
                 objects_are = subst (λ (i : ℕ). AreLeft (length objects) i (numbers 0 objects)) (sym k.key_is) (first_left objects);
               };
@@ -245,7 +263,7 @@ module _ (t : Telling) (plays : Playing t) (code : Code) (dice : List ℕ) where
         let k = seek_turns.all t plays o.world s.printed.out o.sought a others behind o.tries x m.lasting.facts m z has o.fits s.printed.lasts.facts is here in
         let unit = a_unit t code dice ps m in
         charged_leads t code dice 1 (omega arith) ps s.printed n (record m { ops = rest }) (Resumes (Tries f (numbers 0 t.program.objects)) m') cost z s.at.rep.mid.state.few
-        (λ room. seeking_comes (k.seeks room))
+        (λ room. seeking_comes (begins_open m.state.subst t.program (vars_of m.frames) a x is) (k.seeks room))
         (λ over. finishes t code dice 1 (omega arith) ps s.printed ending.HeapLimit (10 + closing_most) cost z (λ q. (cc)) (omega arith) (k.meets over))
 
   -- ---- an object, or another value

@@ -1,6 +1,6 @@
 -- The routines of a story's code: one for each instruction, and where it goes on. Hold it against dg_mid/specs/Codes.antt and `does`
 -- of dg_mid/specs/Step.antt.
-use Rattle.std.specs.Prelude.{◌⊎◌, ◌≡◌, ◌≢◌, ℕ, ◌≤◌, List, [], ◌∷◌, length, Option, Some, Bool}
+use Rattle.std.specs.Prelude.{◌⊎◌, ◌≡◌, ◌≢◌, ℕ, ◌≤◌, List, [], ◌∷◌, length, Option, Some, None, Bool}
 use Rattle.std.specs.List.{slice_get}
 use Rattle.dg_base.specs.declared.program.PlaceKind.{PlaceKind}
 use Rattle.dg_base.specs.declared.program.PlaceKind.TheVariants.{Flag, Global}
@@ -14,7 +14,7 @@ use Rattle.dg_mid.specs.declared.code.Code.{Code}
 use Rattle.dg_mid.specs.declared.code.Gathered.{Gathered}
 use Rattle.dg_mid.specs.declared.code.Op.{Op}
 use Rattle.dg_mid.specs.declared.code.Op.TheVariants as op
-use Rattle.dg_mid.specs.Code.{block_at, rules_at}
+use Rattle.dg_mid.specs.Code.{block_at, rules_at, first_label}
 use Rattle.z_lang.specs.declared.act.Routine.{Routine}
 use Rattle.dg_rt.specs.declared.numbers.TheConstants.{DONE, FAIL, LEAVE, UNSTOP, KEEP_VALUE}
 use Rattle.dg_rt.specs.CopiesIn.{HasCaptures}
@@ -109,8 +109,8 @@ pub record FindsFlag (behind_is : ℕ → Type 0) (t : Telling) (x place : ℕ) 
   pub world : HasWorld t
   pub goes : GoesOn behind_is t x (holds_routine t.program place)
 
--- So does that of a query of objects, whose terms are those of a story, in a world that may be written; another one tries objects, and goes on at a
--- block.
+-- So does that of a query of objects, whose terms are those of a story, in a world that may be written; where it begins with a variable another one tries
+-- objects, and goes on at a block.
 pub record FindsObjects (behind_is : ℕ → Type 0) (t : Telling) (x : ℕ) (place : Option ℕ) (ts : List Term) (many : Bool) (next : ℕ) : Type 0 where
   pub sought : Sought
   pub sought_is : sought_at t.program place ≡ Some sought
@@ -119,7 +119,7 @@ pub record FindsObjects (behind_is : ℕ → Type 0) (t : Telling) (x : ℕ) (pl
   pub block : ℕ
   pub block_is : t.p.names.routine block ≡ t.at_block next
   pub tries : ℕ
-  pub tries_is : t.p.routine_at (t.p.names.routine tries) ≡ Some (tries_routine t.program sought many block)
+  pub tries_is : first_label ts ≡ None → t.p.routine_at (t.p.names.routine tries) ≡ Some (tries_routine t.program sought many block)
   pub writes : Writes behind_is t x ts (λ behind. find_routine t.program sought ts behind tries)
 
 -- So does that of a query of a global variable, in a story that tells how many values closures capture.

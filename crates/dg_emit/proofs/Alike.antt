@@ -12,6 +12,8 @@ use Rattle.dg_base.specs.declared.program.Term.TheOpen as term
 use Rattle.dg_base.specs.Goals.{option_terms}
 use Rattle.dg_meaning.specs.Cells.{captured_count, node_cells, nodes_of, cells}
 use Rattle.dg_meaning.specs.Facts.{kinds_of}
+use Rattle.dg_meaning.specs.Values.{Label}
+use Rattle.dg_mid.specs.Code.{first_label}
 use Rattle.dg_mid.specs.declared.code.Action.TheVariants as action
 use Rattle.dg_mid.specs.declared.code.Block.{Block}
 use Rattle.dg_mid.specs.declared.code.BodyCode.{BodyCode}
@@ -39,7 +41,7 @@ use Rattle.dg_emit.specs.Numbers.{routines_of_op, first_of, rules_count, behind_
 use Rattle.dg_emit.specs.Code.{op_routine, op_routines, ops_routines, blocks_routines, preds_routines, code_routines, TermsFit, OpFits, OpsFit, BlocksFit}
 use Rattle.dg_emit.specs.Bodies.{entering_routine, bodies_routines}
 use Rattle.dg_turn.specs.Tries.{Sought, AnyObject, Flagged, Valued, sought_by, sought_at, tries_by}
-use Rattle.dg_emit.specs.Finds.{find_of, kind_at, query_of, tries_of, FindFits, GlobalFits, QueryFits}
+use Rattle.dg_emit.specs.Finds.{find_of, kind_at, query_of, tries_of, tries_for, FindFits, GlobalFits, QueryFits}
 use Rattle.dg_emit.specs.World.{change_routine, WorldFits, ChangeFits, FlagFits}
 use Rattle.dg_emit.specs.Outline.{SameOutline, RoutinesAlike}
 
@@ -183,6 +185,10 @@ module _ (p q : CoreProgram) (same : SameOutline p q) where
   tries_same None many next = refl
   tries_same (Some s) many next = ap (routine_of 0) (tries_alike (length p.objects) s many next ∙ ap (λ (n : ℕ). tries_by q n s many next) many_same)
 
+  tries_alike_for : (s : Option Sought) (k : Option Label) (many : Bool) (next : ℕ) → tries_for p s k many next ≡ tries_for q s k many next
+  tries_alike_for s None many next = tries_same s many next
+  tries_alike_for s (Some f) many next = refl
+
   sought_same : (place : Option ℕ) → sought_at p place ≡ sought_at q place
   sought_same None = refl
   sought_same (Some place) = ap (λ (l : List PlaceKind). sought_by place (slice_get l place)) same.kinds
@@ -211,10 +217,11 @@ module _ (p q : CoreProgram) (same : SameOutline p q) where
   own_same numbers number behind (op.Keep a) = refl
   own_same numbers number behind (op.Find place (t ∷ ts) many next) =
       let to : ℕ = block_number numbers next in
-      ap (λ (k : Option PlaceKind). query_of p k place (t ∷ ts) behind (number + 1) ∷ tries_of p (sought_at p place) many to ∷ []) (kinds_alike place)
-      ∙ ap (λ (r : Routine). r ∷ tries_of p (sought_at p place) many to ∷ []) (query_same (kind_at q place) place (t ∷ ts) behind (number + 1))
-      ∙ ap (λ (s : Option Sought). query_of q (kind_at q place) place (t ∷ ts) behind (number + 1) ∷ tries_of p s many to ∷ []) (sought_same place)
-      ∙ ap (λ (r : Routine). query_of q (kind_at q place) place (t ∷ ts) behind (number + 1) ∷ r ∷ []) (tries_same (sought_at q place) many to)
+      let k : Option Label = first_label (t ∷ ts) in
+      ap (λ (o : Option PlaceKind). query_of p o place (t ∷ ts) behind (number + 1) ∷ tries_for p (sought_at p place) k many to ∷ []) (kinds_alike place)
+      ∙ ap (λ (r : Routine). r ∷ tries_for p (sought_at p place) k many to ∷ []) (query_same (kind_at q place) place (t ∷ ts) behind (number + 1))
+      ∙ ap (λ (s : Option Sought). query_of q (kind_at q place) place (t ∷ ts) behind (number + 1) ∷ tries_for p s k many to ∷ []) (sought_same place)
+      ∙ ap (λ (r : Routine). query_of q (kind_at q place) place (t ∷ ts) behind (number + 1) ∷ r ∷ []) (tries_alike_for (sought_at q place) k many to)
   own_same numbers number behind x = ap (λ (r : Routine). r ∷ []) (op_same numbers behind x)
 
   ops_same : (numbers : Numbers) (number : ℕ) (ops : List Op) → ops_routines p numbers number ops ≡ ops_routines q numbers number ops

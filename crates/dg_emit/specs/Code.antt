@@ -14,7 +14,7 @@ use Rattle.dg_mid.specs.declared.code.Op.TheVariants as op
 use Rattle.dg_mid.specs.declared.code.Block.{Block}
 use Rattle.dg_mid.specs.declared.code.RuleCode.{RuleCode}
 use Rattle.dg_mid.specs.declared.code.Code.{Code}
-use Rattle.dg_mid.specs.Code.{block_at, label_of}
+use Rattle.dg_mid.specs.Code.{block_at, label_of, first_label}
 use Rattle.z_lang.specs.declared.act.Routine.{Routine}
 use Rattle.dg_rt.specs.declared.numbers.TheConstants.{DONE, FAIL, SPELL}
 use Rattle.dg_rt.specs.RunTime.{routine_of}
@@ -37,7 +37,7 @@ use Rattle.dg_turn.specs.Sites.{select_routine}
 use Rattle.dg_emit.specs.declared.numbers.Numbers.{Numbers}
 use Rattle.dg_emit.specs.Numbers.{routines_of_op, routines_of_ops, first_of, first_rule, rules_count, behind_blocks, number_behind, numbers_from, block_number, pred_number}
 use Rattle.dg_turn.specs.Tries.{sought_at}
-use Rattle.dg_emit.specs.Finds.{kind_at, query_of, tries_of, QueryFits}
+use Rattle.dg_emit.specs.Finds.{kind_at, query_of, tries_for, QueryFits}
 use Rattle.dg_turn.specs.Prints.{print_routine}
 use Rattle.dg_turn.specs.Names.{objects_routines}
 use Rattle.dg_emit.specs.Bodies.{bodies_routines, ClosuresFit}
@@ -96,7 +96,7 @@ op_routines program numbers number behind (op.Do action.Stop) = []
 op_routines program numbers number behind (op.Keep a) = []
 op_routines program numbers number behind (op.Find place (t ∷ ts) many next) =
     query_of program (kind_at program place) place (t ∷ ts) behind (number + 1)
-    ∷ tries_of program (sought_at program place) many (block_number numbers next) ∷ []
+    ∷ tries_for program (sought_at program place) (first_label (t ∷ ts)) many (block_number numbers next) ∷ []
 op_routines program numbers number behind x = op_routine program numbers behind x ∷ []
 
 -- The routines of a block, the first of which has a number: those of its instructions, and one that fails.

@@ -6,6 +6,7 @@ use Rattle.dg_base.specs.declared.program.PlaceKind.{PlaceKind}
 use Rattle.dg_base.specs.declared.program.PlaceKind.TheVariants.{Global}
 use Rattle.dg_base.specs.declared.program.Term.{Term}
 use Rattle.dg_meaning.specs.Facts.{kinds_of}
+use Rattle.dg_meaning.specs.Values.{Label}
 use Rattle.z_lang.specs.declared.act.Act.{Act}
 use Rattle.z_lang.specs.declared.act.Act.TheVariants as acts
 use Rattle.z_lang.specs.declared.act.Args.TheVariants as args
@@ -37,6 +38,11 @@ query_of program kind place ts behind tries = find_of program (sought_at program
 abbrev pub tries_of : CoreProgram → Option Sought → Bool → ℕ → Routine
 tries_of program None many next = goto_routine FAIL
 tries_of program (Some s) many next = tries_routine program s many next
+
+-- So it is for a query that begins with a variable; one whose first term has a label tries no objects, and its routine fails.
+abbrev pub tries_for : CoreProgram → Option Sought → Option Label → Bool → ℕ → Routine
+tries_for program s None many next = tries_of program s many next
+tries_for program s (Some f) many next = goto_routine FAIL
 
 -- An object is tried, of so many, with so many arguments.
 abbrev pub first_act : (objects arguments : ℕ) → Act

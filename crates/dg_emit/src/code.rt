@@ -1,11 +1,12 @@
 // The routines of code.
 ghost use Rattle.std.specs.Prelude.{◌≡◌, ◌+◌, ◌≤◌, ◌++◌, ◌∷◌, [], true, IfOk, OnOk, length};
 ghost use Rattle.dg_turn.specs.Tries.{sought_at};
-ghost use Rattle.dg_emit.specs.Finds.{kind_at, query_of, tries_of};
+ghost use Rattle.dg_emit.specs.Finds.{kind_at, query_of, tries_for};
 ghost use Rattle.dg_emit.specs.World.{WorldFits};
 ghost use Rattle.dg_emit.specs.Numbers.{routines_of_ops as size_of, routines_of_op as own_size, blocks_size, block_number};
 ghost use Rattle.dg_base.specs.Goals.{option_terms};
 ghost use Rattle.dg_turn.specs.Turns as turns;
+ghost use Rattle.dg_mid.specs.Code.{first_label};
 ghost use Rattle.dg_mid.specs.declared.code.Action.TheVariants as action;
 ghost use Rattle.dg_mid.specs.declared.code.Op.TheVariants as op;
 ghost use Rattle.dg_emit.specs.Code as spec;
@@ -212,18 +213,18 @@ impl CodeWriter<'_> {
         requires few { number + 1 ≤ 65535 }
         ensures { OnOk result (all.new ≡ all.old
             ++ query_of self.now.writer.program.now (kind_at self.now.writer.program.now place) place terms.now behind (number + 1)
-            ∷ tries_of self.now.writer.program.now (sought_at self.now.writer.program.now place) way.0
+            ∷ tries_for self.now.writer.program.now (sought_at self.now.writer.program.now place) (first_label terms.now) way.0
             (block_number self.now.numbers.now way.1) ∷ []) }
     {
         let (many, next) = way;
-        let terms = all_of(self.writer.alloc, terms)?;
+        let given = all_of(self.writer.alloc, terms)?;
         let first = number + 1;
         let known = self
             .writer
-            .query_found(place, terms.as_slice(), behind, first)?;
+            .query_found(place, given.as_slice(), behind, first)?;
         all.push(known)?;
         let next = self.numbers.block(next);
-        all.push(self.writer.objects_tried(place, many, next)?)
+        all.push(self.writer.tries_for(place, terms, many, next)?)
     }
 
     // The routines of an instruction, of which the first has a number.

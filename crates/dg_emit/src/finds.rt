@@ -3,10 +3,11 @@ ghost use Rattle.std.specs.Prelude.{◌≡◌, ◌≤◌, ◌++◌, ◌∷◌, [
 ghost use Rattle.std.specs.List.{slice_get};
 ghost use Rattle.dg_meaning.specs.Cells.{nodes_of};
 ghost use Rattle.dg_meaning.specs.Facts.{kinds_of};
+ghost use Rattle.dg_mid.specs.Code.{first_label};
 ghost use Rattle.dg_turn.specs.Seeking as seeking;
 ghost use Rattle.dg_turn.specs.Terms.{AreNodes};
 ghost use Rattle.dg_turn.specs.Tries as spec;
-ghost use Rattle.dg_emit.specs.Finds.{find_of, kind_at, query_of, tries_of, first_act};
+ghost use Rattle.dg_emit.specs.Finds.{find_of, kind_at, query_of, tries_of, tries_for, first_act};
 ghost use Rattle.dg_emit.specs.World.{WorldFits};
 ghost use Rattle.dg_emit.specs.inside.Left.{those};
 
@@ -229,8 +230,8 @@ impl Writer<'_> {
         Ok(Routine { locals: 0, body })
     }
 
-    /// The routine that tries objects at a place, or without one any object.
-    pub fn objects_tried(
+    // The routine that tries objects at a place, or without one any object.
+    fn objects_tried(
         &self,
         place: Option<u16>,
         many: bool,
@@ -249,6 +250,23 @@ impl Writer<'_> {
                 _ => goto(self.alloc, FAIL),
             },
             None => goto(self.alloc, FAIL),
+        }
+    }
+
+    /// The same for a query with these terms: only one that begins with a variable tries objects.
+    pub fn tries_for(
+        &self,
+        place: Option<u16>,
+        terms: &[Term],
+        many: bool,
+        next: u16,
+    ) -> Result<Routine, AllocError>
+        requires { WorldFits self.now.program.now }
+        ensures { IfOk result (λ r. r ≡ tries_for self.now.program.now (spec.sought_at self.now.program.now place) (first_label terms.now) many next) }
+    {
+        match terms {
+            [] | [Term::Var(_), ..] => self.objects_tried(place, many, next),
+            _ => goto(self.alloc, FAIL),
         }
     }
 }

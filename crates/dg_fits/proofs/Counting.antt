@@ -19,7 +19,7 @@ use Rattle.dg_mid.specs.Code.{codes_of}
 use Rattle.dg_mid.specs.Codes.{Codes, RulesStand, BodyStands}
 use Rattle.dg_mid.specs.Weights.{lists_in, own_weight, ways_weight, goal_weight, goals_weight, body_weight, rules_weight, preds_weight, closures_weight, blocks_weight, IsLight}
 use Rattle.dg_emit.specs.Numbers.{rules_count}
-use Rattle.dg_fits.specs.Sizes.{names_size, terms_size, text_size, lists_held, query_size, goal_size, goals_size, body_size, rules_size, preds_size, closures_size, story_size}
+use Rattle.dg_fits.specs.Sizes.{names_size, terms_size, text_size, lists_held, goal_size, goals_size, body_size, rules_size, preds_size, closures_size, story_size}
 use Rattle.dg_fits.specs.inside.Bytes.{bytes}
 use Rattle.dg_fits.proofs.Terms.{terms_count}
 
@@ -32,7 +32,7 @@ module _ (p : CoreProgram) (captured : (c : ℕ) → captured_count (slice_get p
   -- ## Goals
 
   -- the lists of a goal have room for 8 more each, and for what chooses from them
-  own_counts : (layer : form.Goal-F Goal) → 25 * (own_weight (bytes p) layer + 56 * length (lists_held layer)) ≤ 23 * (100 + text_size layer + query_size layer + terms_size (terms_held layer) + 100 * length (lists_held layer))
+  own_counts : (layer : form.Goal-F Goal) → 25 * (own_weight (bytes p) layer + 56 * length (lists_held layer)) ≤ 23 * (100 + text_size layer + terms_size (terms_held layer) + 100 * length (lists_held layer))
   own_counts (form.Text name) = omega arith
   own_counts (form.Select site mode lists) = omega (arith, length-replicate {A = List Goal} (length lists) [])
   own_counts layer = omega (arith, terms_count p captured (terms_held layer))

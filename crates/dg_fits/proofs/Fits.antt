@@ -10,7 +10,7 @@ use Rattle.dg_base.specs.declared.program.CompareOp.TheVariants as compare
 use Rattle.dg_base.specs.declared.program.CoreProgram.{CoreProgram}
 use Rattle.dg_base.specs.declared.program.PlaceKind.{PlaceKind}
 use Rattle.dg_base.specs.declared.program.PlaceKind.TheVariants.{Flag, ObjectFlag, ObjectVar, Parent, Global}
-use Rattle.dg_base.specs.declared.program.Term.{Term}
+use Rattle.dg_base.specs.declared.program.Term.{Term, out-Term}
 use Rattle.dg_base.specs.declared.program.TestKind.{TestKind}
 use Rattle.dg_base.specs.declared.program.TestKind.TheVariants as test
 use Rattle.dg_base.specs.declared.program.GapKind.TheVariants as kinds
@@ -19,6 +19,7 @@ use Rattle.dg_base.specs.Sound.{IsName}
 use Rattle.dg_meaning.specs.Cells.{cells}
 use Rattle.dg_meaning.specs.Facts.{kinds_of}
 use Rattle.dg_meaning.specs.Render.{opens, last_of}
+use Rattle.dg_meaning.specs.Selection.{label_at}
 use Rattle.dg_meaning.specs.Values.{Label, Num, Word, Object, Nil, Pair, Closure, Unknown}
 use Rattle.dg_mid.specs.declared.code.Action.TheVariants as action
 use Rattle.dg_mid.specs.declared.code.Gathered.{Gathered}
@@ -72,7 +73,7 @@ use Rattle.dg_emit.specs.Bodies.{bodies_routines}
 use Rattle.dg_emit.specs.Code.{op_routines, ops_routines, blocks_routines, parameters_of, rules_routines, preds_routines, TermsFit, OpFits, OpsFit, BlocksFit, RulesFit, PredsFit}
 use Rattle.dg_emit.specs.Sites.{site_address}
 use Rattle.dg_emit.specs.World.{WorldFits, change_routine}
-use Rattle.dg_emit.specs.Finds.{find_of, kind_at, query_of, tries_of}
+use Rattle.dg_emit.specs.Finds.{find_of, kind_at, query_of, tries_of, tries_for}
 use Rattle.dg_emit.proofs.Fronts.{words_small, bytes_small}
 use Rattle.dg_fits.proofs.Names.{AreSmall, chars_small}
 use Rattle.dg_fits.proofs.Terms.{num_bytes}
@@ -310,6 +311,10 @@ module _ (c : Counts) (many : 1 + length runtime ≤ c.routines) where
   tried_fits p None ask next world lt = goto_fits FAIL (omega arith)
   tried_fits p (Some s) ask next world lt = tries_fit p (length p.objects) s ask next world (omega (arith, world.few)) lt
 
+  tries_for_fits : (p : CoreProgram) (o : Option Sought) (k : Option Label) (ask : Bool) (next : ℕ) → WorldFits p → next < c.routines → IsFit c (tries_for p o k ask next)
+  tries_for_fits p o None ask next world lt = tried_fits p o ask next world lt
+  tries_for_fits p o (Some f) ask next world lt = goto_fits FAIL (omega arith)
+
   -- ## Instructions
 
   taker_below : (whole : Gathered) → taker whole < c.routines
@@ -373,7 +378,7 @@ module _ (c : Counts) (many : 1 + length runtime ≤ c.routines) where
   )
   op_fit p numbers number behind (op.Find place (t ∷ ts) ask next) below le lt fits few = (
     query_fits p place (kind_at p place) t ts behind (number + 1) fits.1 fits.0 lt (omega arith),
-    (tried_fits p (sought_at p place) ask (block_number numbers next) fits.1 (below.block next), tt),
+    (tries_for_fits p (sought_at p place) (label_at (out-Term t)) ask (block_number numbers next) fits.1 (below.block next), tt),
   )
   op_fit p numbers number behind (op.Ask pred terms ask next) below le lt fits few = (
     written_fits p ARGS terms (ask_acts (atoms.Routine (block_number numbers next)) ask terms (pred_number numbers pred)) (omega arith) fits

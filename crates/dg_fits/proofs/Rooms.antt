@@ -10,13 +10,15 @@ use Rattle.dg_base.specs.declared.program.CoreProgram.{CoreProgram}
 use Rattle.dg_base.specs.declared.program.PlaceKind.{PlaceKind}
 use Rattle.dg_base.specs.declared.program.PlaceKind.TheVariants.{Flag, ObjectFlag, ObjectVar, Parent, Global}
 use Rattle.dg_base.specs.declared.program.Goal.{Goal}
-use Rattle.dg_base.specs.declared.program.Term.{Term}
+use Rattle.dg_base.specs.declared.program.Term.{Term, out-Term}
+use Rattle.dg_base.specs.declared.program.Term.TheOpen as term
 use Rattle.dg_base.specs.declared.program.GapKind.TheVariants as kinds
 use Rattle.dg_base.specs.Goals.{option_terms}
 use Rattle.dg_base.specs.Sound.{IsName}
-use Rattle.dg_meaning.specs.Cells.{cells}
+use Rattle.dg_meaning.specs.Cells.{nodes_of, cells}
 use Rattle.dg_meaning.specs.Facts.{kinds_of}
 use Rattle.dg_meaning.specs.Render.{characters, last_of}
+use Rattle.dg_meaning.specs.Selection.{label_at}
 use Rattle.dg_meaning.specs.Values.{Label}
 use Rattle.dg_mid.specs.declared.code.Action.TheVariants as action
 use Rattle.dg_mid.specs.declared.code.Gathered.TheVariants as gathered
@@ -60,14 +62,15 @@ use Rattle.dg_emit.specs.Numbers.{routines_of_op, routines_of_ops, blocks_size, 
 use Rattle.dg_emit.specs.Bodies.{bodies_routines}
 use Rattle.dg_turn.specs.Tries.{OBJECT_TRIED, Sought, AnyObject, Flagged, Valued, sought_by, sought_at, sought_terms, look_acts as looked_acts, tried_acts, landing_acts, tries_by, tries_routine}
 use Rattle.dg_turn.specs.Seeking.{find_acts, find_routine}
-use Rattle.dg_emit.specs.Finds.{find_of, query_of, tries_of, FindFits, GlobalFits, QueryFits}
+use Rattle.dg_emit.specs.Finds.{find_of, query_of, tries_for, FindFits, GlobalFits, QueryFits}
 use Rattle.dg_emit.specs.Code.{op_routines, ops_routines, blocks_routines, parameters_of, rules_routines, preds_routines, code_routines, OpFits, OpsFit, BlocksFit}
 use Rattle.dg_emit.specs.Sites.{site_address}
 use Rattle.dg_emit.specs.World.{change_routine}
 use Rattle.dg_fits.specs.inside.Bytes.{room, rooms, bytes}
+use Rattle.dg_emit.proofs.Left.{nodes_next}
 use Rattle.dg_fits.proofs.Names.{chars_few}
 use Rattle.dg_fits.proofs.SelectRoutine.{select_few}
-use Rattle.dg_fits.proofs.Terms.{bytes_append, num_bytes, terms_room}
+use Rattle.dg_fits.proofs.Terms.{bytes_append, num_bytes, spare_at, spare, terms_room}
 
 -- ## Room
 
@@ -235,8 +238,16 @@ module _ (p : CoreProgram) where
   find_few (Flagged place) behind tries = omega (arith, num_bytes (nat_lt (64 + bytes_at p place) 256), num_bytes (nat_lt (length p.objects) 256))
   find_few (Valued place) behind tries = omega (arith, num_bytes (nat_lt (at_cell (words_at p place)) 256), num_bytes (nat_lt (length p.objects) 256))
 
-  found_room : (s : Sought) (ts : List Term) (behind tries : ℕ) → length ts ≡ sought_terms s → room (find_routine p s ts behind tries) ≤ 21 + 8 * sought_terms s + terms_weight (bytes p) ts
-  found_room s ts behind tries many = omega (arith, written_room ARGS ts (find_acts p s behind tries) (7 + 8 * sought_terms s) (omega (arith, find_few s behind tries)))
+  -- a variable that is the first term leaves what it has to spare
+  found_room : (s : Sought) (ts : List Term) (behind tries : ℕ) → length ts ≡ sought_terms s →
+      room (find_routine p s ts behind tries) + spare (nodes_of ts) ≤ 21 + 8 * sought_terms s + terms_weight (bytes p) ts
+  found_room s ts behind tries many =
+      omega (
+        arith,
+        bytes_append (terms_acts p ARGS ts) (find_acts p s behind tries),
+        terms_room p ARGS ts,
+        find_few s behind tries,
+      )
 
   looked_few : (s : Sought) → body_bytes (looked_acts p s) ≤ 7
   looked_few AnyObject = omega arith
@@ -276,14 +287,28 @@ module _ (p : CoreProgram) where
   sought_few (Flagged place) = omega arith
   sought_few (Valued place) = omega arith
 
+  -- for a variable its spare bytes suffice, and for other first terms no objects are tried
+  tries_room : (s : Sought) (x : term.Term-F Term) (many : Bool) (next : ℕ) → room (tries_for p (Some s) (label_at x) many next) + 8 * sought_terms s ≤ 31 + spare_at x
+  tries_room s (term.Var n) many next = omega (arith, tried_room s many next, sought_few s)
+  tries_room s (term.Num n) many next = omega (arith, sought_few s)
+  tries_room s (term.Word n) many next = omega (arith, sought_few s)
+  tries_room s (term.Object n) many next = omega (arith, sought_few s)
+  tries_room s term.Nil many next = omega (arith, sought_few s)
+  tries_room s (term.Pair head tail) many next = omega (arith, sought_few s)
+  tries_room s (term.Closure c) many next = omega (arith, sought_few s)
+
+  none_room : (o : Option Label) (many : Bool) (next : ℕ) → room (tries_for p None o many next) ≡ 8
+  none_room None many next = refl
+  none_room (Some f) many next = refl
+
   -- both together
-  finding_room : (place : Option ℕ) (ts : List Term) (many : Bool) (behind tries next : ℕ) → FindFits p place (length ts) →
-      room (find_of p (sought_at p place) ts behind tries) + room (tries_of p (sought_at p place) many next) ≤ 52 + 13 * length ts + terms_weight (bytes p) ts
-  finding_room place ts many behind tries next f =
-      let found = ap (λ (s : Option Sought). room (find_of p s ts behind tries)) f.sought_is in
-      let tried = ap (λ (s : Option Sought). room (tries_of p s many next)) f.sought_is in
-      let count = f.fits in
-      omega (arith, found_room f.sought ts behind tries f.fits, tried_room f.sought many next, sought_few f.sought)
+  finding_room : (place : Option ℕ) (t : Term) (ts : List Term) (many : Bool) (behind tries next : ℕ) → FindFits p place (length (t ∷ ts)) →
+      room (find_of p (sought_at p place) (t ∷ ts) behind tries) + room (tries_for p (sought_at p place) (label_at (out-Term t)) many next) ≤ 52 + terms_weight (bytes p) (t ∷ ts)
+  finding_room place t ts many behind tries next f =
+      let found = ap (λ (s : Option Sought). room (find_of p s (t ∷ ts) behind tries)) f.sought_is in
+      let tried = ap (λ (s : Option Sought). room (tries_for p s (label_at (out-Term t)) many next)) f.sought_is in
+      let first = ap spare (nodes_next t ts) in
+      omega (arith, found_room f.sought (t ∷ ts) behind tries f.fits, tries_room f.sought (out-Term t) many next, first)
 
   -- a query of a global variable
   global_room : (place : ℕ) (t : Term) (behind : ℕ) → room (global_routine p place t behind) ≤ 36 + terms_weight (bytes p) (t ∷ [])
@@ -301,23 +326,23 @@ module _ (p : CoreProgram) where
   asks_objects place n o is other (inr g) = absurd (other (sym is ∙ asks_global place n g))
 
   query_room : (place : ℕ) (o : Option PlaceKind) (t : Term) (ts : List Term) (many : Bool) (behind tries next : ℕ) → slice_get (kinds_of p) place ≡ o → QueryFits p (Some place) (length (t ∷ ts)) →
-      room (query_of p o (Some place) (t ∷ ts) behind tries) + room (tries_of p (sought_at p (Some place)) many next) ≤ 52 + 13 * length (t ∷ ts) + terms_weight (bytes p) (t ∷ ts)
+      room (query_of p o (Some place) (t ∷ ts) behind tries) + room (tries_for p (sought_at p (Some place)) (label_at (out-Term t)) many next) ≤ 52 + terms_weight (bytes p) (t ∷ ts)
   query_room place (Some Global) t [] many behind tries next is fits =
-      let tried = ap (λ (o : Option PlaceKind). room (tries_of p (sought_by place o) many next)) is in
-      omega (arith, global_room place t behind)
+      let tried = ap (λ (o : Option PlaceKind). room (tries_for p (sought_by place o) (label_at (out-Term t)) many next)) is in
+      omega (arith, global_room place t behind, none_room (label_at (out-Term t)) many next)
   query_room place (Some Global) t (u ∷ ts) many behind tries next is (inl f) =
       let none : None ≡ Some f.sought = sym (ap (sought_by place) is) ∙ f.sought_is in absurd (cc none)
   query_room place (Some Global) t (u ∷ ts) many behind tries next is (inr g) = let one = g.fits in absurd (omega arith)
   query_room place (Some Flag) t ts many behind tries next is fits =
-      finding_room (Some place) (t ∷ ts) many behind tries next (asks_objects place (length (t ∷ ts)) (Some Flag) is (λ e. cc e) fits)
+      finding_room (Some place) t ts many behind tries next (asks_objects place (length (t ∷ ts)) (Some Flag) is (λ e. cc e) fits)
   query_room place (Some ObjectFlag) t ts many behind tries next is fits =
-      finding_room (Some place) (t ∷ ts) many behind tries next (asks_objects place (length (t ∷ ts)) (Some ObjectFlag) is (λ e. cc e) fits)
+      finding_room (Some place) t ts many behind tries next (asks_objects place (length (t ∷ ts)) (Some ObjectFlag) is (λ e. cc e) fits)
   query_room place (Some ObjectVar) t ts many behind tries next is fits =
-      finding_room (Some place) (t ∷ ts) many behind tries next (asks_objects place (length (t ∷ ts)) (Some ObjectVar) is (λ e. cc e) fits)
+      finding_room (Some place) t ts many behind tries next (asks_objects place (length (t ∷ ts)) (Some ObjectVar) is (λ e. cc e) fits)
   query_room place (Some Parent) t ts many behind tries next is fits =
-      finding_room (Some place) (t ∷ ts) many behind tries next (asks_objects place (length (t ∷ ts)) (Some Parent) is (λ e. cc e) fits)
+      finding_room (Some place) t ts many behind tries next (asks_objects place (length (t ∷ ts)) (Some Parent) is (λ e. cc e) fits)
   query_room place None t ts many behind tries next is fits =
-      finding_room (Some place) (t ∷ ts) many behind tries next (asks_objects place (length (t ∷ ts)) None is (λ e. cc e) fits)
+      finding_room (Some place) t ts many behind tries next (asks_objects place (length (t ∷ ts)) None is (λ e. cc e) fits)
 
   -- one without a place is of objects
   any_asks : (n : ℕ) → QueryFits p None n → FindFits p None n
@@ -364,7 +389,7 @@ module _ (p : CoreProgram) where
       let rest = acts.Call (Some WORD) (atoms.Routine IF_SET) (args.Two (atoms.Num at) (atoms.Routine behind)) ∷ acts.Return (atoms.Var WORD) ∷ [] in
       omega (arith, written_room ARGS [] rest 12 (omega (arith, num_bytes (nat_lt at 256))))
   op_room numbers number behind (op.Find None (t ∷ []) many next) fits =
-      omega (arith, finding_room None (t ∷ []) many behind (number + 1) (block_number numbers next) (any_asks 1 fits.2))
+      omega (arith, finding_room None t [] many behind (number + 1) (block_number numbers next) (any_asks 1 fits.2))
   op_room numbers number behind (op.Find None (t ∷ u ∷ ts) many next) fits =
       let f = any_asks (length (t ∷ u ∷ ts)) fits.2 in
       let same : AnyObject ≡ f.sought = cc f.sought_is in

@@ -1,7 +1,7 @@
 -- What a program counts, where a story has to have room for it. Hold it against docs/REFUSALS.md, "Of a build".
 use Rattle.std.specs.Prelude.{ℕ, ◌+◌, ◌*◌, List, [], ◌∷◌, length}
 use Rattle.dg_base.specs.declared.program.Goal.{Goal, out-Goal}
-use Rattle.dg_base.specs.declared.program.Goal.TheOpen.{Goal-F, Text, Holds, IsObject, Either, Once, Not, If, Exhaust, Collect, Accumulate, Stoppable, Select}
+use Rattle.dg_base.specs.declared.program.Goal.TheOpen.{Goal-F, Text, Either, Once, Not, If, Exhaust, Collect, Accumulate, Stoppable, Select}
 use Rattle.dg_base.specs.declared.program.Term.{Term, out-Term}
 use Rattle.dg_base.specs.declared.program.Term.TheOpen.{Term-F, Closure}
 use Rattle.dg_base.specs.declared.program.Rule.{Rule}
@@ -80,15 +80,9 @@ lists_held (Stoppable goals) = goals ∷ []
 lists_held (Select site mode lists) = lists
 lists_held goal = []
 
--- A query of the world counts 15 more for each of its terms.
-abbrev pub query_size : Goal-F Goal → ℕ
-query_size (Holds place terms many) = 15 * length terms
-query_size (IsObject a many) = 15
-query_size goal = 0
-
--- A goal by itself: a node, one for each list that it holds, and those of its terms; the characters of a text; and what a query of the world counts more.
+-- A goal by itself: a node, one for each list that it holds, and those of its terms; and the characters of a text.
 abbrev pub goal_size : Goal-F Goal → ℕ
-goal_size goal = 100 + text_size goal + query_size goal + terms_size (terms_held goal) + 100 * length (lists_held goal)
+goal_size goal = 100 + text_size goal + terms_size (terms_held goal) + 100 * length (lists_held goal)
 
 abbrev pub goals_size : List Goal → ℕ
 goals_size [] = 0

@@ -10,6 +10,7 @@ use Rattle.dg_base.specs.declared.program.PlaceKind.TheVariants.{Flag, ObjectFla
 use Rattle.dg_base.specs.declared.program.Term.{Term}
 use Rattle.dg_meaning.specs.Facts.{kinds_of}
 use Rattle.dg_meaning.specs.Cells.{nodes_of}
+use Rattle.dg_meaning.specs.Values.{Label}
 use Rattle.dg_mid.specs.declared.code.Action.TheVariants as action
 use Rattle.dg_mid.specs.declared.code.Block.{Block}
 use Rattle.dg_mid.specs.declared.code.Code.{Code}
@@ -17,7 +18,7 @@ use Rattle.dg_mid.specs.declared.code.Op.{Op}
 use Rattle.dg_mid.specs.declared.code.Op.TheVariants as op
 use Rattle.dg_mid.specs.declared.code.RuleCode.{RuleCode}
 use Rattle.dg_mid.specs.Calls.{EntersWith, AllEnterWith}
-use Rattle.dg_mid.specs.Code.{ops_of, block_at, codes_of, rules_at, label_of}
+use Rattle.dg_mid.specs.Code.{ops_of, block_at, codes_of, rules_at, label_of, first_label}
 use Rattle.z_lang.specs.Standing.{StandsAt}
 use Rattle.z_lang.specs.declared.act.Routine.{Routine}
 use Rattle.dg_rt.specs.declared.numbers.TheConstants.{FAIL, LEAVE, NONE, SPELL, UNSTOP, WALK, KEEP_VALUE}
@@ -52,7 +53,7 @@ use Rattle.dg_emit.specs.Sites.{site_address}
 use Rattle.dg_emit.specs.World.{change_routine, ChangeFits}
 use Rattle.dg_emit.proofs.Names.{name_chars}
 use Rattle.dg_turn.specs.Tries.{Sought, sought_by, sought_at}
-use Rattle.dg_emit.specs.Finds.{find_of, tries_of, kind_at, query_of, FindFits, GlobalFits}
+use Rattle.dg_emit.specs.Finds.{find_of, tries_for, kind_at, query_of, FindFits, GlobalFits}
 use Rattle.dg_turn.specs.Globals.{global_routine}
 use Rattle.dg_chain.specs.Routines.{GoesOn, Opens, Writes, FindsObjects, FindsGlobal, RulesFrom, FindsAll, OpsAt}
 use Rattle.dg_chain.specs.Selects.{SelectsAt}
@@ -211,16 +212,17 @@ module _ (t : Telling) (plays : Playing t) (world : HasWorld t) (tables : HasTab
 
   abbrev Queried : ℕ → Option ℕ → List Term → Bool → ℕ → List Op → Type 0
   Queried n place ts many next ops =
-      LieAt t.p n (query_of t.program (kind_at t.program place) place ts (first_of (n + 2) ops) (n + 1) ∷ tries_of t.program (sought_at t.program place) many (block_number numbers next) ∷ ops_routines t.program numbers (n + 2) ops)
+      LieAt t.p n (query_of t.program (kind_at t.program place) place ts (first_of (n + 2) ops) (n + 1) ∷ tries_for t.program (sought_at t.program place) (first_label ts) many (block_number numbers next) ∷ ops_routines t.program numbers (n + 2) ops)
 
   objects : (n : ℕ) (place : Option ℕ) (ts : List Term) (many : Bool) (next : ℕ) (ops : List Op) → Queried n place ts many next ops → OpsAt t code (at (first_of (n + 2) ops)) ops → FindFits t.program place (length ts) → AreNodes t.program (nodes_of ts) →
       FindsObjects (λ y. OpsAt t code y ops) t (at n) place ts many next
   objects n place ts many next ops lie there f nodes =
       let behind : ℕ = first_of (n + 2) ops in
       let known : Routine = query_of t.program (kind_at t.program place) place ts behind (n + 1) in
-      let tried : Option Sought → Routine = λ s. tries_of t.program s many (block_number numbers next) in
+      let tried : Option Sought → Option Label → Routine = λ s k. tries_for t.program s k many (block_number numbers next) in
       let rest : List Routine = ops_routines t.program numbers (n + 2) ops in
-      let two : LieAt t.p (n + 1) (tried (sought_at t.program place) ∷ rest) = lie_behind t.p n 1 (known ∷ []) (tried (sought_at t.program place) ∷ rest) refl lie in
+      let own : Routine = tried (sought_at t.program place) (first_label ts) in
+      let two : LieAt t.p (n + 1) (own ∷ rest) = lie_behind t.p n 1 (known ∷ []) (own ∷ rest) refl lie in
       record {
         sought = f.sought;
         sought_is = f.sought_is;
@@ -229,7 +231,7 @@ module _ (t : Telling) (plays : Playing t) (world : HasWorld t) (tables : HasTab
         block = block_number numbers next;
         block_is = to_block next;
         tries = n + 1;
-        tries_is = two.0 ∙ ap (λ (s : Option Sought). Some (tried s)) f.sought_is;
+        tries_is = λ open. two.0 ∙ ap (λ (s : Option Sought). Some (tried s (first_label ts))) f.sought_is ∙ ap (λ (k : Option Label). Some (tried (Some f.sought) k)) open;
         writes = record {
           goes = record { behind = behind; is = lie.0 ∙ ap (λ (r : Routine). Some r) (of_sought place ts behind (n + 1) f.sought f.sought_is); next = there };
           nodes = nodes;

@@ -30,9 +30,6 @@ const CLOSURE: usize = 55;
 
 const CLOSURE_TERM: usize = 45;
 
-/// What a query of the world counts more for each of its terms.
-const QUERY_TERM: usize = 15;
-
 fn place_size(kind: PlaceKind, objects: u64) -> u64
     requires { objects ≤ 65535 }
     ensures size { result ≡ spec.place_size objects kind }
@@ -199,29 +196,6 @@ impl<'p> Count<'p> {
         }
     }
 
-    // Counts what the terms of a query of the world count more than others.
-    fn take_terms(&mut self, terms: &'p [Term]) -> Result<(), Lack>
-        ensures counted { OnOk result (Counted (15 * length terms.now) self.old self.new) }
-        ensures lacks { IsErrOf result Room → Lacks (15 * length terms.now) self.old }
-    {
-        for _term in terms {
-            self.take(QUERY_TERM)?;
-        }
-        Ok(())
-    }
-
-    // Counts what a query of the world counts more than other goals.
-    fn take_query(&mut self, goal: &'p Goal) -> Result<(), Lack>
-        ensures counted { OnOk result (Counted (spec.query_size (out-Goal goal.now)) self.old self.new) }
-        ensures lacks { IsErrOf result Room → Lacks (spec.query_size (out-Goal goal.now)) self.old }
-    {
-        match goal {
-            Goal::Holds(_, terms, _) => self.take_terms(terms.as_slice()),
-            Goal::IsObject(_, _) => self.take(QUERY_TERM),
-            _ => Ok(()),
-        }
-    }
-
     // Adds the lists of goals that a goal holds.
     fn add_inner(&mut self, goal: &'p Goal) -> Result<(), Lack>
         ensures counted { OnOk result (Counted (lists_size (spec.lists_held (out-Goal goal.now))) self.old self.new) }
@@ -250,7 +224,6 @@ impl<'p> Count<'p> {
         if let Goal::Text(name) = goal {
             self.take_name(name.as_slice())?;
         }
-        self.take_query(goal)?;
         self.add_held(goal)?;
         self.add_inner(goal)
     }

@@ -4,9 +4,9 @@ use Rattle.std.specs.Prelude.{ℕ, ◌+◌, ◌*◌, List, [], ◌∷◌, length
 use Rattle.std.specs.List.{slice_get}
 use Rattle.dg_base.specs.declared.program.CoreProgram.{CoreProgram}
 use Rattle.dg_base.specs.declared.program.Goal.{Goal}
-use Rattle.dg_base.specs.declared.program.Goal.TheOpen.{Goal-F, Holds, IsObject, Select}
+use Rattle.dg_base.specs.declared.program.Goal.TheOpen.{Goal-F, Select}
 use Rattle.dg_base.specs.declared.program.Term.{Term}
-use Rattle.dg_base.specs.declared.program.Term.TheOpen.{Term-F, Pair, Closure}
+use Rattle.dg_base.specs.declared.program.Term.TheOpen.{Term-F, Var, Pair, Closure}
 use Rattle.dg_meaning.specs.Render.{characters}
 use Rattle.dg_mid.specs.Weights.{Weights}
 use Rattle.z_lang.specs.declared.act.Routine.{Routine}
@@ -23,8 +23,9 @@ abbrev pub rooms : List Routine → ℕ
 rooms [] = 0
 rooms (r ∷ rs) = room r + rooms rs
 
--- What the acts of a node may take: those of a pair, or of a closure with what it captures.
+-- What the acts of a node may take: those of a pair, or of a closure with what it captures; and what the objects take more that are tried for a variable.
 abbrev pub node_bytes : CoreProgram → Term-F Term → ℕ
+node_bytes program (Var v) = 25
 node_bytes program (Pair head tail) = 32
 node_bytes program (Closure c) = 10 + 10 * captures_for (length (captured_of (slice_get program.closures c)))
 node_bytes program other = 0
@@ -34,16 +35,10 @@ abbrev pub branches : Goal-F Goal → ℕ
 branches (Select site mode lists) = length lists
 branches goal = 0
 
--- How many terms a query of the world has.
-abbrev pub terms_sought : Goal-F Goal → ℕ
-terms_sought (Holds place terms many) = length terms
-terms_sought (IsObject term many) = 1
-terms_sought goal = 0
-
 -- What some parts of a program's code may take; a node has its word, too, and what matches it.
 abbrev pub bytes : CoreProgram → Weights
 bytes program = record {
-  own = λ goal. 52 + 13 * terms_sought goal + 36 * branches goal;
+  own = λ goal. 52 + 36 * branches goal;
   enters = λ vars head. 44;
   opening = 40;
   leaving = 16;

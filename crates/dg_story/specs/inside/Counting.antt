@@ -6,7 +6,7 @@ use Rattle.dg_base.specs.Goals.{terms_held}
 use Rattle.dg_story.specs.declared.counting.Left.{Left}
 use Rattle.dg_story.specs.declared.counting.Left.TheVariants as left
 use Rattle.dg_story.specs.declared.counting.Count.{Count}
-use Rattle.dg_fits.specs.Sizes.{text_size, query_size, term_size, terms_size, lists_held, body_size}
+use Rattle.dg_fits.specs.Sizes.{text_size, term_size, terms_size, lists_held, body_size}
 
 abbrev pub part_size : Left → ℕ
 part_size (left.Goals goals) = body_size goals.now
@@ -23,7 +23,7 @@ lists_size (goals ∷ lists) = 100 + body_size goals + lists_size lists
 
 -- A goal with all that is in it.
 abbrev pub whole_size : Goal-F Goal → ℕ
-whole_size goal = 100 + text_size goal + query_size goal + terms_size (terms_held goal) + lists_size (lists_held goal)
+whole_size goal = 100 + text_size goal + terms_size (terms_held goal) + lists_size (lists_held goal)
 
 -- So much more was counted: it took room, or is still to be counted.
 abbrev pub Counted : ℕ → Count → Count → Type 0
