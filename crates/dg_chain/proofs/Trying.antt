@@ -229,7 +229,7 @@ module _ (t : Telling) (plays : Playing t) (code : Code) (dice : List ℕ) where
 
     seeking_comes : first_label ts ≡ None → ComesSeeking t s.printed.out o.tries (map (term_value t.program m) ts) (more n m) (find_most t.program a others m) z → Comes t.p.world (Stands t code) 1 ps (Resumes (Tries f (numbers 0 t.program.objects)) m') cost z
     unfolding alike
-    seeking_comes open k =
+    seeking_comes first k =
         let few = k.few in
         let low = fits in
         let objects = t.program.objects in
@@ -246,7 +246,7 @@ module _ (t : Telling) (plays : Playing t) (code : Code) (dice : List ℕ) where
                 count = length_map t.program (vars_of m.frames) ts ∙ o.fits;
                 next = o.block;
                 next_is = o.block_is;
-                is = o.tries_is open;
+                is = o.tries_is first;
                 args_are = k.args_are;
                 objects_are = subst (λ (i : ℕ). AreLeft (length objects) i (numbers 0 objects)) (sym k.key_is) (first_left objects);
               };

@@ -231,7 +231,7 @@ module _ (t : Telling) (plays : Playing t) (world : HasWorld t) (tables : HasTab
         block = block_number numbers next;
         block_is = to_block next;
         tries = n + 1;
-        tries_is = λ open. two.0 ∙ ap (λ (s : Option Sought). Some (tried s (first_label ts))) f.sought_is ∙ ap (λ (k : Option Label). Some (tried (Some f.sought) k)) open;
+        tries_is = λ first. two.0 ∙ ap (λ (s : Option Sought). Some (tried s (first_label ts))) f.sought_is ∙ ap (λ (k : Option Label). Some (tried (Some f.sought) k)) first;
         writes = record {
           goes = record { behind = behind; is = lie.0 ∙ ap (λ (r : Routine). Some r) (of_sought place ts behind (n + 1) f.sought f.sought_is); next = there };
           nodes = nodes;
