@@ -1,5 +1,5 @@
 -- The routine that lays what a letter spells in front of a list does so.
-use Rattle.std.proofs.Common.{◌≡◌, ◌≢◌, ℕ, suc, ◌+◌, ◌*◌, ◌%◌, ◌<◌, ◌≤◌, inl, inr, Bool, true, false, List, [], ◌∷◌, ◌++◌, drop, length, Some, refl, sym, ap, ◌∙◌, subst, ◌⊎◌, arith}
+use Rattle.std.proofs.Common.{◌≡◌, ◌≢◌, ℕ, suc, ◌+◌, ◌*◌, ◌%◌, ◌<◌, ◌≤◌, inl, inr, Bool, true, false, List, [], ◌∷◌, ◌++◌, drop, length, Some, refl, sym, ap, ◌∙◌, subst, arith}
 use Rattle.std.specs.Prelude.{◌==◌}
 use Rattle.std.proofs.lemmas.Bool.{eq-eqb, ne_eqb, cases_lt}
 use Rattle.dg_base.specs.declared.run.Ending.TheVariants.{HeapLimit}
@@ -15,7 +15,7 @@ use Rattle.z_lang.specs.declared.act.Comparison.TheVariants as comparisons
 use Rattle.z_lang.specs.declared.act.Function.TheVariants as functions
 use Rattle.z_lang.specs.declared.act.Width.TheVariants as widths
 use Rattle.z_lang.specs.State.{State, Program, value}
-use Rattle.z_lang.specs.Acts.{answer_of, does}
+use Rattle.z_lang.specs.Acts.{answer_of}
 use Rattle.z_lang.specs.Runs.{ActsRun as Runs, ActsOutcome, Returns, Stops, at_label, goes, taken, passed, done, calls, returns, behind_label}
 use Rattle.dg_rt.specs.declared.numbers.TheConstants.{SPELLED_NUMBER, FIND_WORD}
 use Rattle.dg_rt.specs.declared.dictionary.TheConstants.{FIND_WORD_ACTS}
@@ -32,7 +32,7 @@ use Rattle.dg_rt.specs.Typing.{number_spelled, TellsNumber}
 use Rattle.dg_rt.proofs.Cells.{writes_cell}
 use Rattle.dg_rt.proofs.Charging.{quits_full}
 use Rattle.dg_rt.proofs.FindingWords.{find_works}
-use Rattle.dg_rt.proofs.Following.{word, some_state, tested, computes, copies, writes, register, put_register}
+use Rattle.dg_rt.proofs.Following.{word, tested, computes, copies, writes, register, put_register}
 use Rattle.dg_rt.proofs.LaySteps.{Laid, lies_keep, replaced_at, replaced_else, copy_word_small, M, in_m, wrote, Did, Store}
 use Rattle.dg_rt.proofs.LineValues.{one_value}
 use Rattle.dg_rt.proofs.Locals.{first, second, third, fourth, fifth, put_first, put_third, put_fourth, put_fifth, added, subtracts, more_by, not_more_by}

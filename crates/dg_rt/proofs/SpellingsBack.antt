@@ -1,15 +1,13 @@
 -- The bytes of a word's spelling, from its end on.
-use Rattle.std.proofs.Common.{◌≡◌, ◌≢◌, ℕ, suc, ◌+◌, ◌*◌, ◌<◌, ◌≤◌, true, List, [], ◌∷◌, ◌++◌, length, refl, sym, ap, ◌∙◌, subst, arith, append_assoc, append-nil, length-append}
+use Rattle.std.proofs.Common.{◌≡◌, ℕ, suc, ◌+◌, ◌*◌, ◌<◌, ◌≤◌, true, List, [], ◌∷◌, ◌++◌, length, refl, sym, ap, ◌∙◌, subst, arith, append_assoc, append-nil, length-append}
 use Rattle.std.specs.Prelude.{All, encode_utf8_all}
 use Rattle.std.specs.Str.{chars, all_scalars}
 use Rattle.std.proofs.lemmas.List.Elements.{All-head, All-tail}
 use Rattle.std.proofs.lemmas.Str.{chars-encodes}
 use Rattle.std.proofs.Math.Utf8.{encode}
 use Rattle.dg_base.specs.Sound.{IsPrintable, IsName}
-use Rattle.z_model.specs.Zscii.{is_character}
 use Rattle.z_lang.specs.State.{Program}
 use Rattle.dg_rt.specs.Dictionary.{BytesStand}
-use Rattle.dg_rt.specs.Shapes.{ArePrinted}
 use Rattle.dg_rt.proofs.FindingWords.{stand_behind, AreSmall}
 use Rattle.dg_rt.proofs.SplitLists.{onto}
 use Rattle.dg_rt.proofs.WordLetters.{Encoded, one, two, three, encoded}
@@ -75,8 +73,7 @@ module _ (p : Program) (story : List ℕ) where
   stand_back x (c ∷ rs) ys tail h =
       let r = stand_back x rs (c ∷ ys) tail h in
       let there = subst (BytesStand p story (x + bytes_of rs)) (append_assoc (encode c) (encode_utf8_all ys) tail) r.1 in
-      let own = stand_front (x + bytes_of rs) (encode c) (encode_utf8_all ys ++ tail) there in
-      (
+      let own = stand_front (x + bytes_of rs) (encode c) (encode_utf8_all ys ++ tail) there in (
         (subst (BytesStand p story (x + bytes_of rs)) (sym (append-nil (encode c))) own, r.0),
         stand_behind p story (x + bytes_of rs) (x + bytes_of (c ∷ rs)) (encode c) (encode_utf8_all ys ++ tail) (omega arith) there,
       )

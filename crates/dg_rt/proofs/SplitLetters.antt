@@ -1,5 +1,5 @@
 -- The routine that lays the list of an unknown word's letters does so.
-use Rattle.std.proofs.Common.{◌≡◌, ◌≢◌, ℕ, suc, ◌+◌, ◌*◌, ◌<◌, ◌≤◌, Bool, true, false, List, [], ◌∷◌, drop, length, Some, refl, sym, ap, ◌∙◌, subst, arith}
+use Rattle.std.proofs.Common.{◌≡◌, ℕ, suc, ◌+◌, ◌*◌, ◌<◌, ◌≤◌, Bool, true, false, List, [], ◌∷◌, drop, length, Some, refl, sym, ap, ◌∙◌, subst, arith}
 use Rattle.std.specs.Prelude.{◌==◌}
 use Rattle.std.proofs.lemmas.Bool.{eq-eqb, ne_eqb}
 use Rattle.dg_meaning.specs.Copies.{copy_cells}
@@ -7,11 +7,11 @@ use Rattle.z_lang.specs.declared.act.Act.TheVariants as acts
 use Rattle.z_lang.specs.declared.act.Atom.TheVariants as atoms
 use Rattle.z_lang.specs.declared.act.Comparison.TheVariants as comparisons
 use Rattle.z_lang.specs.declared.act.Function.TheVariants as functions
-use Rattle.z_lang.specs.State.{State, Program}
+use Rattle.z_lang.specs.State.{State}
 use Rattle.z_lang.specs.Acts.{answer_of, does}
-use Rattle.z_lang.specs.Runs.{ActsRun as Runs, ActsOutcome, Returns, at_label, goes, taken, passed, done, returns, behind_label}
+use Rattle.z_lang.specs.Runs.{at_label, goes, taken, passed, done, returns, behind_label}
 use Rattle.dg_rt.specs.declared.splitting.TheConstants.{SPLIT_LETTERS_ACTS}
-use Rattle.dg_rt.specs.Areas.{heap_at, state}
+use Rattle.dg_rt.specs.Areas.{heap_at}
 use Rattle.dg_rt.specs.Copies.{Row}
 use Rattle.dg_rt.specs.Dictionary.{HasSpellings}
 use Rattle.dg_rt.specs.Shapes.{ArePrinted}
@@ -21,7 +21,7 @@ use Rattle.dg_rt.proofs.LaySteps.{Laid, M, in_m}
 use Rattle.dg_rt.proofs.LetterOn.{Listed, Same, Lays, all_laid, in_front}
 use Rattle.dg_rt.proofs.Locals.{added, subtracts, get_1, get_2, get_3, get_4, set_2, set_3, set_4}
 use Rattle.dg_rt.proofs.SplitLists.{alone, onto, turned_back, onto_length, alone_onto, printed_onto, Below, below_row}
-use Rattle.dg_rt.proofs.SplitNumbers.{on_most, calls_on}
+use Rattle.dg_rt.proofs.SplitNumbers.{calls_on}
 
 module _ (io : Laid) (words : List (List ℕ)) (dict : HasSpellings io.p io.story words) (f w : ℕ) (some : 4 ≤ f) (enough : 18 ≤ w) (m0 : M io) (lo k : ℕ) (low : lo ≤ 10000) where
   open io use {p, story, captures, has, typed, output, drawn, area}

@@ -1,5 +1,5 @@
 -- The routine that lays the list of a number's digits does so.
-use Rattle.std.proofs.Common.{◌≡◌, ◌≢◌, ℕ, zero, suc, ◌+◌, ◌*◌, ◌/◌, ◌%◌, ◌<◌, ◌≤◌, ◌^◌, inl, inr, Bool, true, false, List, [], ◌∷◌, ◌++◌, drop, length, Some, refl, sym, ap, ◌∙◌, subst, arith, append-nil, append_assoc, length-append}
+use Rattle.std.proofs.Common.{◌≡◌, ℕ, zero, suc, ◌+◌, ◌*◌, ◌/◌, ◌%◌, ◌<◌, ◌≤◌, inl, inr, Bool, true, false, List, [], ◌∷◌, ◌++◌, drop, length, Some, refl, sym, ap, ◌∙◌, subst, arith, append-nil, append_assoc, length-append}
 use Rattle.std.specs.Prelude.{◌==◌}
 use Rattle.std.specs.Fmt.{decimal}
 use Rattle.std.proofs.lemmas.Bool.{eq-eqb, ne_eqb, cases_lt}
@@ -13,15 +13,14 @@ use Rattle.z_lang.specs.declared.act.Args.TheVariants as args
 use Rattle.z_lang.specs.declared.act.Atom.TheVariants as atoms
 use Rattle.z_lang.specs.declared.act.Comparison.TheVariants as comparisons
 use Rattle.z_lang.specs.declared.act.Function.TheVariants as functions
-use Rattle.z_lang.specs.State.{State, Program, put}
+use Rattle.z_lang.specs.State.{State, put}
 use Rattle.z_lang.specs.Acts.{answer_of, arguments}
 use Rattle.z_lang.specs.Runs.{ActsRun as Runs, ActsOutcome, Returns, Stops, at_label, taken, passed, done, calls, calls_last, returns, behind_label}
 use Rattle.dg_rt.specs.declared.numbers.TheConstants.{LETTER_ON}
 use Rattle.dg_rt.specs.declared.splitting.TheConstants.{LETTER_ON_ACTS, SPLIT_NUMBER_ACTS}
-use Rattle.dg_rt.specs.Areas.{heap_at, state}
-use Rattle.dg_rt.specs.Closings.{closing, closing_most}
+use Rattle.dg_rt.specs.Areas.{state}
+use Rattle.dg_rt.specs.Closings.{closing}
 use Rattle.dg_rt.specs.Dictionary.{HasSpellings}
-use Rattle.dg_rt.specs.Laying.{copy_word}
 use Rattle.dg_rt.specs.RunTime.{routine_of}
 use Rattle.dg_rt.specs.Shapes.{ArePrinted}
 use Rattle.dg_rt.proofs.CaptureSteps.{divides, leaves}

@@ -1,20 +1,17 @@
 -- The routine that lays the list of the letters of a word of the program does so.
-use Rattle.std.proofs.Common.{◌≡◌, ◌≢◌, ℕ, suc, ◌+◌, ◌*◌, ◌/◌, ◌<◌, ◌≤◌, inl, inr, Bool, true, false, List, [], ◌∷◌, ◌++◌, drop, length, get_or, Some, refl, sym, ap, ◌∙◌, subst, arith, append-nil}
+use Rattle.std.proofs.Common.{◌≡◌, ℕ, suc, ◌+◌, ◌*◌, ◌/◌, ◌<◌, ◌≤◌, Bool, true, false, List, [], ◌∷◌, ◌++◌, drop, length, get_or, Some, refl, sym, ap, ◌∙◌, subst, arith}
 use Rattle.std.specs.Prelude.{◌==◌, encode_utf8_all}
-use Rattle.std.specs.Str.{chars}
-use Rattle.std.proofs.lemmas.Bool.{eq-eqb, ne_eqb, cases_lt}
+use Rattle.std.proofs.lemmas.Bool.{eq-eqb, ne_eqb}
 use Rattle.std.proofs.Math.Utf8.{encode}
 use Rattle.dg_meaning.specs.Copies.{copy_cells}
 use Rattle.z_lang.specs.declared.act.Act.{Act}
-use Rattle.z_lang.specs.declared.act.Act.TheVariants as acts
 use Rattle.z_lang.specs.declared.act.Atom.TheVariants as atoms
 use Rattle.z_lang.specs.declared.act.Comparison.TheVariants as comparisons
 use Rattle.z_lang.specs.declared.act.Function.TheVariants as functions
-use Rattle.z_lang.specs.State.{State, Program}
+use Rattle.z_lang.specs.State.{State}
 use Rattle.z_lang.specs.Acts.{answer_of, computed}
 use Rattle.z_lang.specs.Runs.{ActsRun as Runs, ActsOutcome, Returns, at_label, goes, taken, passed, done, calls, returns, behind_label}
 use Rattle.dg_rt.specs.declared.splitting.TheConstants.{SPLIT_SPELLING_ACTS}
-use Rattle.dg_rt.specs.Areas.{state}
 use Rattle.dg_rt.specs.Dictionary.{spelling_at, BytesStand, HasSpellings}
 use Rattle.dg_rt.specs.Shapes.{ArePrinted}
 use Rattle.dg_rt.specs.inside.Walks.{steps}
@@ -24,9 +21,9 @@ use Rattle.dg_rt.proofs.Following.{word, tested, computes, copies}
 use Rattle.dg_rt.proofs.LaySteps.{Laid, M, in_m}
 use Rattle.dg_rt.proofs.LetterOn.{Listed, Same, Lays, all_laid, in_front}
 use Rattle.dg_rt.proofs.Locals.{added, subtracts, less_by, not_less_by, get_1, get_2, get_3, get_4, set_1, set_2, set_3, set_4}
-use Rattle.dg_rt.proofs.SpellingsBack.{name_letters, NoZero, no_zero_all, encoded_some, few_bytes, bytes_of, StandBack, stand_back, bytes_onto}
+use Rattle.dg_rt.proofs.SpellingsBack.{NoZero, no_zero_all, encoded_some, few_bytes, bytes_of, StandBack, stand_back, bytes_onto}
 use Rattle.dg_rt.proofs.SplitLists.{alone, onto, turned_back, onto_length, alone_onto, printed_onto}
-use Rattle.dg_rt.proofs.SplitNumbers.{on_most, calls_on}
+use Rattle.dg_rt.proofs.SplitNumbers.{calls_on}
 use Rattle.dg_rt.proofs.UnifySteps.{steps_are}
 use Rattle.dg_rt.proofs.WordLetters.{Encoded, one, two, three, encoded, Read, reads_character}
 

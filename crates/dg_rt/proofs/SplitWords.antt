@@ -1,5 +1,5 @@
 -- The routine that splits a word into its letters does so.
-use Rattle.std.proofs.Common.{◌≡◌, ◌≢◌, ℕ, suc, ◌+◌, ◌*◌, ◌<◌, ◌≤◌, inl, inr, Bool, true, false, List, [], ◌∷◌, ◌++◌, drop, take, length, get_or, Option, Some, None, refl, sym, ap, ◌∙◌, subst, arith}
+use Rattle.std.proofs.Common.{◌≡◌, ℕ, suc, ◌+◌, ◌*◌, ◌<◌, ◌≤◌, inl, inr, Bool, true, false, List, [], ◌∷◌, drop, length, get_or, Option, Some, None, refl, sym, ap, ◌∙◌, subst, arith}
 use Rattle.std.specs.Prelude.{All}
 use Rattle.std.specs.Str.{chars}
 use Rattle.std.specs.Fmt.{decimal}
@@ -8,9 +8,7 @@ use Rattle.std.proofs.lemmas.List.{get_or_past}
 use Rattle.std.proofs.lemmas.List.Elements.{All-head, All-tail}
 use Rattle.std.proofs.lemmas.Str.{chars-nil}
 use Rattle.std.proofs.Math.Utf8.{scalar_cases}
-use Rattle.dg_base.specs.Sound.{IsPrintable, IsName}
-use Rattle.dg_base.specs.declared.run.Ending.TheVariants.{HeapLimit}
-use Rattle.z_model.specs.declared.end.Halt.TheVariants.{AtQuit}
+use Rattle.dg_base.specs.Sound.{IsPrintable}
 use Rattle.z_model.specs.Zscii.{is_character}
 use Rattle.dg_meaning.specs.Copies.{copy_cells}
 use Rattle.dg_meaning.specs.Pieces.{shown_letter}
@@ -24,29 +22,27 @@ use Rattle.z_lang.specs.declared.act.Atom.TheVariants as atoms
 use Rattle.z_lang.specs.declared.act.Comparison.TheVariants as comparisons
 use Rattle.z_lang.specs.declared.act.Function.TheVariants as functions
 use Rattle.z_lang.specs.State.{State, Program}
-use Rattle.z_lang.specs.Acts.{answer_of, does}
-use Rattle.z_lang.specs.Runs.{ActsRun as Runs, ActsOutcome, Returns, Stops, at_label, taken, passed, done, calls, calls_last, returns, routine_entered, behind_label}
-use Rattle.dg_rt.specs.declared.numbers.TheConstants.{WALK, SPLIT_NUMBER, SPLIT_LETTERS, SPLIT_SPELLING}
+use Rattle.z_lang.specs.Acts.{answer_of}
+use Rattle.z_lang.specs.Runs.{ActsRun as Runs, ActsOutcome, Returns, taken, passed, done, calls, calls_last, returns, routine_entered, behind_label}
+use Rattle.dg_rt.specs.declared.numbers.TheConstants.{SPLIT_NUMBER, SPLIT_LETTERS, SPLIT_SPELLING}
 use Rattle.dg_rt.specs.declared.unify.TheConstants.{WALK_ACTS}
 use Rattle.dg_rt.specs.declared.splitting.TheConstants.{SPLIT_NUMBER_ACTS, SPLIT_LETTERS_ACTS, SPLIT_SPELLING_ACTS, SPLIT_ACTS}
-use Rattle.dg_rt.specs.Cells.{compared, Holds}
+use Rattle.dg_rt.specs.Cells.{compared}
 use Rattle.dg_rt.specs.Areas.{heap_at, state}
 use Rattle.dg_rt.specs.Charges.{MeetsLimit}
-use Rattle.dg_rt.specs.Closings.{closing, closing_most}
 use Rattle.dg_rt.specs.Copies.{Row}
 use Rattle.dg_rt.specs.Laying.{copy_word}
 use Rattle.dg_rt.specs.Making.{IsGiven, LaysNone, LaysOn, making_most}
 use Rattle.dg_rt.specs.RunTime.{routine_of}
-use Rattle.dg_rt.specs.Shapes.{Shape, IsShape, ArePrinted, Letters, Shows, number, dict, object, nil, variable, boxed, pair_in, closure_in, word_in, Stands}
+use Rattle.dg_rt.specs.Shapes.{Shape, ArePrinted, Letters, Shows, number, dict, object, nil, variable, boxed, pair_in, closure_in, word_in}
 use Rattle.dg_rt.specs.Splits.{SplitWorks}
 use Rattle.dg_rt.specs.inside.Walks.{ending, Walks}
 use Rattle.dg_rt.proofs.Cells.{reads_cell}
-use Rattle.dg_rt.proofs.Following.{word, some_state, tested, computes, local_1, local_2, put_1, put_2}
+use Rattle.dg_rt.proofs.Following.{word, tested, computes, local_1, local_2, put_1, put_2}
 use Rattle.dg_rt.proofs.Laying.{copied, copied_grown, copied_boxes, copied_low, copied_shape, copied_stands, copied_shows}
 use Rattle.dg_rt.proofs.LaySteps.{Laid, M, in_m}
 use Rattle.dg_rt.proofs.LetterOn.{Listed, Same, Lays, all_laid, no_room, in_front}
 use Rattle.dg_rt.proofs.Locals.{subtracts, less_by, not_less_by, high_is_less, high_less, high_not_less}
-use Rattle.dg_rt.proofs.Showing.{letters_low}
 use Rattle.dg_rt.proofs.SpellingsBack.{name_letters}
 use Rattle.dg_rt.proofs.SplitLetters.{letters_laid}
 use Rattle.dg_rt.proofs.SplitLists.{alone, alone_formed, alone_free}

@@ -1,6 +1,6 @@
 -- What the routine does that splits a word into its letters. Hold it against docs/LANGUAGE.md, "Built-in queries" on splitting words, and `splits` of
 -- dg_meaning/specs/Moves.antt.
-use Rattle.std.specs.Prelude.{ℕ, ◌+◌, ◌*◌, List, [], ◌∷◌}
+use Rattle.std.specs.Prelude.{◌+◌, ◌*◌, [], ◌∷◌}
 use Rattle.dg_meaning.specs.Substitutions.{walk, links}
 use Rattle.dg_meaning.specs.Words.{letters_in_word, each_alone, spelled_list}
 use Rattle.dg_rt.specs.declared.splitting.TheConstants.{SPLIT_ACTS}
