@@ -1,6 +1,6 @@
 -- Kept values in a row: what they take, where they lie, and one of them that is taken out.
-use Rattle.std.proofs.Common.{◌≡◌, ◌≢◌, ℕ, suc, ◌+◌, ◌*◌, ◌<◌, ◌≤◌, ◌⊎◌, inl, inr, Bool, true, false, List, [], ◌∷◌, ◌++◌, length, map, Option, Some, None, refl, sym, ap, ◌∙◌, subst, arith, length-append}
-use Rattle.std.specs.Prelude.{◌==◌, if◌then◌else◌}
+use Rattle.std.proofs.Common.{◌≡◌, ◌≢◌, ℕ, ◌+◌, ◌*◌, ◌<◌, ◌≤◌, inl, inr, Bool, true, false, List, [], ◌∷◌, ◌++◌, length, Option, Some, None, refl, sym, ap, ◌∙◌, subst, arith, length-append}
+use Rattle.std.specs.Prelude.{◌==◌}
 use Rattle.std.proofs.lemmas.Bool.{eqb-true, eq-eqb, ne_eqb, cond-true, cond-false}
 use Rattle.std.proofs.lemmas.List.{length-map}
 use Rattle.dg_base.specs.declared.cells.Cell.TheVariants as cell
@@ -8,8 +8,8 @@ use Rattle.dg_meaning.specs.Values.{Label, Num, Word, Object, Nil, Pair, Closure
 use Rattle.dg_meaning.specs.ValueCells.{count_of, label_cells, cells_of, cells_of_all}
 use Rattle.dg_meaning.specs.Copies.{label_weight, copy_cells, all_copy_cells}
 use Rattle.dg_meaning.specs.Unify.{size, sizes}
-use Rattle.dg_rt.specs.Copies.{cell_word, words_of, Row}
-use Rattle.dg_rt.specs.Kept.{Block, block, total, value_in, without, BlockIn, BlocksIn, IsEntry, IsApart, IsBeside, HaveEntries, NoEntry}
+use Rattle.dg_rt.specs.Copies.{cell_word, words_of}
+use Rattle.dg_rt.specs.Kept.{Block, block, total, value_in, without, BlocksIn, IsEntry, IsApart, IsBeside, HaveEntries, NoEntry}
 use Rattle.dg_rt.proofs.CopySteps.{rows_keep}
 
 -- ## What a value takes

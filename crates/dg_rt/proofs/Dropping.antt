@@ -1,5 +1,5 @@
 -- The routine that drops a kept value does so, and moves those behind it down.
-use Rattle.std.proofs.Common.{◌≡◌, ◌≢◌, ℕ, suc, ◌+◌, ◌*◌, ◌<◌, ◌≤◌, ◌⊎◌, inl, inr, Bool, true, false, List, [], ◌∷◌, ◌++◌, length, drop, Option, Some, None, refl, sym, ap, ◌∙◌, subst, arith}
+use Rattle.std.proofs.Common.{◌≡◌, ◌≢◌, ℕ, suc, ◌+◌, ◌*◌, ◌<◌, ◌≤◌, inl, inr, true, false, List, [], ◌∷◌, ◌++◌, length, drop, Option, Some, None, refl, sym, ap, ◌∙◌, subst, arith}
 use Rattle.std.proofs.lemmas.Bool.{ne_eqb, eq-eqb, cases_eq}
 use Rattle.dg_meaning.specs.Values.{Value}
 use Rattle.z_lang.specs.declared.act.Atom.TheVariants as atoms
@@ -15,11 +15,11 @@ use Rattle.dg_rt.specs.Cells.{at_cell, with_cell, replaced, Holds}
 use Rattle.dg_rt.specs.Areas.{state}
 use Rattle.dg_rt.specs.RunTime.{routine_of, HasRunTime}
 use Rattle.dg_rt.specs.Copies.{words_of, Row}
-use Rattle.dg_rt.specs.Kept.{Block, total, value_in, without, BlockIn, BlocksIn, IsEntry, IsBeside, HaveEntries, KeptIn, IsVariable, NoEntry}
-use Rattle.dg_rt.proofs.Blocks.{words_some, total_on, blocks_on, blocks_front, blocks_back, blocks_keep, no_entry_low, have_back, beside_first, beside_second, beside_back, front_same, no_entry_back, Located, located, none_there, without_none, without_one, have_without, beside_same}
+use Rattle.dg_rt.specs.Kept.{Block, total, value_in, without, BlocksIn, IsBeside, HaveEntries, KeptIn, IsVariable, NoEntry}
+use Rattle.dg_rt.proofs.Blocks.{words_some, total_on, blocks_on, blocks_front, blocks_back, blocks_keep, no_entry_low, have_back, beside_first, beside_second, front_same, no_entry_back, Located, located, none_there, without_none, without_one, have_without, beside_same}
 use Rattle.dg_rt.proofs.Cells.{holds_with, reads_cell, writes_cell, other_cell, same_cell}
 use Rattle.dg_rt.proofs.Following.{word, tested, computes, copies, writes}
-use Rattle.dg_rt.proofs.Locals.{adds, get_1, get_2, get_3, get_4, set_1, set_2, set_3, set_4}
+use Rattle.dg_rt.proofs.Locals.{adds, get_1, get_2, get_3, get_4, set_2, set_3, set_4}
 use Rattle.dg_rt.proofs.Moving.{move_works}
 
 move_at : (p : Program) → HasRunTime p → p.routine_at (p.names.routine MOVE) ≡ Some (routine_of 4 MOVE_ACTS)

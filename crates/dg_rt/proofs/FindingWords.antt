@@ -8,7 +8,6 @@ use Rattle.std.proofs.lemmas.List.Sums.{sum_by-cons}
 use Rattle.std.proofs.Math.Utf8.{encode}
 use Rattle.dg_base.specs.Sound.{IsPrintable, IsName}
 use Rattle.dg_meaning.specs.Unify.{same_spelling}
-use Rattle.dg_meaning.specs.Values.{Word}
 use Rattle.dg_meaning.specs.Words.{word_from}
 use Rattle.z_lang.specs.declared.act.Act.TheVariants as acts
 use Rattle.z_lang.specs.declared.act.Atom.TheVariants as atoms

@@ -1,6 +1,5 @@
 -- The routine that opens a gathering does so.
-use Rattle.std.proofs.Common.{◌≡◌, ◌≢◌, ℕ, suc, ◌+◌, ◌*◌, ◌<◌, ◌≤◌, Bool, true, false, List, [], ◌∷◌, ◌++◌, drop, length, None, Some, refl, sym, ap, ◌∙◌, subst, arith}
-use Rattle.std.specs.Prelude.{◌==◌}
+use Rattle.std.proofs.Common.{◌≡◌, ℕ, suc, ◌+◌, ◌<◌, ◌≤◌, true, false, List, [], ◌∷◌, ◌++◌, drop, None, refl, sym, ap, ◌∙◌, subst, arith}
 use Rattle.std.proofs.lemmas.Bool.{eq-eqb, ne_eqb}
 use Rattle.dg_base.specs.declared.run.Ending.TheVariants.{HeapLimit, AuxLimit}
 use Rattle.z_model.specs.declared.end.Halt.TheVariants.{AtQuit}
@@ -21,11 +20,11 @@ use Rattle.dg_rt.specs.Cells.{at_cell, with_cell, replaced, Holds}
 use Rattle.dg_rt.specs.Areas.{last_reg, kept_at, state}
 use Rattle.dg_rt.specs.RunTime.{routine_of, HasRunTime}
 use Rattle.dg_rt.specs.Closings.{closing, closing_most}
-use Rattle.dg_rt.specs.Gatherings.{GatheredAt, NextAt, at_first, at_end, MeetsThe, OpensGathering, GatherWorks}
+use Rattle.dg_rt.specs.Gatherings.{NextAt, at_first, at_end, MeetsThe, OpensGathering, GatherWorks}
 use Rattle.dg_rt.proofs.Cells.{holds_with, reads_cell, writes_cell, other_cell, same_cell}
 use Rattle.dg_rt.proofs.Charging.{quits_full}
 use Rattle.dg_rt.proofs.Closing.{closings_work}
-use Rattle.dg_rt.proofs.Following.{word, some_state, tested, computes, copies, writes, register, puts, local_1, local_2, put_1, put_2}
+use Rattle.dg_rt.proofs.Following.{word, tested, computes, copies, writes, register, puts, local_1, local_2, put_1, put_2}
 use Rattle.dg_rt.proofs.Locals.{adds, more_by, not_more_by}
 use Rattle.dg_rt.proofs.UnifySteps.{steps_are}
 

@@ -1,7 +1,6 @@
 -- The routines that keep a value and drop one do so.
-use Rattle.std.proofs.Common.{◌≡◌, ◌≢◌, ℕ, suc, ◌+◌, ◌*◌, ◌<◌, ◌≤◌, inl, inr, Bool, true, false, List, [], ◌∷◌, ◌++◌, length, drop, Option, Some, None, refl, sym, ap, ◌∙◌, subst, arith}
-use Rattle.std.proofs.lemmas.Bool.{ne_eqb, eq-eqb, cases_eq, cond-true}
-use Rattle.std.specs.Prelude.{◌==◌, if◌then◌else◌}
+use Rattle.std.proofs.Common.{◌≡◌, ◌≢◌, ℕ, suc, ◌+◌, ◌*◌, ◌<◌, ◌≤◌, inl, inr, Bool, true, false, List, [], ◌∷◌, ◌++◌, length, drop, Some, None, refl, ap, ◌∙◌, subst, arith}
+use Rattle.std.proofs.lemmas.Bool.{ne_eqb, eq-eqb, cases_eq}
 use Rattle.dg_base.specs.declared.run.Ending.TheVariants.{KeepLimit}
 use Rattle.dg_meaning.specs.Values.{Value}
 use Rattle.dg_meaning.specs.Substitutions.{Substitution, resolved, contains}
@@ -9,8 +8,6 @@ use Rattle.dg_meaning.specs.TypeTests.{is_fully_bound}
 use Rattle.dg_meaning.specs.Letters.{letters_in}
 use Rattle.dg_meaning.specs.Unify.{looks}
 use Rattle.z_model.specs.declared.end.Halt.TheVariants.{AtQuit}
-use Rattle.z_lang.specs.declared.act.Act.TheVariants as acts
-use Rattle.z_lang.specs.declared.act.Args.TheVariants as args
 use Rattle.z_lang.specs.declared.act.Atom.TheVariants as atoms
 use Rattle.z_lang.specs.declared.act.Comparison.TheVariants as comparisons
 use Rattle.z_lang.specs.declared.act.Function.TheVariants as functions
@@ -21,19 +18,19 @@ use Rattle.dg_rt.specs.declared.numbers.TheConstants.{KEEP_LIMIT, DROP_KEPT}
 use Rattle.dg_rt.specs.declared.operands.TheConstants.{FULL_ACTS}
 use Rattle.dg_rt.specs.declared.copies.TheConstants.{COPY_OUT_ACTS}
 use Rattle.dg_rt.specs.declared.closings.TheConstants.{KEEP_LIMIT_ACTS}
-use Rattle.dg_rt.specs.declared.kept.TheConstants.{DROP_KEPT_ACTS, KEEP_ACTS, CLEAR_KEPT_ACTS}
+use Rattle.dg_rt.specs.declared.kept.TheConstants.{DROP_KEPT_ACTS, KEEP_ACTS}
 use Rattle.dg_rt.specs.Cells.{at_cell, with_cell, replaced, Holds, bit}
 use Rattle.dg_rt.specs.Areas.{state}
-use Rattle.dg_rt.specs.Shapes.{Shape, IsShape, Shows, Stands}
+use Rattle.dg_rt.specs.Shapes.{Shape}
 use Rattle.dg_rt.specs.RunTime.{routine_of, HasRunTime}
-use Rattle.dg_rt.specs.Closings.{closing, closing_most}
+use Rattle.dg_rt.specs.Closings.{closing}
 use Rattle.dg_rt.specs.Changes.{Argued}
 use Rattle.dg_rt.specs.Conditions.{Decides}
 use Rattle.dg_rt.specs.Copies.{words_of, Row, Copies, CopiesOut, in_area, past_it}
 use Rattle.dg_rt.specs.Operands.{Fills}
-use Rattle.dg_rt.specs.Kept.{Block, block, total, value_in, without, BlockIn, BlocksIn, IsEntry, IsBeside, HaveEntries, KeptIn, IsVariable, NoEntry, Alters, MeetsKeep, Keeping, KeepWorks, ClearKeptWorks}
+use Rattle.dg_rt.specs.Kept.{Block, block, total, value_in, without, BlockIn, IsEntry, IsBeside, KeptIn, IsVariable, Alters, MeetsKeep, Keeping, KeepWorks, ClearKeptWorks}
 use Rattle.dg_rt.proofs.Blocks.{words_some, total_on, blocks_on, blocks_keep, no_entry_low, no_entry_back, none_there, beside_same, have_on}
-use Rattle.dg_rt.proofs.Cells.{holds_with, reads_cell, writes_cell, other_cell, same_cell}
+use Rattle.dg_rt.proofs.Cells.{holds_with, writes_cell, other_cell, same_cell}
 use Rattle.dg_rt.proofs.CaptureSteps.{divides}
 use Rattle.dg_rt.proofs.Closing.{closings_work}
 use Rattle.dg_rt.proofs.Copying as copying

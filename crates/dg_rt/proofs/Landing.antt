@@ -1,5 +1,5 @@
 -- The routines that look an object up, and those that go on with it, do so.
-use Rattle.std.proofs.Common.{◌≡◌, ◌≢◌, ℕ, suc, ◌+◌, ◌*◌, ◌-◌, ◌%◌, ◌<◌, ◌≤◌, Bool, true, false, List, [], ◌∷◌, drop, Option, Some, None, refl, sym, ap, ◌∙◌, subst, arith}
+use Rattle.std.proofs.Common.{◌≡◌, ◌≢◌, ℕ, suc, ◌+◌, ◌≤◌, Bool, true, false, List, [], ◌∷◌, drop, Option, Some, None, refl, sym, ap, ◌∙◌, subst, arith}
 use Rattle.std.specs.Prelude.{is_some, not, eqb}
 use Rattle.std.proofs.lemmas.Bool.{eq-eqb, ne_eqb}
 use Rattle.dg_meaning.specs.Values.{Value}
@@ -20,10 +20,9 @@ use Rattle.dg_rt.specs.Cells.{at_cell, with_cell, replaced, compared, Holds, bit
 use Rattle.dg_rt.specs.Areas.{heap_at, state}
 use Rattle.dg_rt.specs.Back.{at_place}
 use Rattle.dg_rt.specs.RunTime.{routine_of, HasRunTime}
-use Rattle.dg_rt.specs.Operands.{no_value}
 use Rattle.dg_rt.specs.Tables.{byte_at}
 use Rattle.dg_rt.specs.Changes.{SetIn}
-use Rattle.dg_rt.specs.Tries.{LooksUp, AnyWord, LookValueWorks, LookFlagWorks, LandsIn, LandWorks, TriesWork}
+use Rattle.dg_rt.specs.Tries.{LookValueWorks, LookFlagWorks, LandsIn, LandWorks, TriesWork}
 use Rattle.dg_rt.proofs.Cells.{holds_with, writes_cell, other_cell, same_cell}
 use Rattle.dg_rt.proofs.Flagging.{are_flags}
 use Rattle.dg_rt.proofs.Flags.{flag_works}

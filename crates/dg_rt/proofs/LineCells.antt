@@ -5,7 +5,7 @@ use Rattle.std.proofs.lemmas.Bool.{eq-eqb, ne_eqb}
 use Rattle.std.proofs.lemmas.List.{map-append}
 use Rattle.std.proofs.lemmas.Nat.{mul-le}
 use Rattle.dg_meaning.specs.Copies.{list_of}
-use Rattle.dg_meaning.specs.Values.{Num, Word, Value, pair}
+use Rattle.dg_meaning.specs.Values.{Value, pair}
 use Rattle.dg_meaning.specs.ValueCells.{cells_of}
 use Rattle.dg_meaning.specs.Words.{is_alone, if_spelled, spellings_behind, spellings_of, spelled_value, spelled_list}
 use Rattle.z_lang.specs.declared.act.Act.{Act}

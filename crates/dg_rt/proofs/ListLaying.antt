@@ -1,35 +1,32 @@
 -- A list of values is laid on the heap downwards, each value in front of its pair.
-use Rattle.std.proofs.Common.{◌≡◌, ◌≢◌, ℕ, zero, suc, ◌+◌, ◌*◌, ◌%◌, ◌<◌, ◌≤◌, Bool, true, false, List, [], ◌∷◌, ◌++◌, drop, map, length, Some, refl, sym, ap, ◌∙◌, subst, arith, length-append}
+use Rattle.std.proofs.Common.{◌≡◌, ◌≢◌, ℕ, suc, ◌+◌, ◌*◌, ◌<◌, ◌≤◌, Bool, true, false, List, [], ◌∷◌, drop, length, Some, refl, sym, ap, ◌∙◌, subst, arith, length-append}
 use Rattle.std.specs.Prelude.{◌==◌}
 use Rattle.std.specs.List.{sum_by}
 use Rattle.std.proofs.lemmas.List.Sums.{sum_by-cons}
 use Rattle.std.proofs.lemmas.Bool.{eq-eqb, ne_eqb}
-use Rattle.dg_meaning.specs.Values.{Num, Word, Object, Nil, Pair, Closure, Unknown, Value, Var, Node, Values, NoMore, More, leaf, pair}
-use Rattle.dg_meaning.specs.ValueCells.{cells_of, cells_of_all}
+use Rattle.dg_meaning.specs.Values.{Nil, Value, NoMore, More, leaf}
 use Rattle.dg_meaning.specs.Copies.{list_of, copy_cells, all_copy_cells}
 use Rattle.dg_meaning.specs.Letters.{letters_in}
-use Rattle.dg_meaning.specs.Unify.{size, sizes}
+use Rattle.dg_meaning.specs.Unify.{size}
 use Rattle.z_lang.specs.declared.act.Act.{Act}
 use Rattle.z_lang.specs.declared.act.Act.TheVariants as acts
 use Rattle.z_lang.specs.declared.act.Atom.TheVariants as atoms
 use Rattle.z_lang.specs.declared.act.Comparison.TheVariants as comparisons
 use Rattle.z_lang.specs.declared.act.Function.TheVariants as functions
-use Rattle.z_lang.specs.State.{State, Program}
+use Rattle.z_lang.specs.State.{State}
 use Rattle.z_lang.specs.Acts.{answer_of, does}
-use Rattle.z_lang.specs.Runs.{ActsRun as Runs, ActsOutcome, Returns, at_label, goes, taken, passed, done, calls, returns, behind_label}
+use Rattle.z_lang.specs.Runs.{ActsRun as Runs, Returns, goes, taken, passed, done, calls, returns, behind_label}
 use Rattle.dg_rt.specs.declared.gathering.TheConstants.{TAKE_LIST_ACTS}
 use Rattle.dg_rt.specs.declared.copies.TheConstants.{COPY_IN_ACTS}
 use Rattle.dg_rt.specs.Cells.{at_cell}
 use Rattle.dg_rt.specs.Areas.{heap_at}
-use Rattle.dg_rt.specs.Laying.{Formed, AllFormed, copy_word, Lies}
-use Rattle.dg_rt.specs.Copies.{cell_word, words_of}
-use Rattle.dg_rt.specs.CopiesIn.{HasCaptures, Reading, CopiesIn, SameBut}
+use Rattle.dg_rt.specs.Laying.{Formed, copy_word, Lies}
+use Rattle.dg_rt.specs.Copies.{words_of}
+use Rattle.dg_rt.specs.CopiesIn.{CopiesIn, SameBut}
 use Rattle.dg_rt.specs.Gatherings.{rows_of, AreFormed}
-use Rattle.dg_rt.specs.inside.Walks.{steps}
-use Rattle.dg_rt.proofs.Following.{word, some_state, tested, computes, register}
-use Rattle.dg_rt.proofs.Locals.{first, second, third, fourth, put_second, put_third, put_fourth, added}
+use Rattle.dg_rt.proofs.Following.{some_state, tested, computes}
+use Rattle.dg_rt.proofs.Locals.{first, second, third, fourth, put_third, put_fourth, added}
 use Rattle.dg_rt.proofs.Standing.{copy_in_at}
-use Rattle.dg_rt.proofs.UnifySteps.{steps_are}
 use Rattle.dg_rt.proofs.LaySteps.{Laid, lies_keep, copy_word_small, M, in_m, five, from_is, fill_is, InArea, area_front, area_back, Did, Down, Store, did_down, did_store}
 use Rattle.dg_rt.proofs.CopyingIn.{copies_in}
 use Rattle.dg_rt.proofs.ValueBounds.{some_size, size_words}

@@ -1,12 +1,10 @@
 -- The routine that takes a gathering out as a list does so.
-use Rattle.std.proofs.Common.{◌≡◌, ◌≢◌, ℕ, suc, ◌+◌, ◌-◌, ◌*◌, ◌%◌, ◌<◌, ◌≤◌, ⊎_elim, Bool, true, false, List, [], ◌∷◌, ◌++◌, drop, length, None, Some, refl, sym, ap, ◌∙◌, subst, arith, length-append}
-use Rattle.std.specs.Prelude.{◌==◌}
+use Rattle.std.proofs.Common.{◌≡◌, ◌≢◌, ℕ, suc, ◌+◌, ◌-◌, ◌*◌, ◌<◌, ◌≤◌, Bool, true, false, List, [], ◌∷◌, ◌++◌, drop, length, None, Some, refl, ap, ◌∙◌, subst, arith, length-append}
 use Rattle.std.specs.List.{sum_by}
 use Rattle.std.proofs.lemmas.List.Sums.{sum_by-cons}
-use Rattle.std.proofs.lemmas.Bool.{eq-eqb, ne_eqb, cases_lt}
+use Rattle.std.proofs.lemmas.Bool.{eq-eqb, ne_eqb}
 use Rattle.dg_base.specs.declared.run.Ending.TheVariants.{HeapLimit}
-use Rattle.dg_meaning.specs.Values.{Num, Word, Object, Nil, Pair, Closure, Unknown, Value, Var, Node, Values, NoMore, More, leaf}
-use Rattle.dg_meaning.specs.ValueCells.{count_of}
+use Rattle.dg_meaning.specs.Values.{Value, NoMore, More}
 use Rattle.dg_meaning.specs.Copies.{list_of, copy_cells, all_copy_cells}
 use Rattle.dg_meaning.specs.Letters.{letters_in}
 use Rattle.dg_meaning.specs.Substitutions.{Substitution}
@@ -28,19 +26,18 @@ use Rattle.dg_rt.specs.Cells.{at_cell, with_cell, replaced, Holds, compared}
 use Rattle.dg_rt.specs.Areas.{heap_at, last_reg, state}
 use Rattle.dg_rt.specs.Shapes.{Shape, IsShape, Stands}
 use Rattle.dg_rt.specs.RunTime.{routine_of, HasRunTime}
-use Rattle.dg_rt.specs.Closings.{closing, closing_most}
-use Rattle.dg_rt.specs.Laying.{Formed, AllFormed, copy_word, Lies}
-use Rattle.dg_rt.specs.Copies.{cell_word, words_of, Row}
-use Rattle.dg_rt.specs.CopiesIn.{HasCaptures, Reading, SameBut}
+use Rattle.dg_rt.specs.Closings.{closing}
+use Rattle.dg_rt.specs.Laying.{Formed, copy_word, Lies}
+use Rattle.dg_rt.specs.Copies.{words_of, Row}
+use Rattle.dg_rt.specs.CopiesIn.{HasCaptures, SameBut}
 use Rattle.dg_rt.specs.Moves.{TellsCells}
 use Rattle.dg_rt.specs.Gatherings.{rows_of, AreFormed, GatheredAt, MeetsThe, TakesList, TakesNone, list_most, ListWorks}
-use Rattle.dg_rt.specs.inside.Walks.{steps}
 use Rattle.dg_rt.proofs.Cells.{reads_cell, other_cell, same_cell}
 use Rattle.dg_rt.proofs.Charging.{quits_full}
 use Rattle.dg_rt.proofs.Counting.{all_cells_work}
 use Rattle.dg_rt.proofs.Following.{word, some_state, tested, computes, copies, register, put_register, puts}
 use Rattle.dg_rt.proofs.Laying.{copied, copied_places, copied_boxes, copied_grown, copied_low, copied_shape, copied_stands, copied_shows}
-use Rattle.dg_rt.proofs.LaySteps.{Laid, InArea, copy_word_small, M, in_m, five, wrote, fill_is, from_is, replaced_at, replaced_else}
+use Rattle.dg_rt.proofs.LaySteps.{Laid, InArea, copy_word_small, M, in_m, five, wrote, fill_is, replaced_at, replaced_else}
 use Rattle.dg_rt.proofs.ListLaying.{list_formed, list_price, price_more, at_end, listed}
 use Rattle.dg_rt.proofs.Locals.{first, second, put_first, put_second, added, adds, more_by, not_more_by}
 use Rattle.dg_rt.proofs.ValueCounting.{TellsCount, count_works}

@@ -1,11 +1,10 @@
 -- The routine that reads a kept value does so.
-use Rattle.std.proofs.Common.{◌≡◌, ◌≢◌, ℕ, suc, ◌+◌, ◌*◌, ◌<◌, ◌≤◌, true, false, List, [], ◌∷◌, ◌++◌, length, drop, Option, Some, None, refl, sym, ap, ◌∙◌, subst, arith}
+use Rattle.std.proofs.Common.{◌≡◌, ◌≢◌, ℕ, suc, ◌+◌, ◌*◌, ◌<◌, ◌≤◌, true, false, List, [], ◌∷◌, ◌++◌, length, drop, Some, None, refl, sym, ap, ◌∙◌, subst, arith}
 use Rattle.std.proofs.lemmas.Bool.{ne_eqb}
 use Rattle.dg_base.specs.declared.run.Ending.TheVariants.{HeapLimit}
 use Rattle.dg_meaning.specs.Values.{Value}
 use Rattle.dg_meaning.specs.Substitutions.{Substitution}
 use Rattle.dg_meaning.specs.Copies.{copy_cells}
-use Rattle.dg_meaning.specs.Letters.{letters_in}
 use Rattle.dg_meaning.specs.Unify.{size}
 use Rattle.dg_meaning.specs.inside.Unifiers.{binding_of}
 use Rattle.z_model.specs.declared.end.Halt.TheVariants.{AtQuit}
@@ -14,13 +13,11 @@ use Rattle.z_lang.specs.declared.act.Comparison.TheVariants as comparisons
 use Rattle.z_lang.specs.declared.act.Function.TheVariants as functions
 use Rattle.z_lang.specs.State.{State, Program}
 use Rattle.z_lang.specs.Runs.{ActsRun as Runs, ActsOutcome as Outcome, Returns, Stops, done, taken, passed, calls, returns, behind_label}
-use Rattle.z_lang.specs.Standing.{IsKept}
 use Rattle.dg_rt.specs.declared.numbers.TheConstants.{CELLS}
-use Rattle.dg_rt.specs.declared.copies.TheConstants.{COPY_IN_ACTS}
 use Rattle.dg_rt.specs.declared.keeping.TheConstants.{CELLS_ACTS}
 use Rattle.dg_rt.specs.declared.kept.TheConstants.{READ_KEPT_ACTS}
-use Rattle.dg_rt.specs.Cells.{at_cell, with_cell, replaced, Holds}
-use Rattle.dg_rt.specs.Areas.{heap_at, state}
+use Rattle.dg_rt.specs.Cells.{at_cell, with_cell, replaced}
+use Rattle.dg_rt.specs.Areas.{state}
 use Rattle.dg_rt.specs.Shapes.{Shape, IsShape, Stands}
 use Rattle.dg_rt.specs.RunTime.{routine_of, HasRunTime}
 use Rattle.dg_rt.specs.Closings.{closing}
@@ -29,15 +26,15 @@ use Rattle.dg_rt.specs.Laying.{Formed, copy_word}
 use Rattle.dg_rt.specs.Copies.{words_of, Row}
 use Rattle.dg_rt.specs.CopiesIn.{HasCaptures, Reading, CopiedIn}
 use Rattle.dg_rt.specs.Moves.{TellsCells}
-use Rattle.dg_rt.specs.Kept.{Block, total, value_in, BlocksIn, KeptIn, IsVariable, ReadsNothing, ReadsCopy, ReadsKept, ReadKeptWorks, KeptWork}
-use Rattle.dg_rt.proofs.Blocks.{size_words, words_some, copied_words, total_on, blocks_back, Located, located}
+use Rattle.dg_rt.specs.Kept.{Block, total, value_in, BlocksIn, KeptIn, IsVariable, ReadsNothing, ReadsCopy, ReadKeptWorks, KeptWork}
+use Rattle.dg_rt.proofs.Blocks.{size_words, copied_words, total_on, blocks_back, Located, located}
 use Rattle.dg_rt.proofs.Cells.{holds_with, reads_cell, other_cell, same_cell}
 use Rattle.dg_rt.proofs.Charging.{quits_full}
 use Rattle.dg_rt.proofs.CopyingIn as copying
 use Rattle.dg_rt.proofs.Counting.{cells_works}
-use Rattle.dg_rt.proofs.Following.{word, some_state, tested, computes, copies, register, puts, local_1, local_2, local_3, put_2, put_3}
+use Rattle.dg_rt.proofs.Following.{word, tested, computes, copies, register, puts, local_1, local_2, local_3, put_2, put_3}
 use Rattle.dg_rt.proofs.KeepingValue.{keep_works, clear_kept_works}
-use Rattle.dg_rt.proofs.LaySteps.{kept_cell, copy_word_small}
+use Rattle.dg_rt.proofs.LaySteps.{kept_cell}
 use Rattle.dg_rt.proofs.Locals.{adds, more_by, not_more_by}
 use Rattle.dg_rt.proofs.Points.{stands_still}
 use Rattle.dg_rt.proofs.Standing.{copy_in_at}

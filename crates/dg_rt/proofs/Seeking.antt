@@ -1,5 +1,5 @@
 -- The routines that seek objects do so.
-use Rattle.std.proofs.Common.{◌≡◌, ◌≢◌, ℕ, suc, ◌+◌, ◌*◌, ◌-◌, ◌<◌, ◌≤◌, Bool, true, false, List, [], ◌∷◌, drop, Some, refl, sym, ap, ◌∙◌, subst, arith}
+use Rattle.std.proofs.Common.{◌≡◌, ◌≢◌, ℕ, suc, ◌+◌, ◌*◌, ◌<◌, ◌≤◌, Bool, true, false, List, [], ◌∷◌, drop, Some, refl, ap, ◌∙◌, subst, arith}
 use Rattle.std.specs.Prelude.{eqb}
 use Rattle.std.proofs.lemmas.Bool.{eq-eqb, ne_eqb}
 use Rattle.dg_meaning.specs.Values.{Label, Num, Word, Unknown, Object, Nil, Pair, Closure, Value, Var, Node, Values}
@@ -15,15 +15,15 @@ use Rattle.dg_rt.specs.declared.unify.TheConstants.{WALK_ACTS}
 use Rattle.dg_rt.specs.declared.tries.TheConstants.{SEEK_ACTS, SOUGHT_ACTS, IF_OBJECT_ACTS}
 use Rattle.dg_rt.specs.Cells.{with_cell, replaced, compared, Holds}
 use Rattle.dg_rt.specs.Areas.{state}
-use Rattle.dg_rt.specs.Shapes.{Shape, IsShape, Shows, number, dict, object, nil, variable, boxed, Stands}
+use Rattle.dg_rt.specs.Shapes.{Shape, Shows}
 use Rattle.dg_rt.specs.RunTime.{HasRunTime}
-use Rattle.dg_rt.specs.Conditions.{next_if, Decides}
+use Rattle.dg_rt.specs.Conditions.{next_if}
 use Rattle.dg_rt.specs.Rules.{KeyIs}
 use Rattle.dg_rt.specs.Changes.{Argued}
 use Rattle.dg_rt.specs.inside.Walks.{Walks, ending}
 use Rattle.dg_rt.specs.Tries.{SeeksAll, SeeksOne, SeekWorks, SoughtWorks, ObjectWorks}
 use Rattle.dg_rt.proofs.Cells.{other_cell, same_cell}
-use Rattle.dg_rt.proofs.Following.{word, tested, copies, register, puts, local_1, local_2, local_3, put_1, put_3}
+use Rattle.dg_rt.proofs.Following.{tested, copies, register, puts, local_1, local_2, local_3, put_1, put_3}
 use Rattle.dg_rt.proofs.Keying.{key_works}
 use Rattle.dg_rt.proofs.Locals.{less_by, not_less_by, high_is_less, reference}
 use Rattle.dg_rt.proofs.Showing.{variable_word, node_word}

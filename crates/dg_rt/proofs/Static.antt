@@ -1,5 +1,5 @@
 -- Static memory is kept by every run of acts.
-use Rattle.std.proofs.Common.{◌≡◌, ℕ, ◌+◌, ◌-◌, ◌*◌, ◌/◌, ◌%◌, ◌<◌, ◌≤◌, Bool, true, false, List, [], ◌∷◌, drop, length, Option, Some, None, Result, Ok, Err, refl, sym, ap, ◌∙◌, subst, arith}
+use Rattle.std.proofs.Common.{◌≡◌, ℕ, ◌+◌, ◌-◌, ◌*◌, ◌/◌, ◌%◌, ◌<◌, ◌≤◌, Bool, true, false, List, [], ◌∷◌, length, Option, Some, None, Result, Ok, Err, refl, sym, ap, ◌∙◌, subst, arith}
 use Rattle.std.specs.Prelude.{nat_lt, ◌==◌, if◌then◌else◌, slice_set}
 use Rattle.std.proofs.lemmas.Bool.{eqb-true, ltb-true}
 use Rattle.std.proofs.lemmas.List.{drop-set-lt}
@@ -10,14 +10,14 @@ use Rattle.z_model.specs.declared.story.Layout.{Layout}
 use Rattle.z_model.specs.Decode.{◌>>=◌}
 use Rattle.z_model.specs.Memory.{Memory, guarded, is_writable, with_byte, with_word, with_bytes}
 use Rattle.z_model.specs.Machine.{global_at}
-use Rattle.z_model.specs.Run.{with_line, word_at, next_drawn}
+use Rattle.z_model.specs.Run.{with_line, word_at}
 use Rattle.z_model.specs.Typed.{typed_line, typed_left}
 use Rattle.z_lang.specs.declared.act.Act.{Act}
 use Rattle.z_lang.specs.declared.act.Act.TheVariants as acts
 use Rattle.z_lang.specs.declared.act.Width.{Width}
 use Rattle.z_lang.specs.declared.act.Width.TheVariants as widths
-use Rattle.z_lang.specs.State.{State, Program, value, put, put_if, with_local, with_global}
-use Rattle.z_lang.specs.Acts.{computed, bytes_unless, memory_with, print_output, random_drawn, readable, line_in, does, with_output}
+use Rattle.z_lang.specs.State.{State, Program, value, put, put_if, with_local}
+use Rattle.z_lang.specs.Acts.{computed, bytes_unless, memory_with, print_output, readable, does, with_output}
 use Rattle.z_lang.specs.Runs.{ActsRun, ActsOutcome, rests, at_label, goes, taken, passed, done, calls, calls_last, ends_input, returns, quits, left_with}
 use Rattle.z_lang.specs.Standing.{IsKept}
 use Rattle.z_lang.proofs.Keeping.{bound, Drew, nothing_drawn, one_drawn, drew, took}

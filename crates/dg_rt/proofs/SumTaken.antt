@@ -1,10 +1,10 @@
 -- The routine that takes a gathering out as a sum does so.
-use Rattle.std.proofs.Common.{◌≡◌, ◌≢◌, ℕ, suc, ◌+◌, ◌*◌, ◌%◌, ◌<◌, ◌≤◌, ⊎_elim, Bool, true, false, List, [], ◌∷◌, ◌++◌, drop, length, Option, None, Some, refl, sym, ap, ◌∙◌, subst, arith, length-append}
+use Rattle.std.proofs.Common.{◌≡◌, ◌≢◌, ℕ, suc, ◌+◌, ◌*◌, ◌<◌, ◌≤◌, ⊎_elim, Bool, true, false, List, [], ◌∷◌, ◌++◌, drop, length, Option, None, Some, refl, sym, ap, ◌∙◌, subst, arith, length-append}
 use Rattle.std.specs.Prelude.{◌==◌, nat_le}
 use Rattle.std.specs.Option.{option_and_then}
 use Rattle.std.proofs.lemmas.Bool.{eq-eqb, ne_eqb, cases_lt, le-leb, lt-leb, cond-true, cond-false}
-use Rattle.dg_meaning.specs.Numbers.{in_range, plus, sum_of, total}
-use Rattle.dg_meaning.specs.Values.{Num, Word, Object, Nil, Pair, Closure, Unknown, Value, Var, Node, Values, NoMore, More, leaf}
+use Rattle.dg_meaning.specs.Numbers.{in_range, plus, sum_of}
+use Rattle.dg_meaning.specs.Values.{Num, Word, Object, Nil, Pair, Closure, Unknown, Value, Var, Node, Values, NoMore, More}
 use Rattle.z_lang.specs.declared.act.Act.{Act}
 use Rattle.z_lang.specs.declared.act.Atom.TheVariants as atoms
 use Rattle.z_lang.specs.declared.act.Comparison.TheVariants as comparisons

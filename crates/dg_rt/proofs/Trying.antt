@@ -1,5 +1,5 @@
 -- The routine that tries an object does so.
-use Rattle.std.proofs.Common.{◌≡◌, ◌≢◌, ℕ, suc, ◌+◌, ◌-◌, ◌<◌, ◌≤◌, true, false, List, [], ◌∷◌, ◌++◌, drop, Some, refl, sym, ap, ◌∙◌, subst, arith}
+use Rattle.std.proofs.Common.{◌≡◌, ◌≢◌, ℕ, suc, ◌+◌, ◌-◌, ◌<◌, ◌≤◌, true, false, List, [], ◌∷◌, ◌++◌, drop, Some, refl, ap, ◌∙◌, subst, arith}
 use Rattle.dg_base.specs.declared.run.Ending.TheVariants.{HeapLimit}
 use Rattle.z_model.specs.declared.end.Halt.TheVariants.{AtQuit}
 use Rattle.z_lang.specs.declared.act.Atom.TheVariants as atoms
@@ -10,14 +10,13 @@ use Rattle.z_lang.specs.Runs.{ActsRun as Runs, ActsOutcome as Outcome, Returns, 
 use Rattle.dg_rt.specs.declared.numbers.TheConstants.{FOUND}
 use Rattle.dg_rt.specs.declared.rules.TheConstants.{FOUND_ACTS}
 use Rattle.dg_rt.specs.declared.tries.TheConstants.{TRY_ACTS}
-use Rattle.dg_rt.specs.Cells.{with_cell, replaced, Holds, compared}
+use Rattle.dg_rt.specs.Cells.{with_cell, replaced, Holds}
 use Rattle.dg_rt.specs.Areas.{heap_at, last_reg, state}
 use Rattle.dg_rt.specs.Back.{at_place}
 use Rattle.dg_rt.specs.RunTime.{routine_of, HasRunTime}
 use Rattle.dg_rt.specs.Closings.{closing}
 use Rattle.dg_rt.specs.Charges.{MeetsLimit}
 use Rattle.dg_rt.specs.Frames.{RowIs}
-use Rattle.dg_rt.specs.Rules.{OpensFurther}
 use Rattle.dg_rt.specs.Tries.{TriesLast, TriesFurther, TryWorks}
 use Rattle.dg_rt.proofs.Cells.{other_cell, same_cell}
 use Rattle.dg_rt.proofs.Finding.{found_works}

@@ -1,5 +1,5 @@
 -- The routine that gathers a value does so.
-use Rattle.std.proofs.Common.{◌≡◌, ◌≢◌, ℕ, suc, ◌+◌, ◌*◌, ◌<◌, ◌≤◌, Bool, true, false, List, [], ◌∷◌, ◌++◌, drop, length, None, Some, refl, sym, ap, ◌∙◌, subst, arith}
+use Rattle.std.proofs.Common.{◌≡◌, ◌≢◌, ℕ, suc, ◌+◌, ◌*◌, ◌<◌, ◌≤◌, Bool, true, false, List, [], ◌∷◌, ◌++◌, drop, length, Some, refl, ap, ◌∙◌, arith}
 use Rattle.std.specs.Prelude.{◌==◌}
 use Rattle.std.proofs.lemmas.Bool.{eq-eqb, ne_eqb}
 use Rattle.dg_base.specs.declared.run.Ending.TheVariants.{AuxLimit}
@@ -9,7 +9,6 @@ use Rattle.dg_meaning.specs.Unify.{looks}
 use Rattle.dg_meaning.specs.Values.{Value}
 use Rattle.z_model.specs.declared.end.Halt.TheVariants.{AtQuit}
 use Rattle.z_lang.specs.declared.act.Act.{Act}
-use Rattle.z_lang.specs.declared.act.Act.TheVariants as acts
 use Rattle.z_lang.specs.declared.act.Atom.TheVariants as atoms
 use Rattle.z_lang.specs.declared.act.Comparison.TheVariants as comparisons
 use Rattle.z_lang.specs.declared.act.Function.TheVariants as functions
@@ -25,12 +24,12 @@ use Rattle.dg_rt.specs.Areas.{heap_at, last_reg, kept_at, state}
 use Rattle.dg_rt.specs.Shapes.{Shape, IsShape, Shows, number, dict, object, nil, variable, boxed, Stands}
 use Rattle.dg_rt.specs.Back.{at_place}
 use Rattle.dg_rt.specs.RunTime.{HasRunTime}
-use Rattle.dg_rt.specs.Closings.{closing, closing_most}
+use Rattle.dg_rt.specs.Closings.{closing}
 use Rattle.dg_rt.specs.Copies.{words_of, Row, Copies, in_area, past_it, CopiesOut}
 use Rattle.dg_rt.specs.Gatherings.{rows_of, GatheredAt, MeetsThe, GathersNow, NothingGathers, none_open, none_around, no_value_there, Keeps, KeepsValue, keep_most, KeepWorks}
 use Rattle.dg_rt.proofs.Cells.{holds_with, reads_cell, writes_cell, other_cell, same_cell}
 use Rattle.dg_rt.proofs.Copying as copying
-use Rattle.dg_rt.proofs.Following.{word, some_state, tested, computes, writes, register, local_1, local_2, put_1, put_2}
+use Rattle.dg_rt.proofs.Following.{word, tested, computes, writes, register, local_1, local_2, put_1, put_2}
 use Rattle.dg_rt.proofs.GatheringOpened.{quits_aux}
 use Rattle.dg_rt.proofs.Standing.{copy_out_at}
 

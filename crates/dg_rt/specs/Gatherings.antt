@@ -6,7 +6,7 @@ use Rattle.dg_base.specs.declared.run.Ending.{Ending}
 use Rattle.dg_base.specs.declared.run.Ending.TheVariants.{HeapLimit, AuxLimit}
 use Rattle.dg_meaning.specs.Values.{Value}
 use Rattle.dg_meaning.specs.Copies.{list_of, vars_in, copy_from, copy_cells}
-use Rattle.dg_meaning.specs.Letters.{letters_in, copied}
+use Rattle.dg_meaning.specs.Letters.{letters_in}
 use Rattle.dg_meaning.specs.Numbers.{total}
 use Rattle.dg_meaning.specs.Substitutions.{Substitution, resolved, contains}
 use Rattle.dg_meaning.specs.Unify.{looks, size}

@@ -1,6 +1,6 @@
 -- Values of global variables in memory, and what the routines do that change and read them. Hold it against docs/LANGUAGE.md, where it says what is kept,
 -- and dg_meaning/specs/Facts.antt, "What is kept".
-use Rattle.std.specs.Prelude.{◌≡◌, ◌≢◌, ℕ, ◌+◌, ◌*◌, ◌<◌, ◌≤◌, ◌⊎◌, List, [], ◌∷◌, ◌++◌, length, Option, Some, None, is_some, Bool, true, false, not, ◌==◌, if◌then◌else◌}
+use Rattle.std.specs.Prelude.{◌≡◌, ◌≢◌, ℕ, ◌+◌, ◌*◌, ◌<◌, ◌≤◌, ◌⊎◌, List, [], ◌∷◌, ◌++◌, length, Option, Some, None, true, false, ◌==◌, if◌then◌else◌}
 use Rattle.dg_base.specs.declared.run.Ending.TheVariants.{KeepLimit}
 use Rattle.dg_meaning.specs.Values.{Value}
 use Rattle.dg_meaning.specs.Substitutions.{Substitution, resolved, contains}
@@ -13,10 +13,9 @@ use Rattle.z_model.specs.declared.end.Halt.TheVariants.{AtQuit}
 use Rattle.z_lang.specs.declared.act.Act.{Act}
 use Rattle.z_lang.specs.State.{Program}
 use Rattle.z_lang.specs.Runs.{ActsRun as Runs, Returns, Stops}
-use Rattle.z_lang.specs.Standing.{IsKept}
 use Rattle.dg_rt.specs.declared.kept.TheConstants.{KEEP_ACTS, CLEAR_KEPT_ACTS, READ_KEPT_ACTS}
-use Rattle.dg_rt.specs.Cells.{at_cell, Holds, bit}
-use Rattle.dg_rt.specs.Areas.{heap_at, areas_end, kept_at, owners_at, line_at, fixed_end, heap_reg, term_reg, clash_reg, last_reg, from_reg, fill_reg, state}
+use Rattle.dg_rt.specs.Cells.{at_cell, Holds}
+use Rattle.dg_rt.specs.Areas.{heap_at, kept_at, owners_at, line_at, fixed_end, heap_reg, clash_reg, last_reg, from_reg, fill_reg, state}
 use Rattle.dg_rt.specs.Shapes.{Shape, IsShape, Shows, Stands}
 use Rattle.dg_rt.specs.Back.{Grown}
 use Rattle.dg_rt.specs.RunTime.{HasRunTime}
@@ -25,7 +24,7 @@ use Rattle.dg_rt.specs.Charges.{MeetsLimit}
 use Rattle.dg_rt.specs.Laying.{Formed, copy_word}
 use Rattle.dg_rt.specs.Copies.{words_of, Row}
 use Rattle.dg_rt.specs.CopiesIn.{HasCaptures, Reading}
-use Rattle.dg_rt.specs.Conditions.{next_if, Decides}
+use Rattle.dg_rt.specs.Conditions.{Decides}
 use Rattle.dg_rt.specs.Operands.{no_value}
 use Rattle.dg_rt.specs.Changes.{Argued}
 

@@ -1,5 +1,5 @@
 -- What the routines do that try objects one by one. Hold it against `tries` of dg_mid/specs/Step.antt, and `ask_object` of dg_meaning/specs/Moves.antt.
-use Rattle.std.specs.Prelude.{◌≡◌, ◌≢◌, ℕ, suc, ◌+◌, ◌*◌, ◌<◌, ◌≤◌, List, [], ◌∷◌, Option, Some, is_some, not}
+use Rattle.std.specs.Prelude.{◌≡◌, ◌≢◌, ℕ, suc, ◌+◌, ◌*◌, ◌<◌, ◌≤◌, List, [], ◌∷◌, Option, is_some, not}
 use Rattle.dg_meaning.specs.Values.{Label, Value, Var, Node, Values}
 use Rattle.dg_meaning.specs.Substitutions.{Substitution, walk, links}
 use Rattle.dg_meaning.specs.Facts.{Fact, value_at, is_object}
