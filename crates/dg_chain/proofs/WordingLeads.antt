@@ -73,7 +73,7 @@ module _ (t : Telling) (plays : Playing t) (code : Code) (dice : List ℕ) where
     looked = worked looks (world_of [] m')
 
     -- what is outside behind it
-    lined : {next most : ℕ} {m2 : Mid} → ComesLined t s.printed.out next m2 most z → Printed t ps m.lasting
+    abbrev lined : {next most : ℕ} {m2 : Mid} → ComesLined t s.printed.out next m2 most z → Printed t ps m.lasting
     lined q = record {
       out = record s.printed.out { words = q.words' };
       written = s.printed.written;
