@@ -18,12 +18,11 @@ use Rattle.dg_turn.specs.Told.{Telling}
 use Rattle.dg_turn.specs.Plays.{Playing}
 use Rattle.dg_chain.specs.Always.{MayRun, Always}
 use Rattle.dg_turn.specs.Tries.{sought_by}
-use Rattle.dg_chain.specs.Routines.{OpAt, OpsAt, BlocksAt, FindsObjects, FindsGlobal}
+use Rattle.dg_chain.specs.Routines.{BlocksAt, FindsObjects, FindsGlobal}
 use Rattle.dg_chain.specs.Stands.{Meant}
 use Rattle.dg_chain.specs.Steps.{step_cost}
 use Rattle.dg_chain.specs.Whole.{OpLeads, OthersMean, CodeLeads, story_setting}
 use Rattle.dg_chain.proofs.Landing.{Leads, leads_meant, op_means}
-use Rattle.dg_chain.proofs.Leading.{at_op}
 use Rattle.dg_chain.proofs.Choosing.{branch_leads, try_leads, shield_leads, once_leads, commit_leads, refuse_leads, leave_leads}
 use Rattle.dg_chain.proofs.Jumping.{take_leads, goto_leads, back_leads, fail_leads, stop_leads, done_leads}
 use Rattle.dg_chain.proofs.Printing.{text_leads, gap_leads, gap_n_leads, quit_leads}

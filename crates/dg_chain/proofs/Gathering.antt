@@ -11,7 +11,7 @@ use Rattle.dg_mid.specs.declared.code.Code.{Code}
 use Rattle.dg_mid.specs.declared.code.Op.{Op}
 use Rattle.dg_mid.specs.declared.code.Op.TheVariants as op
 use Rattle.dg_mid.specs.State.{Place, Mid, Status, Runs, Fails, Ended}
-use Rattle.dg_mid.specs.Step.{Setting, more, charged, gathering, with_gathering, gathers, newest_with, keeps, keeps_value}
+use Rattle.dg_mid.specs.Step.{Setting, more, charged, gathering, gathers, newest_with, keeps, keeps_value}
 use Rattle.z_model.specs.Run.{ZState}
 use Rattle.dg_rt.specs.declared.numbers.TheConstants.{KEEP_VALUE}
 use Rattle.dg_rt.specs.Closings.{closing_most}
@@ -21,7 +21,7 @@ use Rattle.dg_turn.specs.Plays.{Playing, Represented}
 use Rattle.dg_turn.specs.Paid.{paid}
 use Rattle.dg_turn.specs.Terms.{written_in}
 use Rattle.dg_turn.specs.Operating.{term_value}
-use Rattle.dg_turn.specs.Gatherings.{gathered_by, collect_routine, collected}
+use Rattle.dg_turn.specs.Gatherings.{gathered_by, collected}
 use Rattle.dg_turn.proofs.CollectTurn.{collect_turns}
 use Rattle.dg_turn.proofs.KeepTurn.{keep_turns}
 use Rattle.dg_turn.proofs.PaidGathering.{gatherings_are_paid}

@@ -1,8 +1,6 @@
 -- A query of a global variable leads on.
-use Rattle.std.proofs.Common.{◌≡◌, ℕ, ◌+◌, ◌-◌, ◌≤◌, ◌<◌, ⊎_elim, List, [], ◌∷◌, length, Bool, true, Option, Some, None, refl, sym, ap, ◌∙◌, subst, arith}
-use Rattle.std.proofs.lemmas.Bool.{cases_lt}
+use Rattle.std.proofs.Common.{◌≡◌, ℕ, ◌+◌, ◌-◌, ◌≤◌, List, [], ◌∷◌, Bool, true, Option, Some, None, refl, sym, ap, subst, arith}
 use Rattle.dg_base.specs.declared.program.PlaceKind.{PlaceKind}
-use Rattle.dg_base.specs.declared.program.PlaceKind.TheVariants.{Global}
 use Rattle.dg_base.specs.declared.program.Term.{Term}
 use Rattle.dg_base.specs.declared.run.Ending.TheVariants as ending
 use Rattle.dg_meaning.specs.Cells.{cells}
@@ -13,13 +11,13 @@ use Rattle.dg_meaning.specs.Moves.{ask_place, reads_if_set, behind_copy}
 use Rattle.dg_meaning.specs.Path.{Effect, Unifies as UnifiesNow}
 use Rattle.dg_meaning.specs.Unify.{solve}
 use Rattle.dg_meaning.specs.Values.{Value}
-use Rattle.dg_meaning.specs.World.{Print, World, worked}
+use Rattle.dg_meaning.specs.World.{Print, worked}
 use Rattle.dg_mid.specs.declared.code.Code.{Code}
 use Rattle.dg_mid.specs.declared.code.Op.{Op}
 use Rattle.dg_mid.specs.declared.code.Op.TheVariants as op
-use Rattle.dg_mid.specs.Actions.{registers_of, world_of, lasting_in}
+use Rattle.dg_mid.specs.Actions.{registers_of, world_of}
 use Rattle.dg_mid.specs.State.{Find, Mid, Status, Runs}
-use Rattle.dg_mid.specs.Step.{Setting, more, bound, charged, unified, made_in, done, seeks}
+use Rattle.dg_mid.specs.Step.{Setting, more, bound, charged, unified, done, seeks}
 use Rattle.z_model.specs.Run.{ZState}
 use Rattle.dg_rt.specs.Closings.{closing_most}
 use Rattle.dg_turn.specs.Told.{Telling}

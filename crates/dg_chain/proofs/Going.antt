@@ -13,13 +13,9 @@ use Rattle.dg_mid.specs.Units.{undone}
 use Rattle.dg_mid.specs.Calls.{WayFits, ChoicesFit}
 use Rattle.z_model.specs.Run.{ZState}
 use Rattle.z_lang.proofs.Stretches.{leads_none}
-use Rattle.dg_rt.specs.Areas.{choice_reg}
-use Rattle.dg_rt.specs.Back.{at_place}
 use Rattle.dg_turn.specs.Told.{Telling}
-use Rattle.dg_turn.specs.Lies.{WayIn, ChoicesIn}
 use Rattle.dg_turn.specs.Plays.{Playing, Represented}
 use Rattle.dg_turn.specs.Choices.{branch_routine, OpensAt}
-use Rattle.dg_turn.specs.Rest.{gather_words}
 use Rattle.dg_turn.specs.Rules.{keyed}
 use Rattle.dg_turn.proofs.Beginning.{begin_turns}
 use Rattle.dg_turn.proofs.BranchTurn.{branch_turns}

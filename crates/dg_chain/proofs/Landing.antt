@@ -1,5 +1,5 @@
 -- What leads on with memory that stands for a status in one of the two ways.
-use Rattle.std.proofs.Common.{◌≡◌, ℕ, ◌+◌, ◌≤◌, ◌<◌, List, [], ◌∷◌, inl, inr, Bool, true, false, ⊎_elim, refl, sym, ap, ◌∙◌, subst, arith}
+use Rattle.std.proofs.Common.{◌≡◌, ℕ, ◌+◌, ◌≤◌, ◌<◌, List, [], ◌∷◌, inl, inr, ⊎_elim, refl, sym, ap, ◌∙◌, subst, arith}
 use Rattle.std.proofs.lemmas.Bool.{cases_lt}
 use Rattle.dg_base.specs.declared.run.Ending.TheVariants as ending
 use Rattle.dg_meaning.specs.Unify.{Unified}
@@ -18,10 +18,9 @@ use Rattle.dg_turn.specs.Turns.{commit_routine}
 use Rattle.dg_turn.proofs.LandedTurn.{landed_turns}
 use Rattle.dg_turn.proofs.Paid.{turns_are_paid}
 use Rattle.dg_turn.proofs.Staying.{mid_alike}
-use Rattle.dg_turn.specs.Lies.{MidIn}
 use Rattle.dg_chain.specs.Always.{Always}
 use Rattle.dg_chain.specs.Routines.{GoesOn, OpsAt}
-use Rattle.dg_chain.specs.Stands.{Printed, Stands, LandsAt, Lands, Meant}
+use Rattle.dg_chain.specs.Stands.{Printed, Stands, LandsAt, Meant}
 use Rattle.dg_chain.specs.Steps.{Comes, Over, Next}
 use Rattle.dg_chain.specs.Whole.{OpLeads, OpMeans, story_setting}
 use Rattle.dg_chain.proofs.Choosing.{newest_agrees}

@@ -1,6 +1,6 @@
 -- Queries of objects lead on, answered at once or by trying objects one by one.
-use Rattle.std.proofs.Common.{◌≡◌, ℕ, zero, suc, ◌+◌, ◌-◌, ◌*◌, ◌<◌, ◌≤◌, Bool, true, false, List, [], ◌∷◌, length, map, Option, Some, None, inl, inr, refl, sym, ap, ◌∙◌, subst, arith}
-use Rattle.std.specs.Prelude.{is_some, if◌then◌else◌}
+use Rattle.std.proofs.Common.{◌≡◌, ℕ, suc, ◌+◌, ◌≤◌, Bool, true, false, List, [], ◌∷◌, length, map, Option, Some, None, inl, inr, refl, sym, ap, ◌∙◌, subst, arith}
+use Rattle.std.specs.Prelude.{is_some}
 use Rattle.std.specs.List.{slice_get}
 use Rattle.std.proofs.lemmas.Bool.{cases_lt}
 use Rattle.dg_base.specs.declared.program.PlaceKind.{PlaceKind}
@@ -15,10 +15,10 @@ use Rattle.dg_meaning.specs.Copies.{vars_in, copy_from, copy_cells}
 use Rattle.dg_meaning.specs.Facts.{Fact, value_at, is_object, kinds_of}
 use Rattle.dg_meaning.specs.Letters.{copied}
 use Rattle.dg_meaning.specs.Moves.{numbers, looked_up, reads_if_set, ask_object, finds_if_set, begun, behind_copy, copy_of}
-use Rattle.dg_meaning.specs.Path.{Registers, Act, Unifies as UnifiesNow, Effect, Acts}
+use Rattle.dg_meaning.specs.Path.{Registers, Act, Unifies as UnifiesNow, Effect}
 use Rattle.dg_meaning.specs.Selection.{label_at}
 use Rattle.dg_meaning.specs.Substitutions.{Substitution, walk}
-use Rattle.dg_meaning.specs.Unify.{Unified, Equations, solve}
+use Rattle.dg_meaning.specs.Unify.{Unified, solve}
 use Rattle.dg_meaning.specs.Values.{Label, Num, Word, Unknown, Object, Nil, Pair, Closure, Value, Var, Node, Values, NoMore, leaf, value_of}
 use Rattle.dg_meaning.specs.World.{Print, World, worked}
 use Rattle.dg_meaning.proofs.LookUps.{walk_node}
@@ -29,8 +29,8 @@ use Rattle.dg_mid.specs.declared.code.Op.TheVariants as op
 use Rattle.dg_mid.specs.Actions.{registers_of, world_of, asked_at, found_at, lasting_in}
 use Rattle.dg_mid.specs.Code.{block_at, first_label}
 use Rattle.dg_mid.specs.Seeking.{begins_commit, LeavesFirst}
-use Rattle.dg_mid.specs.State.{Find, Tries, Lasting, Mid, Status, Runs, Resumes, Fails, Ended, vars_of, place_of, inner_for}
-use Rattle.dg_mid.specs.Step.{Setting, charged, done, unified, if_agreed, if_passed, bound, more, passed, inside, within, seeks, trying, trying_cells, tries, trail_more}
+use Rattle.dg_mid.specs.State.{Find, Tries, Mid, Status, Runs, Resumes, Fails, vars_of, place_of, inner_for}
+use Rattle.dg_mid.specs.Step.{Setting, charged, done, unified, if_agreed, if_passed, bound, more, passed, within, seeks, trying, trying_cells, tries, trail_more}
 use Rattle.z_model.specs.Run.{ZState}
 use Rattle.dg_rt.specs.declared.numbers.TheConstants.{FAIL}
 use Rattle.dg_rt.specs.Changes.{SetIn, TableIn, set_of}
@@ -39,12 +39,11 @@ use Rattle.dg_rt.specs.Shapes.{Shape, Shows, number, dict, object, nil, variable
 use Rattle.dg_rt.specs.Unifies.{price}
 use Rattle.dg_turn.specs.Told.{Telling}
 use Rattle.dg_turn.specs.Tries.{Sought, AnyObject, Flagged, Valued, sought_by, sought_at, sought_terms, ObjectsFrom, AreLeft}
-use Rattle.dg_turn.specs.Lies.{TriesIn}
 use Rattle.dg_turn.specs.Paid.{paid}
 use Rattle.dg_turn.specs.Plays.{Playing, Outside, Comes as ComesTo}
-use Rattle.dg_turn.specs.Operating.{term_value, InFront, Deciding}
+use Rattle.dg_turn.specs.Operating.{term_value, InFront}
 use Rattle.dg_turn.specs.World.{FactsIn, HasValues, value_equation, value_unified}
-use Rattle.dg_turn.specs.Seeking.{find_routine, IsValued, HasSought, sought_of, first_walked, find_most, ComesSeeking, SeekingAll, FindingValue, TriesAt, tried_in, try_equations, try_unified, try_most, Trying, GoesOnTried}
+use Rattle.dg_turn.specs.Seeking.{find_routine, IsValued, HasSought, sought_of, first_walked, find_most, ComesSeeking, FindingValue, TriesAt, tried_in, try_equations, try_unified, try_most, Trying, GoesOnTried}
 use Rattle.dg_turn.proofs.PaidTries.{tries_are_paid}
 use Rattle.dg_turn.proofs.PaidWorld.{set_copied}
 use Rattle.dg_turn.proofs.Rows.{length_map}
@@ -52,11 +51,11 @@ use Rattle.dg_turn.proofs.SeekTurn.{seek_turns}
 use Rattle.dg_turn.proofs.TryTurn.{try_turns, none_tried_turns, sought_here}
 use Rattle.dg_chain.specs.Always.{Always}
 use Rattle.dg_chain.specs.Routines.{FindsObjects, OpAt, OpsAt, BlocksAt}
-use Rattle.dg_chain.specs.Stands.{Printed, Stands, Meant}
+use Rattle.dg_chain.specs.Stands.{Printed, Stands}
 use Rattle.dg_chain.specs.Steps.{Comes, step_cost}
 use Rattle.dg_chain.specs.Whole.{OpLeads, story_setting}
 use Rattle.dg_chain.proofs.Landing.{Leads, leads_meant, charged_means, unified_means, led_lands}
-use Rattle.dg_chain.proofs.Leading.{Lead, Alike, alike, led_runs, led_fails, finishes, charged_leads, unified_leads, at_op, silently, a_unit}
+use Rattle.dg_chain.proofs.Leading.{Lead, alike, led_runs, led_fails, finishes, charged_leads, unified_leads, at_op, silently, a_unit}
 use Rattle.dg_chain.proofs.Operating.{deciding_leads, unifies_now}
 use Rattle.dg_chain.proofs.Points.{units_never_none}
 use Rattle.dg_chain.proofs.Unifying.{agreed_leads}

@@ -1,6 +1,5 @@
 -- Words that are split and joined lead on.
-use Rattle.std.proofs.Common.{◌≡◌, ◌≢◌, ℕ, ◌+◌, ◌-◌, ◌<◌, ◌≤◌, Bool, true, false, List, [], ◌∷◌, ◌++◌, length, Option, Some, None, ⊎_elim, refl, sym, ap, ◌∙◌, subst, arith}
-use Rattle.std.proofs.lemmas.Bool.{cases_lt}
+use Rattle.std.proofs.Common.{◌≡◌, ℕ, ◌+◌, ◌-◌, ◌≤◌, List, [], ◌∷◌, length, Option, Some, None, refl, sym, ap, ◌∙◌, subst, arith}
 use Rattle.dg_base.specs.declared.program.Term.{Term}
 use Rattle.dg_base.specs.declared.run.Ending.TheVariants as ending
 use Rattle.dg_meaning.specs.Cells.{cells}
@@ -19,12 +18,11 @@ use Rattle.dg_mid.specs.Actions.{registers_of, said_by, world_of, lasting_in}
 use Rattle.dg_mid.specs.State.{Mid, Status, Runs}
 use Rattle.dg_mid.specs.Step.{Setting, bound, charged, unified, if_agreed, done, more, trail_more}
 use Rattle.z_model.specs.Run.{ZState}
-use Rattle.z_lang.specs.declared.act.Routine.{Routine}
 use Rattle.dg_rt.specs.Closings.{closing_most}
 use Rattle.dg_turn.specs.Told.{Telling}
 use Rattle.dg_turn.specs.Plays.{Playing}
 use Rattle.dg_turn.specs.Paid.{paid}
-use Rattle.dg_turn.specs.Operating.{term_value, InFront}
+use Rattle.dg_turn.specs.Operating.{term_value}
 use Rattle.dg_turn.specs.Wording.{split_routine, join_routine, spelled_by, split_letters, apart, split_most, join_letters, join_most, wording_most, worded_most, word_paid, ComesLined, Wording}
 use Rattle.dg_turn.specs.World.{value_unified}
 use Rattle.dg_turn.proofs.Places.{facts_apart}
@@ -34,7 +32,7 @@ use Rattle.dg_turn.proofs.PaidWording.{words_are_paid}
 use Rattle.dg_chain.specs.Routines.{Words, OpsAt}
 use Rattle.dg_chain.specs.Stands.{Printed, Stands}
 use Rattle.dg_chain.specs.Whole.{OpLeads, story_setting}
-use Rattle.dg_chain.proofs.Leading.{Lead, led_fails, finishes, charged_leads, charged_on, charged_off, unified_leads, at_op, silently, a_unit}
+use Rattle.dg_chain.proofs.Leading.{Lead, led_fails, finishes, charged_leads, unified_leads, at_op, silently, a_unit}
 use Rattle.dg_chain.proofs.Unifying.{agreed_leads}
 
 module _ (t : Telling) (plays : Playing t) (code : Code) (dice : List ℕ) where

@@ -4,7 +4,6 @@ use Rattle.std.specs.Prelude.{get_or}
 use Rattle.dg_meaning.specs.Values.{Value, Nil, leaf}
 use Rattle.dg_mid.specs.State.{Mid, vars_of}
 use Rattle.z_lang.specs.declared.act.Act.{Act}
-use Rattle.z_lang.specs.declared.act.Act.TheVariants as acts
 use Rattle.z_lang.specs.declared.act.Atom.TheVariants as atoms
 use Rattle.z_lang.specs.declared.act.Function.TheVariants as functions
 use Rattle.z_lang.specs.declared.act.Width.TheVariants as widths

@@ -5,9 +5,9 @@ use Rattle.dg_base.specs.declared.run.Ending.{Ending}
 use Rattle.dg_base.specs.declared.run.Ending.TheVariants.{HeapLimit, AuxLimit}
 use Rattle.dg_meaning.specs.Cells.{cells as cells_of}
 use Rattle.dg_meaning.specs.Values.{Value}
-use Rattle.dg_meaning.specs.World.{Gathering, gathered_size}
-use Rattle.dg_mid.specs.State.{Place, Way, Takes, Stop, Choice, Mid, place_of}
-use Rattle.dg_mid.specs.Step.{more, inside, within, gathering, with_gathering}
+use Rattle.dg_meaning.specs.World.{gathered_size}
+use Rattle.dg_mid.specs.State.{Place, Takes, Stop, Choice, Mid, place_of}
+use Rattle.dg_mid.specs.Step.{more, inside, with_gathering}
 use Rattle.z_model.specs.declared.end.Halt.TheVariants.{AtQuit}
 use Rattle.z_model.specs.Run.{ZState}
 use Rattle.z_lang.specs.declared.act.Act.{Act}
@@ -16,7 +16,7 @@ use Rattle.z_lang.specs.declared.act.Args.TheVariants as args
 use Rattle.z_lang.specs.declared.act.Atom.TheVariants as atoms
 use Rattle.z_lang.specs.declared.act.Routine.{Routine}
 use Rattle.z_lang.specs.State.{State, Program}
-use Rattle.z_lang.specs.Runs.{ActsRun, ActsOutcome, Returns, Stops, calls, calls_last, returns}
+use Rattle.z_lang.specs.Runs.{ActsRun, Returns, Stops, calls, calls_last, returns}
 use Rattle.dg_rt.specs.declared.numbers.TheConstants.{OPEN, OPEN_GATHERING}
 use Rattle.dg_rt.specs.declared.gathering.TheConstants.{OPEN_GATHERING_ACTS}
 use Rattle.dg_rt.specs.inside.Walks.{steps}
@@ -40,7 +40,7 @@ use Rattle.dg_turn.specs.Lies.{OpensFewer, StopsFewer, FramesIn, InnersIn, Stops
 use Rattle.dg_turn.specs.Plays.{Playing, Outside, Represented, Comes, Closes}
 use Rattle.dg_turn.specs.Terms.{written_in, Wrote}
 use Rattle.dg_turn.specs.Operating.{term_value, InFront}
-use Rattle.dg_turn.specs.Gatherings.{collect_routine, collected, Collecting, CollectTurns}
+use Rattle.dg_turn.specs.Gatherings.{collect_routine, collected, CollectTurns}
 use Rattle.dg_turn.proofs.Gathered.{size_more, choices_more, stops_more, mid_gathered, next_at, within_area, rest_opened}
 use Rattle.dg_turn.proofs.Growing.{grown_inner}
 use Rattle.dg_turn.proofs.Moving.{moves, closes}

@@ -1,63 +1,42 @@
 -- A query of objects by a decision: it is answered at once, or the first object is tried.
-use Rattle.std.proofs.Common.{◌≡◌, ◌≢◌, ℕ, zero, suc, ◌+◌, ◌-◌, ◌*◌, ◌<◌, ◌≤◌, Bool, true, false, List, [], ◌∷◌, ◌++◌, length, map, Option, Some, None, refl, sym, ap, ◌∙◌, subst, arith}
-use Rattle.std.specs.Prelude.{is_some, not, if◌then◌else◌}
-use Rattle.std.specs.List.{slice_get}
-use Rattle.dg_base.specs.declared.program.PlaceKind.{PlaceKind}
-use Rattle.dg_base.specs.declared.program.PlaceKind.TheVariants.{Flag, ObjectFlag, ObjectVar, Parent, Global}
+use Rattle.std.proofs.Common.{◌≡◌, ◌≢◌, ℕ, suc, ◌+◌, ◌-◌, ◌*◌, ◌<◌, ◌≤◌, Bool, List, [], ◌∷◌, ◌++◌, length, map, Some, refl, sym, ap, ◌∙◌, subst, arith}
 use Rattle.dg_base.specs.declared.program.Term.{Term}
-use Rattle.dg_base.specs.declared.run.Ending.TheVariants.{HeapLimit, TrailLimit}
+use Rattle.dg_base.specs.declared.run.Ending.TheVariants.{HeapLimit}
 use Rattle.dg_meaning.specs.Cells.{cells as cells_of}
-use Rattle.dg_meaning.specs.Facts.{Fact, set, is_object, kinds_of}
 use Rattle.dg_meaning.specs.Substitutions.{Substitution, walk, links}
-use Rattle.dg_meaning.specs.Unify.{Unified}
 use Rattle.dg_meaning.specs.Values.{Label, Value, Var, Node, Values}
 use Rattle.dg_mid.specs.State.{Mid}
-use Rattle.dg_mid.specs.Step.{bound, more, trail_more}
-use Rattle.z_model.specs.declared.end.Halt.TheVariants.{AtQuit}
+use Rattle.dg_mid.specs.Step.{more}
 use Rattle.z_model.specs.Run.{ZState}
 use Rattle.z_lang.specs.declared.act.Act.{Act}
 use Rattle.z_lang.specs.declared.act.Act.TheVariants as acts
 use Rattle.z_lang.specs.declared.act.Args.{Args}
-use Rattle.z_lang.specs.declared.act.Args.TheVariants as args
 use Rattle.z_lang.specs.declared.act.Atom.TheVariants as atoms
-use Rattle.z_lang.specs.declared.act.Routine.{Routine}
 use Rattle.z_lang.specs.State.{Program, State}
-use Rattle.z_lang.specs.Runs.{ActsRun, ActsOutcome, Returns, Stops, calls, returns, left_with}
-use Rattle.dg_rt.specs.declared.numbers.TheConstants.{FAIL, IF_RAISED, READ_VALUE, SEEK, SOUGHT, IF_OBJECT}
-use Rattle.dg_rt.specs.declared.changes.TheConstants.{IF_RAISED_ACTS, READ_VALUE_ACTS}
+use Rattle.z_lang.specs.Runs.{ActsRun, ActsOutcome, Returns, calls, returns, left_with}
+use Rattle.dg_rt.specs.declared.numbers.TheConstants.{SEEK, SOUGHT, IF_OBJECT}
 use Rattle.dg_rt.specs.declared.tries.TheConstants.{SEEK_ACTS, SOUGHT_ACTS, IF_OBJECT_ACTS}
 use Rattle.dg_rt.specs.inside.Walks.{steps}
 use Rattle.dg_rt.specs.Areas.{state}
-use Rattle.dg_rt.specs.Cells.{at_cell, with_cell, replaced, Holds, bit}
-use Rattle.dg_rt.specs.Changes.{SetIn, TableIn, ReadsValue, Argued, set_of}
-use Rattle.dg_rt.specs.Closings.{closing, closing_most}
-use Rattle.dg_rt.specs.Conditions.{next_if}
+use Rattle.dg_rt.specs.Cells.{with_cell, replaced, Holds}
+use Rattle.dg_rt.specs.Changes.{Argued}
+use Rattle.dg_rt.specs.Closings.{closing_most}
 use Rattle.dg_rt.specs.RunTime.{routine_of, HasRunTime}
 use Rattle.dg_rt.specs.Shapes.{Shape, Shows}
-use Rattle.dg_rt.specs.Tables.{IsTable}
-use Rattle.dg_rt.specs.Tries.{SeeksAll, SeeksOne}
-use Rattle.dg_rt.specs.Unifies.{price}
 use Rattle.dg_rt.proofs.Cells.{other_cell, same_cell}
 use Rattle.dg_rt.proofs.Following.{word as word_is, register, IsPut, puts}
-use Rattle.dg_rt.proofs.Reading.{set_low, raised_works, read_works}
-use Rattle.dg_rt.proofs.Seeking.{seek_works, sought_works, object_works}
+use Rattle.dg_rt.proofs.Seeking.{seek_works}
 use Rattle.dg_rt.proofs.UnifySteps.{steps_are}
 use Rattle.dg_turn.specs.Told.{Telling}
-use Rattle.dg_turn.specs.Layout.{words_at, bytes_at}
-use Rattle.dg_turn.specs.Tries.{Sought, AnyObject, Flagged, Valued, sought_terms}
 use Rattle.dg_turn.specs.Lies.{WordsIn, MidIn}
 use Rattle.dg_turn.specs.Plays.{Playing, Outside, Represented, registers, Comes, Closes}
 use Rattle.dg_turn.specs.Terms.{terms_acts, written_in, Wrote}
-use Rattle.dg_turn.specs.Turns.{agreed_next, match_acts}
-use Rattle.dg_turn.specs.Operating.{term_value, term_links, InFront, Deciding}
-use Rattle.dg_turn.specs.World.{FactsIn, HasWorld, HasValues, value_equation, value_unified}
-use Rattle.dg_turn.specs.Seeking.{seek_acts, find_acts, find_routine, IsValued, HasSought, sought_of, first_walked, find_most, ComesSeeking, SeekingAll, FindingValue, SeekTurns}
-use Rattle.dg_turn.proofs.DecidingTurn.{next_is, Called}
+use Rattle.dg_turn.specs.Turns.{agreed_next}
+use Rattle.dg_turn.specs.Operating.{term_value, InFront, Deciding}
+use Rattle.dg_turn.specs.Seeking.{seek_acts, ComesSeeking, SeekingAll}
+use Rattle.dg_turn.proofs.DecidingTurn.{Called}
 use Rattle.dg_turn.proofs.Ends.{next_small}
-use Rattle.dg_turn.proofs.Matching.{Goes, skips, matches}
-use Rattle.dg_turn.proofs.Moving.{moved, moves, closes, closes_within}
-use Rattle.dg_turn.proofs.Places.{table_of, bytes_of, facts_same}
-use Rattle.dg_turn.proofs.ReadingTurn.{word_small, if_raised_at, read_value_at}
+use Rattle.dg_turn.proofs.Moving.{moved, moves, closes}
 use Rattle.dg_turn.proofs.Rows.{registers_same}
 use Rattle.dg_turn.proofs.Staying.{mid_same}
 use Rattle.dg_turn.proofs.Terms.{writes_terms, meets_terms}

@@ -15,11 +15,10 @@ use Rattle.dg_rt.specs.Laying.{FormedAs, Formed, AllFormed}
 use Rattle.dg_rt.specs.Gatherings.{rows_of, AreFormed, GatheredAt, NextAt, at_first, at_end}
 use Rattle.dg_rt.proofs.Backs.{grown_none, back_grown, trail_stays}
 use Rattle.dg_turn.specs.Told.{Telling, told_count}
-use Rattle.dg_turn.specs.Rest.{aux_at, aux_end, gather_words, newest, open_to, GatheringIn, GatheringsIn, OuterAre, RestIn}
+use Rattle.dg_turn.specs.Rest.{aux_at, aux_end, gather_words, newest, open_to, GatheringsIn, OuterAre, RestIn}
 use Rattle.dg_turn.specs.Lies.{StopNamed, FramesIn, InnersIn, OpensFewer, StopsFewer, StopsIn, ChoicesIn, MidIn}
 use Rattle.dg_turn.proofs.Staying.{IsKept, low_kept, high_kept}
 use Rattle.dg_turn.proofs.Growing.{StopsThere, ChoicesThere, stops_at, choices_at, stands_same}
-use Rattle.dg_turn.proofs.Resting.{length_words}
 use Rattle.dg_turn.proofs.Within.{rows_length, row_within}
 
 -- ## Values of a program

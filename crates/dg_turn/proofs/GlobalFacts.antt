@@ -1,7 +1,7 @@
 -- What is kept stands for what is set at the places of global variables, and still does behind a change.
-use Rattle.std.proofs.Common.{◌≡◌, ◌≢◌, ℕ, zero, suc, ◌+◌, ◌*◌, ◌<◌, ◌≤◌, ◌⊎◌, inl, inr, Bool, true, false, List, [], ◌∷◌, ◌++◌, length, take, Option, Some, None, refl, sym, ap, ◌∙◌, subst, arith}
+use Rattle.std.proofs.Common.{◌≡◌, ◌≢◌, ℕ, zero, suc, ◌+◌, ◌<◌, ◌≤◌, ◌⊎◌, inl, inr, Bool, true, false, List, [], ◌∷◌, ◌++◌, length, Option, Some, None, refl, sym, ap, ◌∙◌, subst, arith}
 use Rattle.std.specs.Prelude.{◌==◌, if◌then◌else◌}
-use Rattle.std.specs.List.{slice_get, sum_by}
+use Rattle.std.specs.List.{slice_get}
 use Rattle.std.proofs.lemmas.Bool.{cases_order, cases_eq, eqb-true, eq-eqb, ne_eqb, cond-true, cond-false}
 use Rattle.dg_base.specs.declared.program.CoreProgram.{CoreProgram}
 use Rattle.dg_base.specs.declared.program.PlaceKind.{PlaceKind}
@@ -14,7 +14,7 @@ use Rattle.dg_rt.specs.Copies.{words_of}
 use Rattle.dg_rt.specs.Kept.{Block, block, total, value_in, without, IsEntry, IsApart, IsBeside, HaveEntries, KeptIn, IsVariable, NoEntry}
 use Rattle.dg_rt.proofs.Blocks.{EntriesSame, blocks_keep, total_on, words_long, Located, located, none_there, none_without, without_none, without_one, have_back, beside_first, apart_first, apart_second, apart_turned}
 use Rattle.dg_turn.specs.Told.{told_count}
-use Rattle.dg_turn.specs.World.{world_at, place_words, all_words, words_at, words_end, world_end, IsGlobal, AreGlobal, KeptFacts}
+use Rattle.dg_turn.specs.World.{world_at, place_words, words_at, words_end, world_end, IsGlobal, AreGlobal, KeptFacts}
 use Rattle.dg_turn.proofs.Sums.{before_all, before_later}
 
 -- ## The kept size

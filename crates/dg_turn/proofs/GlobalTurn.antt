@@ -1,13 +1,12 @@
 -- A change of a global variable is a turn.
-use Rattle.std.proofs.Common.{◌≡◌, ◌≢◌, ℕ, suc, ◌+◌, ◌-◌, ◌*◌, ◌<◌, ◌≤◌, ◌⊎◌, inl, inr, Bool, true, false, List, [], ◌∷◌, ◌++◌, length, map, Option, Some, None, refl, sym, ap, ◌∙◌, subst, arith}
-use Rattle.std.specs.Prelude.{nat_lt, is_some, if◌then◌else◌}
+use Rattle.std.proofs.Common.{◌≡◌, ◌≢◌, ℕ, suc, ◌+◌, ◌-◌, ◌*◌, ◌<◌, ◌≤◌, ◌⊎◌, inl, inr, Bool, true, false, List, [], ◌∷◌, ◌++◌, length, Option, Some, None, refl, sym, ap, ◌∙◌, subst, arith}
+use Rattle.std.specs.Prelude.{is_some}
 use Rattle.std.specs.List.{slice_get}
 use Rattle.std.proofs.lemmas.Bool.{cases_lt, cond-true, cond-false}
 use Rattle.dg_base.specs.declared.program.PlaceKind.TheVariants.{Global}
 use Rattle.dg_base.specs.declared.program.Term.{Term}
 use Rattle.dg_base.specs.declared.run.Ending.TheVariants.{HeapLimit, KeepLimit}
 use Rattle.dg_meaning.specs.Cells.{cells as cells_of}
-use Rattle.dg_meaning.specs.Changes.{global_change}
 use Rattle.dg_meaning.specs.Facts.{Fact, value_at, Alteration, Sets, Clears, altered, size_of, kinds_of, kept_size}
 use Rattle.dg_meaning.specs.Letters.{letters_in}
 use Rattle.dg_meaning.specs.Substitutions.{Substitution, resolved, contains}
@@ -35,7 +34,7 @@ use Rattle.dg_rt.specs.RunTime.{routine_of, HasRunTime}
 use Rattle.dg_rt.specs.Changes.{facts_behind}
 use Rattle.dg_rt.specs.Closings.{closing, closing_most}
 use Rattle.dg_rt.specs.Copies.{words_of}
-use Rattle.dg_rt.specs.Kept.{Block, block, total, value_in, without, KeptIn, IsVariable, NoEntry, Alters, MeetsKeep, Keeping as KeepingValue}
+use Rattle.dg_rt.specs.Kept.{Block, block, total, without, IsVariable, Alters, MeetsKeep, Keeping as KeepingValue}
 use Rattle.dg_rt.specs.Laying.{Formed}
 use Rattle.dg_rt.proofs.Absent.{next_absent}
 use Rattle.dg_rt.proofs.Altered.{set_there, set_elsewhere, cleared_there, cleared_elsewhere}
@@ -51,7 +50,7 @@ use Rattle.dg_turn.specs.Rest.{aux_end}
 use Rattle.dg_turn.specs.Terms.{written_in, Wrote}
 use Rattle.dg_turn.specs.Turns.{agreed_next}
 use Rattle.dg_turn.specs.Operating.{term_value, deciding_routine, InFront}
-use Rattle.dg_turn.specs.World.{world_at, world_end, words_at, words_end, PlaceIn, KeptFacts, FactsIn, HasWorld, now_routine, change_in}
+use Rattle.dg_turn.specs.World.{world_at, world_end, words_at, words_end, KeptFacts, FactsIn, HasWorld, now_routine, change_in}
 use Rattle.dg_turn.specs.Globals.{kept_behind, global_most, Keeps, Keeping, GlobalTurns}
 use Rattle.dg_turn.proofs.DecidingTurn.{next_is}
 use Rattle.dg_turn.proofs.Ends.{next_small}

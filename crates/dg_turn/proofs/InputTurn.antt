@@ -1,13 +1,12 @@
 -- Typed input is one turn: a line is read, the value that it spells is laid on the heap, and it is unified with a term.
 use Rattle.std.proofs.Common.{◌≡◌, ◌≢◌, ℕ, suc, ◌+◌, ◌-◌, ◌*◌, ◌<◌, ◌≤◌, inl, inr, List, [], ◌∷◌, ◌++◌, length, take, Some, None, refl, sym, ap, ◌∙◌, subst, ◌⊎◌, arith}
 use Rattle.std.specs.Prelude.{nat_lt, if◌then◌else◌, ◌==◌}
-use Rattle.std.specs.List.{slice_get}
 use Rattle.std.proofs.lemmas.Bool.{cases_eq, cases_lt, eq-eqb, ne_eqb, lt-ltb, le-ltb, cond-true, cond-false}
 use Rattle.dg_base.specs.declared.program.GapKind.TheVariants as kinds
 use Rattle.dg_base.specs.declared.program.Term.{Term}
 use Rattle.dg_base.specs.declared.run.Ending.{Ending}
 use Rattle.dg_base.specs.declared.run.Ending.TheVariants.{HeapLimit, TrailLimit}
-use Rattle.dg_meaning.specs.Cells.{cells as cells_of, captured_count}
+use Rattle.dg_meaning.specs.Cells.{cells as cells_of}
 use Rattle.dg_meaning.specs.Copies.{copy_cells}
 use Rattle.dg_meaning.specs.Letters.{letters_in}
 use Rattle.dg_meaning.specs.Render.{Met, met_behind}
@@ -19,7 +18,6 @@ use Rattle.dg_mid.specs.State.{Mid}
 use Rattle.dg_mid.specs.Step.{bound, trail_more, more}
 use Rattle.z_model.specs.declared.end.Halt.{Halt}
 use Rattle.z_model.specs.declared.end.Halt.TheVariants.{AtQuit, AtInput}
-use Rattle.z_model.specs.declared.end.ZEnd.TheVariants as ends
 use Rattle.z_model.specs.Flow.{zeros}
 use Rattle.z_model.specs.Run.{ZState, halt_ending}
 use Rattle.z_model.specs.Typed.{typed_line}

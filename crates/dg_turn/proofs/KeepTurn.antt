@@ -1,29 +1,28 @@
 -- A value is gathered: one turn of the story.
-use Rattle.std.proofs.Common.{◌≡◌, ◌≢◌, ℕ, suc, false, ◌+◌, ◌<◌, ◌≤◌, List, [], ◌∷◌, ◌++◌, length, Option, None, Some, refl, sym, ap, ◌∙◌, subst, arith}
+use Rattle.std.proofs.Common.{◌≡◌, ℕ, false, ◌+◌, ◌<◌, ◌≤◌, List, [], ◌∷◌, length, None, Some, refl, sym, ap, ◌∙◌, subst, arith}
 use Rattle.dg_base.specs.declared.run.Ending.TheVariants.{AuxLimit}
 use Rattle.dg_meaning.specs.Substitutions.{Substitution, resolved, contains}
 use Rattle.dg_meaning.specs.Values.{Value}
 use Rattle.dg_meaning.specs.World.{Gathering, gathered_size}
-use Rattle.dg_mid.specs.State.{Place, Stop, Mid}
+use Rattle.dg_mid.specs.State.{Place, Mid}
 use Rattle.dg_mid.specs.Step.{newest_with}
 use Rattle.z_model.specs.Run.{ZState}
 use Rattle.z_lang.specs.State.{Program}
 use Rattle.dg_rt.specs.declared.numbers.TheConstants.{KEEP_VALUE, FAIL}
 use Rattle.dg_rt.specs.declared.gathering.TheConstants.{KEEP_VALUE_ACTS}
 use Rattle.dg_rt.specs.Areas.{heap_at}
-use Rattle.dg_rt.specs.Cells.{at_cell}
 use Rattle.dg_rt.specs.Closings.{closing_most}
-use Rattle.dg_rt.specs.Copies.{words_of, Row}
-use Rattle.dg_rt.specs.Gatherings.{rows_of, GatheredAt, MeetsThe, GathersNow, NothingGathers, none_open, none_around, no_value_there, Keeps, KeepsValue, keep_most}
+use Rattle.dg_rt.specs.Copies.{words_of}
+use Rattle.dg_rt.specs.Gatherings.{rows_of, GatheredAt, GathersNow, NothingGathers, none_open, none_around, no_value_there, keep_most}
 use Rattle.dg_rt.specs.Laying.{Formed}
 use Rattle.dg_rt.specs.RunTime.{routine_of, HasRunTime}
-use Rattle.dg_rt.specs.Shapes.{Shape, Cell, Shows}
+use Rattle.dg_rt.specs.Shapes.{Cell, Shows}
 use Rattle.dg_rt.proofs.Absent.{next_absent}
 use Rattle.dg_rt.proofs.Forming.{resolved_shows_formed}
 use Rattle.dg_rt.proofs.ValueGathered.{keep_works}
 use Rattle.dg_turn.specs.Told.{Telling, told_count}
-use Rattle.dg_turn.specs.Rest.{aux_at, aux_end, gather_words, newest, RestIn}
-use Rattle.dg_turn.specs.Lies.{GathersIn, InnersIn, MidIn}
+use Rattle.dg_turn.specs.Rest.{aux_at, gather_words, newest, RestIn}
+use Rattle.dg_turn.specs.Lies.{GathersIn, InnersIn}
 use Rattle.dg_turn.specs.Plays.{Playing, Outside, Represented, Comes, Closes}
 use Rattle.dg_turn.specs.Gatherings.{gathered_by, KeepTurns}
 use Rattle.dg_turn.proofs.Gathered.{formed_told, ChoicesReopened, StopsReopened, choices_same, stops_same, mid_gathered, size_more, size_with, gathered_at, rest_kept_on}

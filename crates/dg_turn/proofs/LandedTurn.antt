@@ -1,10 +1,8 @@
 -- A machine whose newest inner construct has no cells: turns that lead there, and the one that leaves it.
-use Rattle.std.proofs.Common.{◌≡◌, ◌≢◌, ℕ, suc, ◌+◌, ◌*◌, ◌<◌, ◌≤◌, inl, inr, List, [], ◌∷◌, Some, refl, sym, ap, ◌∙◌, subst, arith}
+use Rattle.std.proofs.Common.{◌≡◌, ◌≢◌, ℕ, suc, ◌+◌, ◌<◌, ◌≤◌, inl, inr, List, [], ◌∷◌, Some, refl, sym, ap, ◌∙◌, subst, arith}
 use Rattle.std.proofs.lemmas.Bool.{cases_eq}
-use Rattle.dg_mid.specs.Heights.{AgreeAll}
 use Rattle.dg_mid.specs.State.{Place, Mid}
 use Rattle.dg_mid.specs.Step.{cut_to}
-use Rattle.dg_mid.specs.Units.{dropped}
 use Rattle.z_model.specs.Run.{ZState}
 use Rattle.z_lang.specs.declared.act.Routine.{Routine}
 use Rattle.z_lang.specs.Leads.{Leads}
@@ -14,8 +12,8 @@ use Rattle.z_lang.proofs.Trampoline.{bounces}
 use Rattle.dg_rt.specs.Areas.{heap_at, state}
 use Rattle.dg_rt.specs.Back.{at_place}
 use Rattle.dg_rt.specs.Cells.{with_cell, replaced, Holds}
-use Rattle.dg_rt.specs.Choices.{Chain, left_of}
-use Rattle.dg_rt.specs.Shapes.{Shape, Cell}
+use Rattle.dg_rt.specs.Choices.{Chain}
+use Rattle.dg_rt.specs.Shapes.{Cell}
 use Rattle.dg_rt.proofs.Cells.{other_cell, same_cell}
 use Rattle.dg_rt.proofs.Cutting.{commit_works, chain_same}
 use Rattle.dg_rt.proofs.Following.{word as word_is, register, puts}
@@ -23,7 +21,7 @@ use Rattle.dg_turn.specs.Told.{Telling}
 use Rattle.dg_turn.specs.Lies.{MidIn}
 use Rattle.dg_turn.specs.Plays.{Playing, Outside, Represented}
 use Rattle.dg_turn.specs.Rest.{gather_words}
-use Rattle.dg_turn.specs.Seeking.{Landed, LandedTurns}
+use Rattle.dg_turn.specs.Seeking.{LandedTurns}
 use Rattle.dg_turn.specs.Turns.{commit_routine}
 use Rattle.dg_turn.proofs.Cutting.{places_of, chained, fallen_is, cut_in}
 use Rattle.dg_turn.proofs.Standing.{commit_at}

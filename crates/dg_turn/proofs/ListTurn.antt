@@ -1,5 +1,5 @@
 -- A gathering is taken out as a list: one turn of the story.
-use Rattle.std.proofs.Common.{⊎_elim, ◌≡◌, ◌≢◌, ℕ, suc, ◌+◌, ◌-◌, ◌<◌, ◌≤◌, List, [], ◌∷◌, ◌++◌, None, Some, refl, sym, ap, ◌∙◌, subst, arith}
+use Rattle.std.proofs.Common.{⊎_elim, ◌≡◌, ◌≢◌, ℕ, suc, ◌+◌, ◌<◌, ◌≤◌, List, [], ◌∷◌, ◌++◌, None, Some, refl, sym, ap, ◌∙◌, subst, arith}
 use Rattle.dg_base.specs.declared.run.Ending.TheVariants.{HeapLimit}
 use Rattle.dg_meaning.specs.Copies.{list_of, vars_in, copy_from, copy_cells}
 use Rattle.dg_meaning.specs.Values.{Value}

@@ -1,6 +1,6 @@
 -- The routines that find the name of an object do so, and print it.
-use Rattle.std.proofs.Common.{◌≡◌, ◌≢◌, ℕ, zero, suc, ◌+◌, ◌*◌, ◌-◌, ◌<◌, ◌≤◌, inl, inr, Bool, true, false, List, [], ◌∷◌, ◌++◌, length, map, take, drop, Option, Some, None, refl, sym, ap, ◌∙◌, subst, arith, append_assoc, length-drop}
-use Rattle.std.specs.Prelude.{◌==◌, ◌/◌, if◌then◌else◌, All, get_or, nat_lt, encode_utf8_all}
+use Rattle.std.proofs.Common.{◌≡◌, ◌≢◌, ℕ, zero, suc, ◌+◌, ◌*◌, ◌-◌, ◌<◌, ◌≤◌, inl, inr, Bool, true, false, List, [], ◌∷◌, ◌++◌, length, map, take, drop, Some, refl, sym, ap, ◌∙◌, subst, arith, append_assoc, length-drop}
+use Rattle.std.specs.Prelude.{if◌then◌else◌, All, get_or, encode_utf8_all}
 use Rattle.std.specs.List.{slice_get}
 use Rattle.std.specs.Str.{chars, all_scalars}
 use Rattle.std.proofs.lemmas.Bool.{ne_eqb, cases_lt, eq-eqb}
@@ -10,11 +10,10 @@ use Rattle.std.proofs.lemmas.Str.{chars-encodes}
 use Rattle.dg_base.specs.Sound.{IsName, IsPrintable}
 use Rattle.z_lang.specs.declared.act.Act.{Act}
 use Rattle.z_lang.specs.declared.act.Act.TheVariants as acts
-use Rattle.z_lang.specs.declared.act.Args.TheVariants as args
 use Rattle.z_lang.specs.declared.act.Atom.TheVariants as atoms
 use Rattle.z_lang.specs.declared.act.Comparison.TheVariants as comparisons
 use Rattle.z_lang.specs.declared.act.Routine.{Routine}
-use Rattle.z_lang.specs.State.{State, Program, value}
+use Rattle.z_lang.specs.State.{Program, value}
 use Rattle.z_lang.specs.Acts.{answer_of}
 use Rattle.z_lang.specs.Runs.{ActsRun as Runs, Returns, taken, passed, calls, returns, behind_label}
 use Rattle.dg_rt.specs.Areas.{state}
@@ -23,7 +22,7 @@ use Rattle.dg_rt.specs.RunTime.{routine_of}
 use Rattle.dg_rt.proofs.Following.{word, tested, local_1, local_2, local_3, put_3}
 use Rattle.dg_rt.proofs.Locals.{less_by, not_less_by}
 use Rattle.dg_turn.specs.Texts.{say}
-use Rattle.dg_turn.specs.Names.{name_end, name_acts, calling_acts, is_long, leaf_acts, behind_name, name_leaves, long_routines, chain_acts, chain_routine, chain_routines, chains_of, calling_leaves, object_routine, objects_routines}
+use Rattle.dg_turn.specs.Names.{name_end, name_acts, calling_acts, is_long, behind_name, name_leaves, long_routines, chain_acts, chain_routine, chain_routines, chains_of, calling_leaves, object_routine, objects_routines}
 use Rattle.dg_turn.proofs.TextPrinted.{prints_all}
 
 -- ## Names as characters

@@ -19,7 +19,7 @@ use Rattle.z_lang.specs.State.{State, Program}
 use Rattle.z_lang.specs.Runs.{ActsRun as Runs, Returns, done, calls, returns}
 use Rattle.dg_rt.specs.Cells.{with_cell, replaced, Holds}
 use Rattle.dg_rt.specs.Areas.{state}
-use Rattle.dg_rt.specs.RunTime.{routine_of, HasRunTime}
+use Rattle.dg_rt.specs.RunTime.{HasRunTime}
 use Rattle.dg_rt.specs.Gaps.{last_word, Meets}
 use Rattle.dg_rt.specs.Pieces.{PrintsPiece}
 use Rattle.dg_rt.proofs.Cells.{other_cell, same_cell}

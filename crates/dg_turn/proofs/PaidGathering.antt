@@ -1,5 +1,5 @@
 -- What gatherings cost is paid for.
-use Rattle.std.proofs.Common.{◌≡◌, ℕ, ◌+◌, ◌*◌, ◌≤◌, List, [], ◌∷◌, length, Option, Some, None, refl, sym, ap, ◌∙◌, subst, arith}
+use Rattle.std.proofs.Common.{◌≡◌, ℕ, ◌+◌, ◌*◌, ◌≤◌, List, [], ◌∷◌, length, Option, Some, None, ap, arith}
 use Rattle.std.specs.List.{sum_by}
 use Rattle.std.proofs.lemmas.List.Sums.{sum_by-cons}
 use Rattle.dg_base.specs.declared.program.Term.{Term}
@@ -18,7 +18,7 @@ use Rattle.dg_mid.specs.Code.{block_at}
 use Rattle.dg_mid.specs.State.{Place, Takes, Mid, Runs, Resumes}
 use Rattle.dg_mid.specs.Step.{Setting, passed}
 use Rattle.dg_mid.specs.Units.{units_of, act_work, gathering_work, keeping_work, taking, taking_newest}
-use Rattle.dg_rt.specs.Gatherings.{keep_most, list_most}
+use Rattle.dg_rt.specs.Gatherings.{keep_most}
 use Rattle.dg_turn.specs.Terms.{AreNodes, written_in}
 use Rattle.dg_turn.specs.Gatherings.{gathered_by, taking_most, adding_most, summing_most}
 use Rattle.dg_turn.specs.Paid.{paid}

@@ -1,18 +1,15 @@
 -- What changes and queries of global variables cost is paid for.
-use Rattle.std.proofs.Common.{◌≡◌, ℕ, ◌+◌, ◌*◌, ◌≤◌, Bool, true, false, List, [], ◌∷◌, length, map, Option, Some, None, refl, ap, ◌∙◌, arith}
-use Rattle.std.specs.List.{slice_get, sum_by}
+use Rattle.std.proofs.Common.{◌≡◌, ℕ, ◌+◌, ◌≤◌, Bool, true, List, [], ◌∷◌, Option, Some, None, ap, ◌∙◌, arith}
+use Rattle.std.specs.List.{slice_get}
 use Rattle.std.proofs.lemmas.List.Sums.{sum_by-cons}
 use Rattle.dg_base.specs.declared.program.PlaceKind.{PlaceKind}
 use Rattle.dg_base.specs.declared.program.PlaceKind.TheVariants.{Global}
 use Rattle.dg_base.specs.declared.program.Term.{Term}
-use Rattle.dg_meaning.specs.Cells.{nodes_of, writing, cells as cells_of}
-use Rattle.dg_meaning.specs.Copies.{copy_from}
+use Rattle.dg_meaning.specs.Cells.{nodes_of, cells as cells_of}
 use Rattle.dg_meaning.specs.Facts.{value_at, Alteration, Sets, Clears, ClearsAll, kinds_of}
-use Rattle.dg_meaning.specs.Letters.{letters_in, copied}
+use Rattle.dg_meaning.specs.Letters.{copied}
 use Rattle.dg_meaning.specs.Moves.{unifying, keeping, reads_if_set, ask_place, change_looks, changes, change_place}
 use Rattle.dg_meaning.specs.Path.{Registers}
-use Rattle.dg_meaning.specs.Substitutions.{resolved}
-use Rattle.dg_meaning.specs.Unify.{looks, size}
 use Rattle.dg_meaning.specs.Values.{Value}
 use Rattle.dg_meaning.specs.World.{Print, World, worked}
 use Rattle.dg_mid.specs.declared.code.Action.TheVariants as action
@@ -22,7 +19,7 @@ use Rattle.dg_mid.specs.Actions.{registers_of, world_of, act_at}
 use Rattle.dg_mid.specs.State.{Mid, Runs}
 use Rattle.dg_mid.specs.Step.{Setting, more}
 use Rattle.dg_mid.specs.Units.{units_of, act_work, effect_work}
-use Rattle.dg_turn.specs.Terms.{AreNodes, written_in}
+use Rattle.dg_turn.specs.Terms.{AreNodes}
 use Rattle.dg_turn.specs.Operating.{term_value}
 use Rattle.dg_turn.specs.World.{change_in}
 use Rattle.dg_turn.specs.Globals.{kept_behind, global_most, global_read_most, copy_equation, global_copied_most}

@@ -1,10 +1,10 @@
 -- What queries of objects cost is paid for.
-use Rattle.std.proofs.Common.{◌≡◌, ℕ, zero, suc, ◌+◌, ◌*◌, ◌≤◌, Bool, true, List, [], ◌∷◌, length, map, Option, Some, None, refl, sym, ap, ◌∙◌, subst, arith}
+use Rattle.std.proofs.Common.{◌≡◌, ℕ, zero, suc, ◌+◌, ◌≤◌, Bool, true, List, [], ◌∷◌, length, map, Option, Some, None, refl, ap, arith}
 use Rattle.std.specs.List.{slice_get}
 use Rattle.dg_base.specs.declared.program.PlaceKind.{PlaceKind}
 use Rattle.dg_base.specs.declared.program.PlaceKind.TheVariants.{Flag, ObjectFlag, ObjectVar, Parent, Global}
 use Rattle.dg_base.specs.declared.program.Term.{Term}
-use Rattle.dg_meaning.specs.Cells.{nodes_of, writing, cells as cells_of}
+use Rattle.dg_meaning.specs.Cells.{nodes_of, cells as cells_of}
 use Rattle.dg_meaning.specs.Changes.{found}
 use Rattle.dg_meaning.specs.Copies.{copy_from}
 use Rattle.dg_meaning.specs.Facts.{kinds_of}
@@ -21,17 +21,17 @@ use Rattle.dg_mid.specs.declared.code.Op.TheVariants as op
 use Rattle.dg_mid.specs.Actions.{registers_of, world_of, asked_at}
 use Rattle.dg_mid.specs.State.{Find, Tries, Mid, Runs, Resumes}
 use Rattle.dg_mid.specs.Step.{Setting, more, trying}
-use Rattle.dg_mid.specs.Units.{units_of, act_work, effect_work, found_work}
+use Rattle.dg_mid.specs.Units.{units_of, act_work, effect_work}
 use Rattle.dg_rt.specs.Changes.{SetIn, set_of}
 use Rattle.dg_rt.specs.Unifies.{price}
-use Rattle.dg_turn.specs.Terms.{AreNodes, written_in}
+use Rattle.dg_turn.specs.Terms.{AreNodes}
 use Rattle.dg_turn.specs.Tries.{Sought, sought_by, sought_at}
-use Rattle.dg_turn.specs.Operating.{term_value, term_links}
+use Rattle.dg_turn.specs.Operating.{term_value}
 use Rattle.dg_turn.specs.Paid.{paid}
 use Rattle.dg_turn.specs.World.{HasValues, value_equation}
-use Rattle.dg_turn.specs.Seeking.{IsValued, first_walked, find_most, tried_in, try_equations, try_most, TriesArePaid}
+use Rattle.dg_turn.specs.Seeking.{first_walked, find_most, tried_in, try_equations, try_most, TriesArePaid}
 use Rattle.dg_turn.proofs.Paid.{all_few}
-use Rattle.dg_turn.proofs.PaidWorld.{answer_work, pays, asked_so, asked_work}
+use Rattle.dg_turn.proofs.PaidWorld.{answer_work, pays, asked_so}
 
 -- ## Queries
 

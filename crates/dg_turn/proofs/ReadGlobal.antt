@@ -1,14 +1,13 @@
 -- A query of a global variable is a turn.
-use Rattle.std.proofs.Common.{◌≡◌, ◌≢◌, ℕ, suc, ◌+◌, ◌-◌, ◌*◌, ◌<◌, ◌≤◌, Bool, true, false, List, [], ◌∷◌, ◌++◌, length, map, Option, Some, None, refl, sym, ap, ◌∙◌, subst, arith}
+use Rattle.std.proofs.Common.{◌≡◌, ◌≢◌, ℕ, suc, ◌+◌, ◌-◌, ◌*◌, ◌<◌, ◌≤◌, false, List, [], ◌∷◌, ◌++◌, Option, Some, None, refl, sym, ap, ◌∙◌, subst, arith}
 use Rattle.std.specs.List.{slice_get}
 use Rattle.dg_base.specs.declared.program.PlaceKind.TheVariants.{Global}
 use Rattle.dg_base.specs.declared.program.Term.{Term}
-use Rattle.dg_base.specs.declared.run.Ending.{Ending}
 use Rattle.dg_base.specs.declared.run.Ending.TheVariants.{HeapLimit, TrailLimit}
 use Rattle.dg_meaning.specs.Cells.{cells as cells_of}
 use Rattle.dg_meaning.specs.Copies.{copy_from, copy_cells}
 use Rattle.dg_meaning.specs.Facts.{Fact, value_at, kinds_of}
-use Rattle.dg_meaning.specs.Unify.{Unified, solve}
+use Rattle.dg_meaning.specs.Unify.{Unified}
 use Rattle.dg_meaning.specs.Values.{Value}
 use Rattle.dg_mid.specs.State.{Mid}
 use Rattle.dg_mid.specs.Step.{bound, more, trail_more}
@@ -26,15 +25,14 @@ use Rattle.z_lang.proofs.Routines.{routine_follows}
 use Rattle.dg_rt.specs.declared.numbers.TheConstants.{READ_KEPT, FAIL}
 use Rattle.dg_rt.specs.declared.kept.TheConstants.{READ_KEPT_ACTS}
 use Rattle.dg_rt.specs.inside.Walks.{steps}
-use Rattle.dg_rt.specs.Cells.{at_cell, with_cell, replaced, Holds}
+use Rattle.dg_rt.specs.Cells.{at_cell, with_cell, replaced}
 use Rattle.dg_rt.specs.Areas.{heap_at, state}
 use Rattle.dg_rt.specs.Shapes.{Shows}
 use Rattle.dg_rt.specs.RunTime.{routine_of, HasRunTime}
 use Rattle.dg_rt.specs.Unifies.{price}
-use Rattle.dg_rt.specs.Charges.{MeetsLimit}
 use Rattle.dg_rt.specs.Closings.{closing, closing_most}
 use Rattle.dg_rt.specs.CopiesIn.{HasCaptures, Reading as Moment}
-use Rattle.dg_rt.specs.Kept.{value_in, ReadsNothing, ReadsCopy, ReadsKept}
+use Rattle.dg_rt.specs.Kept.{value_in, ReadsCopy, ReadsKept}
 use Rattle.dg_rt.specs.Laying.{Formed, copy_word}
 use Rattle.dg_rt.proofs.Cells.{other_cell, same_cell}
 use Rattle.dg_rt.proofs.Following.{IsPut, puts}
@@ -50,7 +48,7 @@ use Rattle.dg_turn.specs.Terms.{written_in, Wrote}
 use Rattle.dg_turn.specs.Turns.{agreed_next, match_acts, last_acts}
 use Rattle.dg_turn.specs.Operating.{term_value, InFront}
 use Rattle.dg_turn.specs.World.{words_at, words_end, KeptFacts, FactsIn, HasWorld}
-use Rattle.dg_turn.specs.Globals.{global_routine, copied_in, copy_equation, copy_unified, global_read_most, global_copied_most, ReadingGlobal, ReadGlobalTurns}
+use Rattle.dg_turn.specs.Globals.{global_routine, copied_in, copy_equation, copy_unified, global_read_most, global_copied_most, ReadGlobalTurns}
 use Rattle.dg_turn.proofs.Ends.{next_small, concludes}
 use Rattle.dg_turn.proofs.GlobalFacts.{formed_by, variable_in}
 use Rattle.dg_turn.proofs.Grows.{mid_grown}

@@ -1,5 +1,5 @@
 -- A gathering is taken out as a sum: one turn of the story.
-use Rattle.std.proofs.Common.{◌≡◌, ◌≢◌, ℕ, suc, ◌+◌, ◌-◌, ◌*◌, ◌<◌, List, [], ◌∷◌, ◌++◌, length, Option, None, Some, refl, sym, ap, ◌∙◌, subst, arith}
+use Rattle.std.proofs.Common.{◌≡◌, ◌≢◌, ℕ, suc, ◌+◌, ◌*◌, ◌<◌, List, [], ◌∷◌, ◌++◌, length, Option, None, Some, refl, sym, ap, ◌∙◌, subst, arith}
 use Rattle.dg_meaning.specs.Numbers.{total}
 use Rattle.dg_meaning.specs.Values.{Num, Value, leaf}
 use Rattle.dg_meaning.specs.World.{Gathering, gathered_size}

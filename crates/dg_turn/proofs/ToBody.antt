@@ -1,5 +1,5 @@
 -- The routine of a closure's body: it comes to what enters the body, or fails.
-use Rattle.std.proofs.Common.{◌≡◌, ◌≢◌, ℕ, suc, ◌+◌, ◌<◌, ◌≤◌, Bool, true, false, List, [], ◌∷◌, length, Some, refl, sym, ap, ◌∙◌, subst, arith}
+use Rattle.std.proofs.Common.{◌≡◌, ◌≢◌, ℕ, suc, ◌+◌, ◌<◌, ◌≤◌, true, false, List, [], ◌∷◌, length, refl, sym, ap, ◌∙◌, subst, arith}
 use Rattle.std.proofs.lemmas.Bool.{eq-eqb, ne_eqb}
 use Rattle.dg_meaning.specs.Values.{Value}
 use Rattle.dg_mid.specs.declared.code.BodyCode.{BodyCode}
@@ -13,7 +13,7 @@ use Rattle.z_lang.specs.State.{State}
 use Rattle.z_lang.specs.Runs.{ActsRun, Returns, taken, passed, done, calls, returns, behind_label, left_with}
 use Rattle.dg_rt.specs.declared.numbers.TheConstants.{FAIL, ENTER_BODY}
 use Rattle.dg_rt.specs.declared.closures.TheConstants.{IF_BODY_ACTS}
-use Rattle.dg_rt.specs.Cells.{with_cell, replaced, Holds, compared}
+use Rattle.dg_rt.specs.Cells.{with_cell, replaced, Holds}
 use Rattle.dg_rt.specs.Areas.{state}
 use Rattle.dg_rt.specs.Shapes.{Shape, Shows}
 use Rattle.dg_rt.proofs.Cells.{other_cell, same_cell}

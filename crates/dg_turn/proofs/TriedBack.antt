@@ -1,5 +1,5 @@
 -- A failure goes back to a choice of further objects: one turn of the story.
-use Rattle.std.proofs.Common.{◌≡◌, ◌≢◌, ℕ, suc, ◌+◌, ◌-◌, ◌*◌, ◌<◌, ◌≤◌, List, [], ◌∷◌, length, refl, sym, ap, ◌∙◌, subst, arith}
+use Rattle.std.proofs.Common.{◌≡◌, ℕ, suc, ◌+◌, ◌-◌, ◌*◌, List, ◌∷◌, length, refl, sym, ap, ◌∙◌, subst, arith}
 use Rattle.dg_mid.specs.Heights.{ChoicesNamed}
 use Rattle.dg_mid.specs.State.{Find, Choice, Mid}
 use Rattle.dg_mid.specs.Step.{back_at}
@@ -10,7 +10,6 @@ use Rattle.dg_rt.specs.Areas.{heap_at}
 use Rattle.dg_rt.specs.Back.{at_place}
 use Rattle.dg_rt.specs.Shapes.{Shape}
 use Rattle.dg_turn.specs.Told.{Telling}
-use Rattle.dg_turn.specs.Tries.{sought_terms}
 use Rattle.dg_turn.specs.Lies.{CellsAre, TriesIn, WayIn, ChoicesIn}
 use Rattle.dg_turn.specs.Rest.{gather_words}
 use Rattle.dg_turn.specs.Plays.{Playing, Outside, Represented, registers}

@@ -9,10 +9,9 @@ use Rattle.dg_base.specs.declared.program.PlaceKind.TheVariants.{Flag, ObjectFla
 use Rattle.dg_base.specs.declared.run.Ending.TheVariants.{HeapLimit, TrailLimit}
 use Rattle.dg_meaning.specs.Changes.{found}
 use Rattle.dg_meaning.specs.Facts.{Fact, set, value_at, kinds_of}
-use Rattle.dg_meaning.specs.Substitutions.{Substitution}
 use Rattle.dg_meaning.specs.Unify.{Unified, Equations, solve}
 use Rattle.dg_meaning.specs.Values.{Object, Value, leaf}
-use Rattle.dg_mid.specs.State.{Place, Find, Tries, Mid, place_of}
+use Rattle.dg_mid.specs.State.{Find, Tries, Mid, place_of}
 use Rattle.dg_mid.specs.Step.{bound, inside, within, trail_more, trying_cells}
 use Rattle.z_model.specs.declared.end.Halt.TheVariants.{AtQuit}
 use Rattle.z_model.specs.Run.{ZState}
@@ -21,7 +20,7 @@ use Rattle.z_lang.specs.declared.act.Act.TheVariants as acts
 use Rattle.z_lang.specs.declared.act.Args.TheVariants as args
 use Rattle.z_lang.specs.declared.act.Atom.TheVariants as atoms
 use Rattle.z_lang.specs.State.{Program, State}
-use Rattle.z_lang.specs.Runs.{ActsRun, ActsOutcome, Returns, Stops, calls, calls_last, returns, left_with}
+use Rattle.z_lang.specs.Runs.{ActsRun, ActsOutcome, Returns, Stops, calls, calls_last, returns}
 use Rattle.dg_rt.specs.declared.numbers.TheConstants.{FAIL, TRY, LOOK_VALUE, LOOK_FLAG, LAND}
 use Rattle.dg_rt.specs.declared.tries.TheConstants.{TRY_ACTS, LOOK_VALUE_ACTS, LOOK_FLAG_ACTS, LAND_ACTS}
 use Rattle.dg_rt.specs.inside.Walks.{steps}
@@ -37,28 +36,27 @@ use Rattle.dg_rt.specs.Tries.{LooksUp, AnyWord}
 use Rattle.dg_rt.specs.Unifies.{price}
 use Rattle.dg_rt.proofs.Backs.{grown_none}
 use Rattle.dg_rt.proofs.Cells.{other_cell, same_cell}
-use Rattle.dg_rt.proofs.Following.{word as word_is, register, IsPut, puts}
+use Rattle.dg_rt.proofs.Following.{word as word_is, register, puts}
 use Rattle.dg_rt.proofs.Rows.{row_same}
 use Rattle.dg_rt.proofs.Landing.{look_value_works, look_flag_works, land_works}
 use Rattle.dg_rt.proofs.Trying.{try_works}
 use Rattle.dg_rt.proofs.UnifySteps.{steps_are}
 use Rattle.dg_turn.specs.Told.{Telling}
-use Rattle.dg_turn.specs.Rest.{aux_end}
 use Rattle.dg_turn.specs.Tries.{Sought, AnyObject, Flagged, Valued, sought_by, sought_at, sought_terms, look_acts, tried_acts, landing_acts, try_acts, tries_by, tries_routine, ObjectsFrom}
-use Rattle.dg_turn.specs.Lies.{WordsIn, TriesIn, WayIn, FramesIn, InnersIn, MidIn}
+use Rattle.dg_turn.specs.Lies.{TriesIn, WayIn, FramesIn, InnersIn, MidIn}
 use Rattle.dg_turn.specs.Layout.{words_at, bytes_at}
 use Rattle.dg_turn.specs.Plays.{Playing, Outside, Represented, registers, Comes, Closes}
-use Rattle.dg_turn.specs.Seeking.{IsValued, HasSought, TriesAt, tried_in, try_equations, try_unified, try_most, ComesLanded, GoesOnTried, Trying, TryTurns, NoneTriedTurns}
-use Rattle.dg_turn.specs.Turns.{agreed_next, match_acts, last_acts}
+use Rattle.dg_turn.specs.Seeking.{HasSought, TriesAt, tried_in, try_equations, try_unified, try_most, ComesLanded, GoesOnTried, Trying, TryTurns, NoneTriedTurns}
+use Rattle.dg_turn.specs.Turns.{match_acts}
 use Rattle.dg_turn.specs.World.{FactsIn, HasWorld, HasValues}
 use Rattle.dg_turn.proofs.Beyond.{mid_beyond}
-use Rattle.dg_turn.proofs.Ends.{next_small, concludes}
+use Rattle.dg_turn.proofs.Ends.{concludes}
 use Rattle.dg_turn.proofs.Finding.{row_front}
 use Rattle.dg_turn.proofs.Growing.{grown_inner}
 use Rattle.dg_turn.proofs.LandedTurn.{facing, bounced}
-use Rattle.dg_turn.proofs.Matching.{Goes, Matched, Full, skips, matches}
+use Rattle.dg_turn.proofs.Matching.{Goes, Matched, skips, matches}
 use Rattle.dg_turn.proofs.Moving.{moves, closes, closes_within}
-use Rattle.dg_turn.proofs.Opening.{Opened, opened_in}
+use Rattle.dg_turn.proofs.Opening.{opened_in}
 use Rattle.dg_turn.proofs.Places.{table_of, bytes_of, facts_same}
 use Rattle.dg_turn.proofs.Rows.{InRegisters, regs_of, regs_stay, length_registers}
 use Rattle.dg_turn.proofs.Staying.{IsKept, mid_with, mid_same}

@@ -206,8 +206,8 @@ module _ (made_works : MadeWorks) (t : Telling) (plays : Playing t) (out : Outsi
         let stays : (j : ℕ) → j ≢ 13 → j ≢ 36 → (15315 ≤ j → 15945 ≤ j) → c3 j ≡ w1.cells' j = λ j n13 n36 far. k.others j n13 n36 ∙ g.others j far in
         let words3 = joined out.words c3 in
         let mid3 : MidIn t words3 w1.sh' c3 r.trail (more n m) = mid_world t w1.sh' w1.cells' c3 r.trail (more n m) words3
-            (λ j n0 kept lt. stays j (λ (q : j ≡ 13). (let y = kept.0 (omega arith) in omega arith)) (λ (q : j ≡ 36). (let y = kept.1 (omega arith) in omega arith)) (λ q. absurd (omega arith)))
-            (λ j lt. joined_low out.words c3 j lt) (λ j le. sym (joined_high out.words c3 j le)) w1.mid in
+        (λ j n0 kept lt. stays j (λ (q : j ≡ 13). (let y = kept.0 (omega arith) in omega arith)) (λ (q : j ≡ 36). (let y = kept.1 (omega arith) in omega arith)) (λ q. absurd (omega arith)))
+        (λ j lt. joined_low out.words c3 j lt) (λ j le. sym (joined_high out.words c3 j le)) w1.mid in
         let last = concludes t.p plays.has plays.words 3500 19000 (omega arith) (omega arith) routine.body k.memory' out.typed out.output out.drawn behind c3 k.holds false one in
         let y = t.p.names.routine FAIL in
         let skip = skips t words3 plays.has 3500 19000 (omega arith) (omega arith) w1.sh' out.typed out.output out.drawn routine.body (last_acts behind) 1 33 52 k.memory' c3 k.holds (omega arith) (omega arith) (omega arith) (omega arith) (λ (q : c3 13 ≡ 0). (omega arith)) (Returns y) (now last.memory') 4 last.runs in

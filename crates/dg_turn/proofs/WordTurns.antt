@@ -1,5 +1,5 @@
 -- Splitting a word is a turn, and so is joining words: what makes a value of letters is.
-use Rattle.std.proofs.Common.{◌≡◌, ℕ, ◌+◌, ◌*◌, ◌-◌, ◌<◌, ◌≤◌, false, List, [], ◌∷◌, Option, Some, None, refl, sym, ap, ◌∙◌, subst, arith}
+use Rattle.std.proofs.Common.{◌≡◌, ℕ, ◌+◌, ◌*◌, ◌-◌, ◌<◌, ◌≤◌, false, List, [], ◌∷◌, Option, Some, None, refl, sym, subst, arith}
 use Rattle.dg_base.specs.declared.program.Term.{Term}
 use Rattle.dg_meaning.specs.Copies.{copy_cells}
 use Rattle.dg_meaning.specs.Substitutions.{Substitution, walk, links, resolved, contains}
@@ -23,9 +23,9 @@ use Rattle.dg_rt.proofs.SplitWords.{split_works}
 use Rattle.dg_rt.proofs.Joined.{join_works}
 use Rattle.dg_turn.specs.Told.{Telling}
 use Rattle.dg_turn.specs.Plays.{Playing, Outside}
-use Rattle.dg_turn.specs.Operating.{term_value, term_links, InFront}
+use Rattle.dg_turn.specs.Operating.{term_value, InFront}
 use Rattle.dg_turn.specs.Typing.{HasTables}
-use Rattle.dg_turn.specs.Wording.{word_routine, split_routine, join_routine, spelled_by, making, split_letters, apart, split_most, join_letters, join_most, Wording, SplitTurns, JoinTurns}
+use Rattle.dg_turn.specs.Wording.{word_routine, spelled_by, making, Wording, SplitTurns, JoinTurns}
 use Rattle.dg_turn.proofs.WordTurn.{Written, MadeOf, is_given, word_turn}
 
 split_at : (p : Program) → HasRunTime p → p.routine_at (p.names.routine SPLIT) ≡ Some (routine_of 2 SPLIT_ACTS)

@@ -1,6 +1,6 @@
 -- Queries of closures, as turns: a value is looked up, the body of its closure is found, and it is entered. Hold it against `queries` and `enters_body` of
 -- dg_mid/specs/Step.antt.
-use Rattle.std.specs.Prelude.{◌≡◌, ◌≢◌, ℕ, suc, ◌+◌, ◌*◌, ◌<◌, ◌≤◌, List, [], ◌∷◌, ◌++◌, length, map, Option, Some, None, Bool, true}
+use Rattle.std.specs.Prelude.{◌≡◌, ◌≢◌, ℕ, suc, ◌+◌, ◌*◌, ◌<◌, ◌≤◌, List, [], ◌∷◌, ◌++◌, length, map, Option, Some, Bool, true}
 use Rattle.std.specs.List.{zip, slice_get}
 use Rattle.dg_base.specs.declared.program.CoreProgram.{CoreProgram}
 use Rattle.dg_base.specs.declared.program.Term.{Term}

@@ -1,5 +1,5 @@
 -- What turns of gatherings cost is within what code is paid for. Hold it against dg_mid/specs/Units.antt.
-use Rattle.std.specs.Prelude.{◌≡◌, ℕ, ◌+◌, ◌≤◌, List, [], ◌∷◌, Option, Some, None}
+use Rattle.std.specs.Prelude.{◌≡◌, ℕ, ◌+◌, ◌≤◌, List, [], ◌∷◌, Some, None}
 use Rattle.dg_base.specs.declared.program.Term.{Term}
 use Rattle.dg_meaning.specs.Cells.{nodes_of}
 use Rattle.dg_meaning.specs.Numbers.{total}

@@ -1,15 +1,11 @@
 -- A story that is played from one routine to the next: where the player is, and what memory stands for there. Hold it against the Z-machine standard,
 -- section 6 (on calling routines), and dg_mid/specs/State.antt.
-use Rattle.std.specs.Prelude.{◌≡◌, ℕ, zero, suc, ◌<◌, ◌≤◌, List, [], ◌∷◌, ◌++◌, length, Some}
+use Rattle.std.specs.Prelude.{◌≡◌, ℕ, zero, suc, ◌<◌, ◌≤◌, List, [], ◌∷◌, ◌++◌, length}
 use Rattle.dg_base.specs.declared.run.Ending.{Ending}
 use Rattle.dg_mid.specs.State.{Call, Mid}
 use Rattle.z_model.specs.declared.end.ZEnd.TheVariants as ends
 use Rattle.z_model.specs.Run.{ZState}
 use Rattle.z_code.specs.Targets.{OpsAt}
-use Rattle.z_lang.specs.declared.act.Act.{Act}
-use Rattle.z_lang.specs.declared.act.Act.TheVariants as acts
-use Rattle.z_lang.specs.declared.act.Args.TheVariants as args
-use Rattle.z_lang.specs.declared.act.Atom.TheVariants as atoms
 use Rattle.z_lang.specs.Code.{ops_of_acts}
 use Rattle.z_lang.specs.Leads.{Leads, Ends}
 use Rattle.z_lang.specs.Standing.{RoutinesStand, IsKept, HasRoom, state_at}

@@ -18,7 +18,7 @@ use Rattle.dg_meaning.specs.World.{Print}
 use Rattle.dg_mid.specs.declared.code.Op.{Op}
 use Rattle.dg_mid.specs.declared.code.Op.TheVariants as op
 use Rattle.dg_mid.specs.Heights.{AgreeAll, StatusOrdered}
-use Rattle.dg_mid.specs.State.{Place, Find, Tries, Choice, Mid, Status, Runs, Resumes, Fails, place_of}
+use Rattle.dg_mid.specs.State.{Place, Find, Tries, Choice, Mid, Runs, Resumes, Fails, place_of}
 use Rattle.dg_mid.specs.Step.{Setting, bound, more, trail_more, inside, within, cut_to, back_at, trying_cells}
 use Rattle.dg_mid.specs.Units.{dropped, undone}
 use Rattle.z_model.specs.Run.{ZState}
@@ -48,7 +48,7 @@ use Rattle.dg_turn.specs.Plays.{Outside, Playing, Represented, registers, Comes,
 use Rattle.dg_turn.specs.Terms.{AreNodes, terms_acts, written_in}
 use Rattle.dg_turn.specs.Turns.{agreed_next, match_acts, commit_routine}
 use Rattle.dg_turn.specs.Operating.{term_value, term_links, InFront, Deciding}
-use Rattle.dg_turn.specs.World.{FactsIn, HasWorld, HasValues, value_equation, value_unified, answering_most}
+use Rattle.dg_turn.specs.World.{FactsIn, HasWorld, HasValues, value_equation, value_unified}
 use Rattle.dg_turn.specs.Paid.{paid}
 
 -- ## Queries

@@ -1,11 +1,10 @@
 -- Typed lines as turns. Hold it against docs/LANGUAGE.md, "Typed lines and words", and `takes_line` of dg_meaning/specs/Moves.antt.
 use Rattle.std.specs.Prelude.{◌≡◌, ◌≢◌, ℕ, ◌+◌, ◌*◌, ◌<◌, ◌≤◌, List, [], ◌∷◌, ◌++◌, length, Some, None}
-use Rattle.std.specs.List.{slice_get}
 use Rattle.dg_base.specs.declared.program.CoreProgram.{CoreProgram}
 use Rattle.dg_base.specs.declared.program.GapKind.TheVariants.{Line}
 use Rattle.dg_base.specs.declared.program.Term.{Term}
 use Rattle.dg_base.specs.declared.run.Ending.TheVariants.{HeapLimit, TrailLimit}
-use Rattle.dg_meaning.specs.Cells.{cells, captured_count}
+use Rattle.dg_meaning.specs.Cells.{cells}
 use Rattle.dg_meaning.specs.Copies.{copy_cells}
 use Rattle.dg_meaning.specs.Letters.{letters_in}
 use Rattle.dg_meaning.specs.Render.{Met, met_behind}

@@ -1,6 +1,6 @@
 -- What splitting and joining words costs is paid for: the letters are, for each word of the program, and what is looked at. Hold it against
 -- dg_mid/specs/Units.antt.
-use Rattle.std.specs.Prelude.{◌≡◌, ℕ, ◌≤◌, List, [], ◌∷◌}
+use Rattle.std.specs.Prelude.{◌≡◌, ◌≤◌, List, [], ◌∷◌}
 use Rattle.dg_base.specs.declared.program.Term.{Term}
 use Rattle.dg_meaning.specs.Cells.{nodes_of}
 use Rattle.dg_meaning.specs.Words.{spelled_value}

@@ -8,7 +8,7 @@ use Rattle.dg_base.specs.declared.program.PlaceKind.TheVariants.{Flag, ObjectFla
 use Rattle.dg_base.specs.declared.program.Term.{Term}
 use Rattle.dg_base.specs.declared.run.Ending.TheVariants.{HeapLimit, TrailLimit}
 use Rattle.dg_base.specs.Sound.{terms_of_kind}
-use Rattle.dg_meaning.specs.Cells.{captured_count, cells}
+use Rattle.dg_meaning.specs.Cells.{cells}
 use Rattle.dg_meaning.specs.Changes.{change_of}
 use Rattle.dg_meaning.specs.Facts.{Fact, value_at, Alteration, kinds_of, kept_size}
 use Rattle.dg_meaning.specs.Substitutions.{walk, resolved}
