@@ -70,7 +70,7 @@ use Rattle.dg_fits.specs.inside.Bytes.{room, rooms, bytes}
 use Rattle.dg_emit.proofs.Left.{nodes_next}
 use Rattle.dg_fits.proofs.Names.{chars_few}
 use Rattle.dg_fits.proofs.SelectRoutine.{select_few}
-use Rattle.dg_fits.proofs.Terms.{bytes_append, num_bytes, spare_at, spare, terms_room}
+use Rattle.dg_fits.proofs.Terms.{bytes_append, num_bytes, spare_at, first_spare, terms_room}
 
 -- ## Room
 
@@ -240,7 +240,7 @@ module _ (p : CoreProgram) where
 
   -- a variable that is the first term leaves what it has to spare
   found_room : (s : Sought) (ts : List Term) (behind tries : ℕ) → length ts ≡ sought_terms s →
-      room (find_routine p s ts behind tries) + spare (nodes_of ts) ≤ 21 + 8 * sought_terms s + terms_weight (bytes p) ts
+      room (find_routine p s ts behind tries) + first_spare (nodes_of ts) ≤ 21 + 8 * sought_terms s + terms_weight (bytes p) ts
   found_room s ts behind tries many =
       omega (
         arith,
@@ -307,7 +307,7 @@ module _ (p : CoreProgram) where
   finding_room place t ts many behind tries next f =
       let found = ap (λ (s : Option Sought). room (find_of p s (t ∷ ts) behind tries)) f.sought_is in
       let tried = ap (λ (s : Option Sought). room (tries_for p s (label_at (out-Term t)) many next)) f.sought_is in
-      let first = ap spare (nodes_next t ts) in
+      let first = ap first_spare (nodes_next t ts) in
       omega (arith, found_room f.sought (t ∷ ts) behind tries f.fits, tries_room f.sought (out-Term t) many next, first)
 
   -- a query of a global variable

@@ -70,9 +70,9 @@ abbrev pub spare_at : term.Term-F Term → ℕ
 spare_at (term.Var n) = 25
 spare_at x = 0
 
-abbrev pub spare : List Term → ℕ
-spare [] = 0
-spare (x ∷ xs) = spare_at (out-Term x)
+abbrev pub first_spare : List Term → ℕ
+first_spare [] = 0
+first_spare (x ∷ xs) = spare_at (out-Term x)
 
 node_few : (p : CoreProgram) (o : ℕ) (x : term.Term-F Term) → body_bytes (node_acts p o x) + spare_at x ≤ node_bytes p x
 node_few p o (term.Pair head tail) =
@@ -84,14 +84,14 @@ node_few p o (term.Pair head tail) =
       word_few 52 (o + 3) (out-Term head),
       word_few 52 (o + 3 + cells p (head ∷ [])) (out-Term tail),
     )
-node_few p o (term.Closure c) = closure_few o c (captured_of (slice_get p.closures c))
+node_few p o (term.Closure c) = omega (arith, closure_few o c (captured_of (slice_get p.closures c)))
 node_few p o (term.Num n) = omega arith
 node_few p o (term.Word n) = omega arith
 node_few p o (term.Object n) = omega arith
 node_few p o term.Nil = omega arith
 node_few p o (term.Var n) = omega arith
 
-nodes_few : (p : CoreProgram) (o : ℕ) (xs : List Term) → body_bytes (nodes_acts p o xs) + spare xs ≤ all_bytes p xs
+nodes_few : (p : CoreProgram) (o : ℕ) (xs : List Term) → body_bytes (nodes_acts p o xs) + first_spare xs ≤ all_bytes p xs
 nodes_few p o [] = omega arith
 nodes_few p o (x ∷ xs) =
     let behind = o + node_cells p (out-Term x) in
@@ -103,15 +103,15 @@ charge_few : (n : ℕ) → body_bytes (charge_acts n) ≤ 6
 charge_few zero = omega arith
 charge_few (suc n) = omega (arith, num_bytes (nat_lt (suc n) 256))
 
-laying_few : (p : CoreProgram) (v : ℕ) (ts : List Term) → body_bytes (laying_acts p v ts) + spare (nodes_of ts) ≤ all_bytes p (nodes_of ts) + 7 * length ts
+laying_few : (p : CoreProgram) (v : ℕ) (ts : List Term) → body_bytes (laying_acts p v ts) + first_spare (nodes_of ts) ≤ all_bytes p (nodes_of ts) + 7 * length ts
 laying_few p v ts = by_room (nat_lt 10000 (cells p ts))
   where
-    by_room : (b : Bool) → body_bytes (if b then [] else nodes_acts p 0 (nodes_of ts) ++ words_acts p v 0 ts) + spare (nodes_of ts) ≤ all_bytes p (nodes_of ts) + 7 * length ts
+    by_room : (b : Bool) → body_bytes (if b then [] else nodes_acts p 0 (nodes_of ts) ++ words_acts p v 0 ts) + first_spare (nodes_of ts) ≤ all_bytes p (nodes_of ts) + 7 * length ts
     by_room true = omega (arith, nodes_few p 0 (nodes_of ts))
     by_room false =
         omega (arith, bytes_append (nodes_acts p 0 (nodes_of ts)) (words_acts p v 0 ts), nodes_few p 0 (nodes_of ts), words_few p v 0 ts)
 
-terms_few : (p : CoreProgram) (v : ℕ) (ts : List Term) → body_bytes (terms_acts p v ts) + spare (nodes_of ts) ≤ 6 + all_bytes p (nodes_of ts) + 7 * length ts
+terms_few : (p : CoreProgram) (v : ℕ) (ts : List Term) → body_bytes (terms_acts p v ts) + first_spare (nodes_of ts) ≤ 6 + all_bytes p (nodes_of ts) + 7 * length ts
 terms_few p v ts =
     omega (arith, bytes_append (charge_acts (capped (cells p ts))) (laying_acts p v ts), charge_few (capped (cells p ts)), laying_few p v ts)
 
@@ -144,7 +144,7 @@ terms_alike p [] = refl
 terms_alike p (t ∷ ts) = omega (arith, nodes_append p (nodes t) (nodes_of ts), terms_alike p ts)
 
 -- terms are written in no more bytes than they weigh, with 6 to spare for each, and what a variable has that is the first
-pub terms_room : (p : CoreProgram) (v : ℕ) (ts : List Term) → body_bytes (terms_acts p v ts) + 6 * length ts + spare (nodes_of ts) ≤ 6 + terms_weight (bytes p) ts
+pub terms_room : (p : CoreProgram) (v : ℕ) (ts : List Term) → body_bytes (terms_acts p v ts) + 6 * length ts + first_spare (nodes_of ts) ≤ 6 + terms_weight (bytes p) ts
 terms_room p v ts = omega (arith, terms_few p v ts, nodes_many ts, nodes_alike p (nodes_of ts), terms_alike p ts)
 
 -- ## What they count
