@@ -19,7 +19,8 @@ use Rattle.z_story.specs.Parts.{image_of}
 use Rattle.dg_rt.specs.CopiesIn.{HasCaptures}
 use Rattle.dg_rt.specs.Words.{words_table}
 use Rattle.dg_turn.specs.Told.{count_told, told_count}
-use Rattle.dg_story.specs.Built.{captures_table, words_part, areas_table, world_table, sites_table, story_parts, IsStoryOf}
+use Rattle.dg_story.specs.Kept.{kept_blocks}
+use Rattle.dg_story.specs.Built.{captures_table, words_part, kept_table, world_table, sites_table, story_parts, IsStoryOf}
 use Rattle.dg_story.proofs.Mapped.{p, has}
 
 abbrev given : Option ℕ → ℕ
@@ -59,7 +60,7 @@ closure_there (c ∷ cs) (suc place) few = let k = closure_there cs place few in
 
 module _ (program : CoreProgram) (code : Code) (keeps : Bool) (story : List ℕ) (is : IsStoryOf (story_parts program code keeps) story) (dice : List ℕ) where
   table_is : (p program code keeps story is dice).names.table 0 ≡ (p program code keeps story is dice).world.layout.base
-  table_is = first_fixed tables_from (image_base (image_of (story_parts program code keeps))) (captures_table program.closures) (words_part program.words ∷ areas_table ∷ world_table program ∷ sites_table code ∷ []) refl ∙ sym is.assembled.header.base
+  table_is = first_fixed tables_from (image_base (image_of (story_parts program code keeps))) (captures_table program.closures) (words_part program.words ∷ kept_table (kept_blocks program) ∷ world_table program ∷ sites_table code ∷ []) refl ∙ sym is.assembled.header.base
 
   pub told : HasCaptures (p program code keeps story is dice) story (told_count program)
   told = record {

@@ -1,5 +1,5 @@
 -- A program that isn't refused has a story.
-use Rattle.std.proofs.Common.{◌≡◌, ℕ, ◌+◌, ◌*◌, ◌≤◌, List, [], ◌∷◌, ◌++◌, length, refl, map, Bool, true, false, inl, inr, arith, length-append}
+use Rattle.std.proofs.Common.{◌≡◌, ℕ, ◌+◌, ◌*◌, ◌≤◌, List, [], ◌∷◌, ◌++◌, length, refl, map, Bool, false, inl, inr, arith, length-append}
 use Rattle.std.proofs.lemmas.List.{length-map}
 use Rattle.std.specs.List.{All}
 use Rattle.dg_base.specs.declared.program.ClosureBody.{ClosureBody}
@@ -14,8 +14,8 @@ use Rattle.dg_fits.specs.Laws as fits
 use Rattle.dg_fits.specs.Sizes.{words_size}
 use Rattle.dg_story.specs.Built.{story_tables, site_words, story_parts, HasNoStory}
 use Rattle.dg_story.specs.inside.Stories.{IsWritten, HasStory}
-use Rattle.dg_story.proofs.Mapped.{long}
-use Rattle.dg_story.proofs.Rows.{behind_areas, behind_long, StartsFit}
+use Rattle.dg_story.proofs.Mapped.{written_long}
+use Rattle.dg_story.proofs.Rows.{from_kept_long, StartsFit}
 use Rattle.dg_story.proofs.Begun.{starts_so}
 use Rattle.dg_story.proofs.RefusalLemmas.{closures_few, world_fits, words_fit, story_fits}
 
@@ -38,9 +38,6 @@ told_long program code =
     let bytes = map (λ (c : ClosureBody). length c.captured) program.closures in
     omega (arith, length-append bytes (words_table program.words ++ []), length-append (words_table program.words) [], words_long program.words, length-map program.closures (λ (c : ClosureBody). length c.captured))
 
-written_long : (program : CoreProgram) (code : Code) → length (table_bytes true (story_tables program code)) ≡ 31284 + length (behind_areas program (site_words code))
-written_long program code = long 31284 (behind_areas program (site_words code))
-
 module _ (fit : fits.StoriesFit) (suit : fits.CodesSuit) (assembled : fits.RoutinesFit) (program : CoreProgram) (code : Code) (written : IsWritten program code) where
   sized : fits.IsSized program code
   sized = record {
@@ -62,7 +59,7 @@ module _ (fit : fits.StoriesFit) (suit : fits.CodesSuit) (assembled : fits.Routi
   suits = suit program code sized
 
   short : fits.AreShort program (story_tables program code)
-  short = record { written = omega (arith, written_long program code, behind_long program (site_words code), starts.small, suits.sites_few); told = omega (arith, told_long program code, words_fit program written.fits) }
+  short = record { written = omega (arith, written_long program code, from_kept_long program (site_words code), starts.small, suits.sites_few); told = omega (arith, told_long program code, words_fit program written.fits) }
 
   front_fits : (keeps : Bool) → image.front_of (image_of (story_parts program code keeps)) ≤ 65536
   front_fits keeps = (fit program code sized).near (story_tables program code) keeps short

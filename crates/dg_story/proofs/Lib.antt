@@ -1,9 +1,13 @@
 pub mod CountLemmas
 pub mod RefusalLemmas
 pub mod WorldLemmas
-pub mod NoneKept
 pub mod Numbered
 pub mod Worlds
+pub mod KeptStart
+pub mod KeptFactsLaid
+pub mod KeptValues
+pub mod KeptBytes
+pub mod Below
 pub mod Rows
 pub mod Begun
 pub mod Mapped

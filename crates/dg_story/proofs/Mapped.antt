@@ -1,5 +1,5 @@
 -- Where what may be written ends in a built story, and where its routines are.
-use Rattle.std.proofs.Common.{◌≡◌, ℕ, ◌+◌, ◌<◌, List, ◌++◌, length, map, replicate, Bool, true, Some, inl, ⊎_elim, ◌∙◌, arith, length-append}
+use Rattle.std.proofs.Common.{◌≡◌, ℕ, ◌+◌, ◌<◌, List, ◌++◌, length, map, replicate, Bool, true, Some, inl, ⊎_elim, ap, ◌∙◌, arith, length-append}
 use Rattle.std.specs.List.{slice_get}
 use Rattle.std.proofs.lemmas.Bool.{cases_lt}
 use Rattle.std.proofs.lemmas.List.{length-replicate}
@@ -18,15 +18,19 @@ use Rattle.dg_emit.specs.Code.{code_routines}
 use Rattle.dg_emit.specs.Story.{first_number, story_routines}
 use Rattle.dg_story.specs.Built.{story_tables, site_words, story_parts, IsStoryOf}
 use Rattle.dg_story.proofs.Numbered.{runtime_has, code_has}
-use Rattle.dg_story.proofs.Rows.{behind_areas}
+use Rattle.dg_story.proofs.Rows.{from_kept, from_kept_long, written_is}
 
 -- so many zeros
 abbrev pub zeros : ℕ → List ℕ
 zeros n = replicate n 0
 
--- the areas and what stands behind them
-pub long : (n : ℕ) (behind : List ℕ) → length (zeros n ++ behind) ≡ n + length behind
+-- zeros and what stands behind them
+long : (n : ℕ) (behind : List ℕ) → length (zeros n ++ behind) ≡ n + length behind
 long n behind = omega (arith, length-append (zeros n) behind, length-replicate {A = ℕ} n 0)
+
+-- So many bytes may be written.
+pub written_long : (program : CoreProgram) (code : Code) → length (table_bytes true (story_tables program code)) ≡ 28024 + length (from_kept program (site_words code))
+written_long program code = ap length (written_is program (zeros 28024) (site_words code)) ∙ long 28024 (from_kept program (site_words code))
 
 module _ (program : CoreProgram) (code : Code) (keeps : Bool) (story : List ℕ) (is : IsStoryOf (story_parts program code keeps) story) (dice : List ℕ) where
   abbrev pub p : Program
@@ -35,9 +39,9 @@ module _ (program : CoreProgram) (code : Code) (keeps : Bool) (story : List ℕ)
   abbrev image : Image
   image = image_of (story_parts program code keeps)
 
-  pub base_is : p.world.layout.base ≡ 31954 + length (behind_areas program (site_words code))
+  pub base_is : p.world.layout.base ≡ 28694 + length (from_kept program (site_words code))
   base_is =
-      let written : length (table_bytes true (story_tables program code)) ≡ 31284 + length (behind_areas program (site_words code)) = long 31284 (behind_areas program (site_words code)) in
+      let written : length (table_bytes true (story_tables program code)) ≡ 28024 + length (from_kept program (site_words code)) = written_long program code in
       is.assembled.header.base ∙ (omega (arith, written))
 
   pub globals_are : p.world.layout.globals ≡ 64
@@ -49,7 +53,7 @@ module _ (program : CoreProgram) (code : Code) (keeps : Bool) (story : List ℕ)
 
   pub has : HasRunTime p
   has = record {
-    mapped = record { room = let b = base_is in omega arith };
+    mapped = record { room = let b = base_is in let l = from_kept_long program (site_words code) in omega arith };
     each = λ k r e. routine_is (1 + k) r (runtime_has program code keeps k r e);
   }
 

@@ -1,5 +1,5 @@
--- The memory of a built story begins with zeros and with what starts set in the world, as far as it may be written.
-use Rattle.std.proofs.Common.{◌≡◌, ℕ, zero, suc, ◌+◌, ◌-◌, ◌*◌, ◌<◌, ◌≤◌, List, [], ◌∷◌, ◌++◌, length, take, replicate, get_or, inl, inr, Bool, false, refl, sym, ap, ◌∙◌, arith, append_assoc, length-append}
+-- The memory of a built story begins with zeros and with what starts set, as far as it may be written.
+use Rattle.std.proofs.Common.{◌≡◌, ℕ, zero, suc, ◌+◌, ◌-◌, ◌*◌, ◌<◌, ◌≤◌, List, [], ◌∷◌, ◌++◌, length, take, replicate, get_or, inl, inr, Bool, true, false, refl, sym, ap, ◌∙◌, arith, append_assoc, length-append}
 use Rattle.std.specs.Prelude.{slice_index}
 use Rattle.std.proofs.Math.Seq.{take-length}
 use Rattle.std.proofs.lemmas.Bool.{cases_lt}
@@ -15,7 +15,7 @@ use Rattle.z_story.specs.Parts.{image_of}
 use Rattle.dg_rt.specs.Cells.{cell, Holds}
 use Rattle.dg_story.specs.Built.{story_tables, site_words, story_parts, IsStoryOf}
 use Rattle.dg_story.proofs.Mapped.{zeros, p, base_is, globals_are}
-use Rattle.dg_story.proofs.Rows.{behind_front, in_front, there, are_words, behind_areas, start_words, StartsFit, all_below}
+use Rattle.dg_story.proofs.Rows.{behind_front, in_front, there, are_words, from_kept, start_words, written_is, StartsFit, all_below}
 
 -- all bytes are zeros
 abbrev AreZeros : List ℕ → Type 0
@@ -95,7 +95,7 @@ module _ (program : CoreProgram) (starts : StartsFit program) (code : Code) (kee
   memory_is = ap (λ (n : ℕ). take n story) is.assembled.header.length ∙ take-length story
 
   abbrev behind : List ℕ
-  behind = behind_areas program (site_words code)
+  behind = from_kept program (site_words code)
 
   -- what stands behind all that may be written
   abbrev others : List ℕ
@@ -103,49 +103,52 @@ module _ (program : CoreProgram) (starts : StartsFit program) (code : Code) (kee
       (table_bytes false (story_tables program code) ++ (dictionary ++ ops_bytes (image_names built) (label_from (code_start built) first_ops) (code_start built) first_ops))
       ++ (all_strings built ++ (image_routines built ++ replicate (aligned (image_end built) - image_end built) 0))
 
-  story_is : story ≡ header ++ (((zeros 606) ++ ((zeros 31284) ++ behind)) ++ others)
+  abbrev told : List ℕ
+  told = table_bytes false (story_tables program code) ++ (dictionary ++ ops_bytes (image_names built) (label_from (code_start built) first_ops) (code_start built) first_ops)
+
+  story_is : story ≡ header ++ (((zeros 606) ++ ((zeros 28024) ++ behind)) ++ others)
   unfolding story_of
   story_is =
       is.bytes
       ∙ ap (λ (l : List ℕ). header ++ l)
-      (split ((zeros 606)) ((zeros 31284) ++ behind) (table_bytes false (story_tables program code) ++ (dictionary ++ ops_bytes (image_names built) (label_from (code_start built) first_ops) (code_start built) first_ops))
-      (all_strings built ++ (image_routines built ++ replicate (aligned (image_end built) - image_end built) 0)))
+      (split ((zeros 606)) (table_bytes true (story_tables program code)) told (all_strings built ++ (image_routines built ++ replicate (aligned (image_end built) - image_end built) 0))
+      ∙ ap (λ (l : List ℕ). (zeros 606 ++ l) ++ others) (written_is program (zeros 28024) (site_words code)))
 
   -- a byte that may be written
-  zero_is : (a : ℕ) → a < 31890 → get_or story (64 + a) 0 ≡ 0
+  zero_is : (a : ℕ) → a < 28630 → get_or story (64 + a) 0 ≡ 0
   zero_is a lt =
       ap (λ (l : List ℕ). get_or l (64 + a) 0) story_is
-      ∙ ap (λ (n : ℕ). get_or (header ++ (((zeros 606) ++ ((zeros 31284) ++ behind)) ++ others)) (n + a) 0) (sym header_long)
-      ∙ zeros_in header behind others 606 31284 a (omega arith)
+      ∙ ap (λ (n : ℕ). get_or (header ++ (((zeros 606) ++ ((zeros 28024) ++ behind)) ++ others)) (n + a) 0) (sym header_long)
+      ∙ zeros_in header behind others 606 28024 a (omega arith)
 
-  byte_is : (a : ℕ) → a < length behind → get_or story (31954 + a) 0 ≡ get_or behind a 0
+  byte_is : (a : ℕ) → a < length behind → get_or story (28694 + a) 0 ≡ get_or behind a 0
   byte_is a lt =
-      let e : 31954 + a ≡ length header + (606 + 31284 + a) = omega (arith, header_long) in
-      ap (λ (l : List ℕ). get_or l (31954 + a) 0) story_is
-      ∙ ap (λ (n : ℕ). get_or (header ++ (((zeros 606) ++ ((zeros 31284) ++ behind)) ++ others)) n 0) e
-      ∙ bytes_in header behind others 606 31284 a lt
+      let e : 28694 + a ≡ length header + (606 + 28024 + a) = omega (arith, header_long) in
+      ap (λ (l : List ℕ). get_or l (28694 + a) 0) story_is
+      ∙ ap (λ (n : ℕ). get_or (header ++ (((zeros 606) ++ ((zeros 28024) ++ behind)) ++ others)) n 0) e
+      ∙ bytes_in header behind others 606 28024 a lt
 
-  long : 31954 + length behind ≤ length story
-  long = omega (arith, ap (λ (l : List ℕ). length l) story_is, long_enough header behind others 606 31284, header_long)
+  long : 28694 + length behind ≤ length story
+  long = omega (arith, ap (λ (l : List ℕ). length l) story_is, long_enough header behind others 606 28024, header_long)
 
   at : (a : ℕ) → slice_index (memory_of story) a ≡ get_or story a 0
   at a = ap (λ (l : List ℕ). get_or l a 0) memory_is
 
-  low_is : (k : ℕ) → k < 15945 → cell (memory_of story) k ≡ start_words program (site_words code) k
+  low_is : (k : ℕ) → k < 14315 → cell (memory_of story) k ≡ start_words program (site_words code) k
   low_is k lt =
       let e : 64 + 2 * k + 1 ≡ 64 + (2 * k + 1) = omega arith in
       let first : slice_index (memory_of story) (64 + 2 * k) ≡ 0 = at (64 + 2 * k) ∙ zero_is (2 * k) (omega arith) in
       let second : slice_index (memory_of story) (64 + 2 * k + 1) ≡ 0 = at (64 + 2 * k + 1) ∙ ap (λ (n : ℕ). get_or story n 0) e ∙ zero_is (2 * k + 1) (omega arith) in
-      omega (arith, first, second, in_front 15945 behind (all_below program starts (site_words code)) k lt)
+      omega (arith, first, second, in_front 14315 behind (all_below program starts (site_words code)) k lt)
 
-  high_is : (k : ℕ) → 15945 ≤ k → 2 * (k - 15945) + 1 < length behind → cell (memory_of story) k ≡ start_words program (site_words code) k
+  high_is : (k : ℕ) → 14315 ≤ k → 2 * (k - 14315) + 1 < length behind → cell (memory_of story) k ≡ start_words program (site_words code) k
   high_is k le lt =
-      let j = k - 15945 in
-      let e : 64 + 2 * k ≡ 31954 + 2 * j = omega arith in
-      let e' : 64 + 2 * k + 1 ≡ 31954 + (2 * j + 1) = omega arith in
+      let j = k - 14315 in
+      let e : 64 + 2 * k ≡ 28694 + 2 * j = omega arith in
+      let e' : 64 + 2 * k + 1 ≡ 28694 + (2 * j + 1) = omega arith in
       let first : slice_index (memory_of story) (64 + 2 * k) ≡ get_or behind (2 * j) 0 = at (64 + 2 * k) ∙ ap (λ (n : ℕ). get_or story n 0) e ∙ byte_is (2 * j) (omega arith) in
       let second : slice_index (memory_of story) (64 + 2 * k + 1) ≡ get_or behind (2 * j + 1) 0 = at (64 + 2 * k + 1) ∙ ap (λ (n : ℕ). get_or story n 0) e' ∙ byte_is (2 * j + 1) lt in
-      omega (arith, first, second, there 15945 behind (all_below program starts (site_words code)) k le)
+      omega (arith, first, second, there 14315 behind (all_below program starts (site_words code)) k le)
 
   -- What may be written has addresses.
   pub near : (p program code keeps story is dice).world.layout.base ≤ 65536
@@ -162,9 +165,9 @@ module _ (program : CoreProgram) (starts : StartsFit program) (code : Code) (kee
         globals = globals_are program code keeps story is dice;
         base = omega (arith, long, ap (λ (l : List ℕ). length l) memory_is);
         low = near;
-        is = λ k within. elim (cases_lt k 15945) [
+        is = λ k within. elim (cases_lt k 14315) [
           | inl lt ↦ low_is k lt
           | inr le ↦ high_is k le (omega arith)
         ];
-        words = are_words 15945 behind (all_below program starts (site_words code));
+        words = are_words 14315 behind (all_below program starts (site_words code));
       }

@@ -1,62 +1,35 @@
 -- What follows where a program isn't refused.
-use Rattle.std.proofs.Common.{◌≡◌, ℕ, ◌*◌, ◌≤◌, List, [], ◌∷◌, length, Some, None, Bool, true, false, refl, arith}
+use Rattle.std.proofs.Common.{◌≡◌, ◌*◌, ◌≤◌, List, [], ◌∷◌, length, Some, None, Bool, true, false, refl, arith}
 use Rattle.std.proofs.Common.{rules}
-use Rattle.std.specs.Prelude.{not, nat_lt, ◌&&◌, if◌then◌else◌}
+use Rattle.std.specs.Prelude.{nat_lt, if◌then◌else◌}
 use Rattle.std.proofs.lemmas.Bool.{ltb-false}
-use Rattle.dg_base.specs.declared.program.Place.{Place}
-use Rattle.dg_base.specs.declared.program.PlaceKind.{PlaceKind}
-use Rattle.dg_base.specs.declared.program.PlaceKind.TheVariants.{Global}
 use Rattle.dg_base.specs.declared.program.Rule.{Rule}
 use Rattle.dg_base.specs.declared.program.Pred.{Pred}
-use Rattle.dg_base.specs.declared.program.Term.{Term}
 use Rattle.dg_base.specs.declared.program.CoreProgram.{CoreProgram}
 use Rattle.dg_fits.specs.Sizes.{world_size, words_size, rules_size, preds_size, story_size}
-use Rattle.dg_story.specs.declared.refusal.BuildRefusal.TheVariants.{NotBuiltYet, WorldTooLarge, WordsTooLarge, StoryTooLarge}
-use Rattle.dg_story.specs.Refusals.{is_unset, globals_unset, can_be_built, build_refusal}
+use Rattle.dg_story.specs.declared.refusal.BuildRefusal.TheVariants.{WorldTooLarge, WordsTooLarge, StoryTooLarge}
+use Rattle.dg_story.specs.Refusals.{build_refusal}
 use Rattle.dg_story.specs.Built.{rule_count}
-use Rattle.dg_story.specs.inside.World.{UnsetGlobals}
 
 -- No refusal's test holds.
-record NoneHolds (a b c f d : Bool) : Type 0 where
-  built : a ≡ true
+record NoneHolds (b c f d : Bool) : Type 0 where
   world : b ≡ false
   words : c ≡ false
   few : f ≡ false
   whole : d ≡ false
 
-none_holds : (a b c f d : Bool) → (if not a then Some NotBuiltYet else (if b then Some WorldTooLarge else (if c then Some WordsTooLarge else (if f then Some StoryTooLarge else (if d then Some StoryTooLarge else None))))) ≡ None → NoneHolds a b c f d
-none_holds true false false false false e = record { built = refl; world = refl; words = refl; few = refl; whole = refl }
-none_holds true false false false true e = absurd (search rules)
-none_holds true false false true d e = absurd (search rules)
-none_holds true false true f d e = absurd (search rules)
-none_holds true true c f d e = absurd (search rules)
-none_holds false b c f d e = absurd (search rules)
-
-both_hold : (a b : Bool) → (a && b) ≡ true → (a ≡ true) × (b ≡ true)
-both_hold true b e = (refl, e)
-both_hold false b e = absurd (cc)
-
-starts_unset : (kind : PlaceKind) (starts : List (ℕ × Term)) → is_unset kind starts ≡ true → kind ≡ Global → starts ≡ []
-starts_unset kind [] e g = refl
-starts_unset kind (start ∷ starts) e g = absurd (none_set kind start starts e g)
-  where
-    none_set : (k : PlaceKind) (s : ℕ × Term) (ss : List (ℕ × Term)) → is_unset k (s ∷ ss) ≡ true → k ≡ Global → ⊥
-    none_set k s ss t q = cc
-
-are_unset : (places : List Place) → globals_unset places ≡ true → UnsetGlobals places
-are_unset [] e = tt
-are_unset (place ∷ places) e =
-    let h = both_hold (is_unset place.kind place.start) (globals_unset places) e in
-    (starts_unset place.kind place.start h.0, are_unset places h.1)
+none_holds : (b c f d : Bool) → (if b then Some WorldTooLarge else (if c then Some WordsTooLarge else (if f then Some StoryTooLarge else (if d then Some StoryTooLarge else None)))) ≡ None → NoneHolds b c f d
+none_holds false false false false e = record { world = refl; words = refl; few = refl; whole = refl }
+none_holds false false false true e = absurd (search rules)
+none_holds false false true d e = absurd (search rules)
+none_holds false true f d e = absurd (search rules)
+none_holds true c f d e = absurd (search rules)
 
 module _ (p : CoreProgram) (e : build_refusal p ≡ None) where
-  none : NoneHolds (can_be_built p) (nat_lt 8000 (world_size p)) (nat_lt 20000 (words_size p.words)) (nat_lt 2200 (length p.closures)) (nat_lt 440000 (story_size p))
-  none = none_holds (can_be_built p) (nat_lt 8000 (world_size p)) (nat_lt 20000 (words_size p.words)) (nat_lt 2200 (length p.closures)) (nat_lt 440000 (story_size p)) e
+  none : NoneHolds (nat_lt 8000 (world_size p)) (nat_lt 20000 (words_size p.words)) (nat_lt 2200 (length p.closures)) (nat_lt 440000 (story_size p))
+  none = none_holds (nat_lt 8000 (world_size p)) (nat_lt 20000 (words_size p.words)) (nat_lt 2200 (length p.closures)) (nat_lt 440000 (story_size p)) e
 
-  -- No global variable starts with a value, there are few closures, and the sizes are within theirs.
-  pub unset : UnsetGlobals p.places
-  unset = are_unset p.places none.built
-
+  -- There are few closures, and the sizes are within theirs.
   pub closures_few : length p.closures ≤ 2200
   closures_few = ltb-false 2200 (length p.closures) none.few
 

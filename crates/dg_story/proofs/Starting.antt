@@ -33,7 +33,7 @@ use Rattle.dg_emit.specs.Story.{first_number}
 use Rattle.dg_story.specs.Built.{site_words, story_parts, keeps_within, IsStoryOf}
 use Rattle.dg_story.proofs.Mapped.{p, has, base_is}
 use Rattle.dg_story.proofs.Memory.{near}
-use Rattle.dg_story.proofs.Rows.{start_words, behind_long, zeros_behind, StartsFit, facts_start}
+use Rattle.dg_story.proofs.Rows.{start_words, from_kept_long, zeros_behind, StartsFit, facts_start}
 use Rattle.dg_story.proofs.Opening as opening
 
 module _ (program : CoreProgram) (starts : StartsFit program) (code : Code) (story : List ℕ) (is : IsStoryOf (story_parts program code true) story) (dice typed : List ℕ) (words : (k : ℕ) → (p program code true story is dice).names.routine k < 65536) (kept : keeps_within program ≡ true) where
@@ -140,7 +140,7 @@ module _ (program : CoreProgram) (starts : StartsFit program) (code : Code) (sto
       let marked = replaced first 2 32768 in
       facts_same program (start_facts program.places) first cells
       (λ k le. other_cell marked 0 asked k (λ (q : k ≡ 0). (omega arith)) ∙ other_cell first 2 32768 k (λ (q : k ≡ 2). (omega arith)))
-      (facts_start program starts (site_words code))
+      (facts_start program starts (site_words code) kept)
 
   -- nothing is kept of selects
   sites_here : SitesIn t machine.lasting.sites cells
@@ -159,13 +159,13 @@ module _ (program : CoreProgram) (starts : StartsFit program) (code : Code) (sto
 
   -- The world may be written.
   pub world : HasWorld t
-  world = record { few = starts.few; room = (let base = base_is program code true story is dice in omega (arith, behind_long program (site_words code))) }
+  world = record { few = starts.few; room = (let base = base_is program code true story is dice in omega (arith, from_kept_long program (site_words code))) }
 
   -- So may what is kept of selects.
   pub has_sites : AreSites program (sites_of code.blocks) → HasSites t
   has_sites are =
       let base = base_is program code true story is dice in
-      let long = behind_long program (site_words code) in
+      let long = from_kept_long program (site_words code) in
       let near = near program starts code true story is dice in
       record { are = are; room = omega arith; near = omega arith }
 

@@ -12,16 +12,17 @@ use Rattle.dg_base.specs.declared.program.PlaceKind.TheVariants.{Flag, ObjectFla
 use Rattle.dg_base.specs.declared.program.Term.{Term, out-Term}
 use Rattle.dg_base.specs.declared.program.Term.TheOpen as term
 use Rattle.dg_base.specs.Sound.{IsSimple, IsStartOf, IsPlaceOf, IsSound}
-use Rattle.dg_meaning.specs.Facts.{Fact, value_at, start_value, starts_from, start_facts, no_program, kinds_of}
+use Rattle.dg_meaning.specs.Facts.{Fact, value_at, kept_at, start_value, starts_from, start_facts, no_program, kinds_of}
 use Rattle.dg_meaning.specs.Values.{Value, value_of_leaf}
 use Rattle.dg_rt.specs.Cells.{bit}
 use Rattle.dg_rt.specs.Operands.{simple_word}
-use Rattle.dg_turn.specs.Starts.{set_word, object_words, object_bytes, words_of_place, bytes_of_place, words_from, bytes_from}
-use Rattle.dg_turn.specs.World.{place_words, place_bytes, all_words, all_bytes}
+use Rattle.dg_turn.specs.Starts.{set_word, object_words, object_bytes, bytes_of_place, bytes_from}
+use Rattle.dg_turn.specs.World.{place_bytes, all_bytes}
 use Rattle.dg_turn.proofs.Starting.{IsNoPair, leaf_is, of_object, of_nothing, fact_of, starts_elsewhere, behind}
-use Rattle.dg_turn.proofs.Starts.{table_long, flags_long}
+use Rattle.dg_turn.proofs.Starts.{flags_long}
 use Rattle.dg_story.specs.Built.{word_bytes}
-use Rattle.dg_story.specs.inside.World.{Starts, term_word, word_by, flag_by, words_by, flags_by, own_words, own_flags, world_words, world_flags}
+use Rattle.dg_story.specs.inside.World.{Starts, term_word, word_by, flag_by, words_by, flags_by, own_flags, world_flags, laid_own, laid_words}
+use Rattle.dg_story.specs.Kept.{place_words_at, start_words_from}
 
 -- ## One value
 
@@ -38,7 +39,7 @@ start_word : (x : Term) → IsSimple (out-Term x) → simple_word (start_value x
 start_word x simple = let l = by_leaf (out-Term x) simple in ap simple_word (leaf_is x l.1) ∙ l.0
 
 -- what the first of some starts that is of an object sets
-abbrev set_by : Starts → ℕ → Option Value
+abbrev pub set_by : Starts → ℕ → Option Value
 set_by [] o = None
 set_by (start ∷ starts) o = if nat_eq start.0 o then Some (start_value start.1) else set_by starts o
 
@@ -72,7 +73,7 @@ value_here p o (start ∷ starts) rest none =
     rw (eq-eqb p p refl) (ap (λ (s : Option Value). if nat_eq start.0 o then Some (start_value start.1) else s) (value_here p o starts rest none))
 
 -- What is set at a place is what its own starts set.
-set_at : (places : List Place) (n i : ℕ) (place : Place) → slice_get places i ≡ Some place → (o : ℕ) → value_at (starts_from n places) (n + i) o ≡ set_by place.start o
+pub set_at : (places : List Place) (n i : ℕ) (place : Place) → slice_get places i ≡ Some place → (o : ℕ) → value_at (starts_from n places) (n + i) o ≡ set_by place.start o
 set_at [] n i place e o = absurd (cc)
 set_at (pl ∷ pls) n zero place e o =
     let same : pl ≡ place = cc in
@@ -99,13 +100,6 @@ SimpleBy ObjectFlag starts = Unit {0}
 SimpleBy ObjectVar starts = AreSimple starts
 SimpleBy Parent starts = AreSimple starts
 SimpleBy Global starts = Unit {0}
-
-place_is : (objects : ℕ) (facts : List Fact) (place : ℕ) (kind : PlaceKind) (starts : Starts) → ((k : ℕ) → value_at facts place k ≡ set_by starts k) → SimpleBy kind starts → words_of_place objects facts place kind ≡ own_words objects kind starts
-place_is objects facts place Flag starts same simple = words_are facts starts place 0 1 same simple
-place_is objects facts place ObjectFlag starts same simple = refl
-place_is objects facts place ObjectVar starts same simple = words_are facts starts place 0 objects same simple
-place_is objects facts place Parent starts same simple = words_are facts starts place 0 objects same simple
-place_is objects facts place Global starts same simple = refl
 
 place_flags : (objects : ℕ) (facts : List Fact) (place : ℕ) (kind : PlaceKind) (starts : Starts) → ((k : ℕ) → value_at facts place k ≡ set_by starts k) → bytes_of_place objects facts place kind ≡ own_flags objects kind starts
 place_flags objects facts place Flag starts same = refl
@@ -142,12 +136,20 @@ module _ (program : CoreProgram) (facts : List Fact) where
   set_rest : (from : ℕ) (place : Place) (places : List Place) → SetAt from (place ∷ places) → SetAt (suc from) places
   set_rest from place places set i other e o = let q : suc from + i ≡ from + suc i = omega arith in ap (λ (k : ℕ). value_at facts k o) q ∙ set (suc i) other e o
 
-  all_words_are : (from : ℕ) (places : List Place) → SetAt from places → All (IsPlaceOf program) places → words_from n facts from (kinds places) ≡ world_words n places
-  all_words_are from [] set all = refl
-  all_words_are from (place ∷ places) set all =
+  laid_is : (kept : List Fact) (j from : ℕ) (kind : PlaceKind) (starts : Starts) → ((k : ℕ) → value_at facts from k ≡ set_by starts k) → SimpleBy kind starts → place_words_at n facts kept j from kind ≡ laid_own n kept j from kind starts
+  laid_is kept j from Flag starts same simple = words_are facts starts from 0 1 same simple
+  laid_is kept j from ObjectFlag starts same simple = refl
+  laid_is kept j from ObjectVar starts same simple = words_are facts starts from 0 n same simple
+  laid_is kept j from Parent starts same simple = words_are facts starts from 0 n same simple
+  laid_is kept j from Global starts same simple = refl
+
+  all_laid_are : (kept : List Fact) (j from : ℕ) (places : List Place) → SetAt from places → All (IsPlaceOf program) places → start_words_from n facts kept j from (kinds places) ≡ laid_words n kept j from places
+  all_laid_are kept j from [] set all = refl
+  all_laid_are kept j from (place ∷ places) set all =
       let first = All-head (IsPlaceOf program) place places all in
-      ap (λ (l : List ℕ). l ++ words_from n facts (suc from) (kinds places)) (place_is n facts from place.kind place.start (set_first from place places set) (simple_by program place.kind place.start first.starts))
-      ∙ ap (λ (l : List ℕ). own_words n place.kind place.start ++ l) (all_words_are (suc from) places (set_rest from place places set) (All-tail (IsPlaceOf program) place places all))
+      let next = j + kept_at kept from place.kind in
+      ap (λ (l : List ℕ). l ++ start_words_from n facts kept next (suc from) (kinds places)) (laid_is kept j from place.kind place.start (set_first from place places set) (simple_by program place.kind place.start first.starts))
+      ∙ ap (λ (l : List ℕ). laid_own n kept j from place.kind place.start ++ l) (all_laid_are kept next (suc from) places (set_rest from place places set) (All-tail (IsPlaceOf program) place places all))
 
   all_flags_are : (from : ℕ) (places : List Place) → SetAt from places → bytes_from n facts from (kinds places) ≡ world_flags n places
   all_flags_are from [] set = refl
@@ -163,8 +165,8 @@ module _ (program : CoreProgram) (sound : IsSound program) where
   set_here : SetAt program facts 0 program.places
   set_here i place e o = set_at program.places 0 i place e o
 
-  pub words_made : words_from (length program.objects) facts 0 (kinds_of program) ≡ world_words (length program.objects) program.places
-  words_made = all_words_are program facts 0 program.places set_here sound.places
+  pub laid_made : (kept : List Fact) (j : ℕ) → start_words_from (length program.objects) facts kept j 0 (kinds_of program) ≡ laid_words (length program.objects) kept j 0 program.places
+  laid_made kept j = all_laid_are program facts kept j 0 program.places set_here sound.places
 
   pub flags_made : bytes_from (length program.objects) facts 0 (kinds_of program) ≡ world_flags (length program.objects) program.places
   flags_made = all_flags_are program facts 0 program.places set_here
@@ -180,10 +182,6 @@ word_bytes_append [] ys = refl
 word_bytes_append (x ∷ xs) ys = ap (λ (l : List ℕ). x / 256 ∷ x % 256 ∷ l) (word_bytes_append xs ys)
 
 module _ (n : ℕ) (facts : List Fact) where
-  pub words_long : (from : ℕ) (ks : List PlaceKind) → length (words_from n facts from ks) ≡ all_words n ks
-  words_long from [] = refl
-  words_long from (k ∷ ks) = omega (arith, length-append (words_of_place n facts from k) (words_from n facts (suc from) ks), table_long n facts from k, words_long (suc from) ks, sum_by-cons (place_words n) k ks)
-
   pub flags_all_long : (from : ℕ) (ks : List PlaceKind) → length (bytes_from n facts from ks) ≡ all_bytes n ks
   flags_all_long from [] = refl
   flags_all_long from (k ∷ ks) = omega (arith, length-append (bytes_of_place n facts from k) (bytes_from n facts (suc from) ks), flags_long n facts from k, flags_all_long (suc from) ks, sum_by-cons (place_bytes n) k ks)

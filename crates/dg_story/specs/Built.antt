@@ -1,9 +1,9 @@
 -- What is built of a program: the story of its code. Hold it against dg_rt/specs/Areas.antt, which says where what lies in memory.
-use Rattle.std.specs.Prelude.{◌≡◌, ℕ, zero, suc, ◌<◌, ◌+◌, ◌-◌, ◌/◌, ◌%◌, ◌⊎◌, List, [], ◌∷◌, ◌++◌, length, map, replicate, nat_le, Bool, true, false}
+use Rattle.std.specs.Prelude.{◌≡◌, ℕ, zero, suc, ◌<◌, ◌+◌, ◌/◌, ◌%◌, ◌⊎◌, List, [], ◌∷◌, ◌++◌, length, map, replicate, Bool, true, false}
 use Rattle.dg_base.specs.declared.program.ClosureBody.{ClosureBody}
 use Rattle.dg_base.specs.declared.program.CoreProgram.{CoreProgram}
 use Rattle.dg_base.specs.declared.program.Pred.{Pred}
-use Rattle.dg_meaning.specs.Facts.{kinds_of, kept_size, start_facts}
+use Rattle.dg_meaning.specs.Facts.{kinds_of, start_facts}
 use Rattle.dg_mid.specs.declared.code.Code.{Code}
 use Rattle.dg_mid.specs.Codes.{Codes}
 use Rattle.dg_mid.specs.Potential.{Tidy}
@@ -13,14 +13,16 @@ use Rattle.z_asm.specs.Story as image
 use Rattle.z_story.specs.declared.building.Parts.{Parts}
 use Rattle.z_story.specs.Parts.{image_of}
 use Rattle.z_story.specs.Does.{StoryDoes}
-use Rattle.dg_rt.specs.Areas.{fixed_end}
-use Rattle.dg_rt.specs.Cells.{at_cell}
+use Rattle.dg_rt.specs.Areas.{kept_at}
+use Rattle.dg_rt.specs.Kept.{Block}
 use Rattle.dg_rt.specs.Words.{words_table}
 use Rattle.dg_turn.specs.Sites.{sites_of}
-use Rattle.dg_turn.specs.Starts.{words_from, bytes_from}
+use Rattle.dg_turn.specs.Starts.{bytes_from}
 use Rattle.dg_emit.specs.Numbers.{numbers_end}
 use Rattle.dg_emit.specs.Story.{first_number}
 use Rattle.dg_fits.specs.Laws.{parts_with}
+use Rattle.dg_story.specs.Kept.{kept_areas, start_words_from, kept_facts, kept_blocks}
+pub use Rattle.dg_story.specs.Kept.{keeps_within}
 use Rattle.dg_story.specs.declared.building.Built.{Built}
 use Rattle.dg_story.specs.declared.refusal.BuildFault.{BuildFault}
 use Rattle.dg_story.specs.declared.refusal.BuildFault.TheVariants.{Refused}
@@ -36,26 +38,23 @@ captures_table closures = record { bytes = map (λ (c : ClosureBody). length c.c
 abbrev pub words_part : List (List ℕ) → Table
 words_part words = record { bytes = words_table words; writable = false }
 
--- So many zeros may be written.
-abbrev pub zeros_table : ℕ → Table
-zeros_table size = record { bytes = replicate size 0; writable = true }
-
--- The areas that every story has stand first behind the registers and the object table.
-abbrev pub areas_table : Table
-areas_table = zeros_table (at_cell fixed_end - image.tables_from)
-
 -- Words, in two bytes each.
 abbrev pub word_bytes : List ℕ → List ℕ
 word_bytes [] = []
 word_bytes (w ∷ ws) = w / 256 ∷ w % 256 ∷ word_bytes ws
 
--- What starts set in the world: words, and then a byte for each flag of an object, filled up to a whole word.
+-- The areas that every story has stand first behind the registers and the object table: zeros, and between them what global variables start with.
+abbrev pub kept_table : List Block → Table
+kept_table bs = record { bytes = replicate 28024 0 ++ (word_bytes (kept_areas bs) ++ replicate 1260 0); writable = true }
+
+-- What starts set in the world: words, which tell where values are kept, and then a byte for each flag of an object, filled up to a whole word.
 abbrev pub world_table : CoreProgram → Table
 world_table program =
     let objects = length program.objects in
     let facts = start_facts program.places in
+    let words = start_words_from objects facts (kept_facts program) kept_at 0 (kinds_of program) in
     let flags = bytes_from objects facts 0 (kinds_of program) in
-    record { bytes = word_bytes (words_from objects facts 0 (kinds_of program)) ++ (flags ++ replicate (length flags % 2) 0); writable = true }
+    record { bytes = word_bytes words ++ (flags ++ replicate (length flags % 2) 0); writable = true }
 
 -- So many words of zero.
 abbrev pub zero_words : ℕ → List ℕ
@@ -72,7 +71,8 @@ sites_table code = record { bytes = zero_words (site_words code); writable = tru
 
 -- The tables of a program: the world lies behind the areas.
 abbrev pub program_tables : CoreProgram → List Table
-program_tables program = captures_table program.closures ∷ words_part program.words ∷ areas_table ∷ world_table program ∷ []
+program_tables program =
+    captures_table program.closures ∷ words_part program.words ∷ kept_table (kept_blocks program) ∷ world_table program ∷ []
 
 -- What is kept of selects lies behind the world.
 abbrev pub story_tables : CoreProgram → Code → List Table
@@ -98,10 +98,6 @@ too_large = Refused StoryTooLarge
 -- Code has no story of these parts: it has more routines than there are numbers, or they take more bytes than a story may have.
 abbrev pub HasNoStory : Code → Parts → Type 0
 HasNoStory code parts = (65535 < numbers_end first_number code) ⊎ image.IsTooLarge (image_of parts)
-
--- What starts keep is within the limit of a story.
-abbrev pub keeps_within : CoreProgram → Bool
-keeps_within program = nat_le (kept_size (kinds_of program) (start_facts program.places)) 500
 
 -- How many rules predicates have.
 abbrev pub rule_count : List Pred → ℕ

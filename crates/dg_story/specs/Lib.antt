@@ -1,3 +1,4 @@
 pub mod Refusals
+pub mod Kept
 pub mod Built
 pub mod inside

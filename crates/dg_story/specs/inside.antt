@@ -2,3 +2,4 @@ pub mod Counting
 pub mod Stories
 pub mod Left
 pub mod World
+pub mod Keeping

@@ -2,7 +2,9 @@
 ghost use Rattle.std.specs.Prelude.{◌≡◌, ◌<◌, ◌≤◌, ◌++◌, ◌∷◌, [], None, All, IfOk, OnOk, IsErrOf, length};
 ghost use Rattle.dg_base.specs.Sound.{IsSound};
 ghost use Rattle.dg_base.specs.declared.program.ClosureBody.{ClosureBody as TheClosure};
+ghost use Rattle.dg_meaning.specs.Facts.{kinds_of};
 ghost use Rattle.dg_meaning.specs.Few.{AllHoldFew, HeadsAreFew};
+ghost use Rattle.dg_turn.specs.Layout.{all_words};
 ghost use Rattle.dg_chain.specs.Agrees.{Agrees};
 ghost use Rattle.dg_emit.specs.Code.{CodeFits};
 ghost use Rattle.dg_emit.specs.Numbers.{numbers_end};
@@ -12,9 +14,11 @@ ghost use Rattle.z_asm.specs.Story.{IsTooLarge};
 ghost use Rattle.z_story.specs.Parts.{AreParts, image_of};
 ghost use Rattle.dg_story.specs.Refusals.{build_refusal};
 ghost use Rattle.dg_story.specs.Built as spec;
+ghost use Rattle.dg_story.specs.inside.Keeping.{KeepsWords};
 ghost use Rattle.dg_story.specs.inside.Left.{IsLeftOf, parts_left};
 ghost use Rattle.dg_story.specs.inside.World.{AllAreSmall};
 
+use crate::kept::{areas_table, start_world};
 use crate::laws::{programs_have_stories, stories_agree};
 use crate::refusal::{BuildFault, BuildRefusal};
 use crate::words::words_part;
@@ -38,9 +42,6 @@ pub struct Built {
 /// The cells that what starts keep may have.
 const KEEP: u32 = 500;
 
-/// The bytes of the areas that every story has, behind the registers and the object table.
-const AREAS: usize = 31_284;
-
 // How many values each closure captures, a byte each.
 fn captures_table(alloc: Global, closures: &[ClosureBody]) -> Result<Table, AllocError>
     requires { All (λ (c : TheClosure). length c.captured ≤ 255) closures.now }
@@ -54,23 +55,6 @@ fn captures_table(alloc: Global, closures: &[ClosureBody]) -> Result<Table, Allo
         bytes,
         writable: false,
     })
-}
-
-// So many zeros that may be written.
-fn zeros_table(alloc: Global, size: usize) -> Result<Table, AllocError>
-    ensures { IfOk result (λ table. table ≡ spec.zeros_table size) }
-{
-    Ok(Table {
-        bytes: Items::from_vec(vec![in alloc; 0u8; size]?),
-        writable: true,
-    })
-}
-
-// What may be written behind the object table.
-fn areas_table(alloc: Global) -> Result<Table, AllocError>
-    ensures { IfOk result (λ table. table ≡ spec.areas_table) }
-{
-    zeros_table(alloc, AREAS)
 }
 
 // A word of zero.
@@ -101,13 +85,16 @@ fn tables_of(alloc: Global, program: &CoreProgram) -> Result<Items<Table>, Alloc
     requires sound { IsSound program.now }
     requires starts { AllAreSmall program.now.places }
     requires few { words_size program.now.words ≤ 20000 }
+    requires keeps { KeepsWords program.now }
+    requires room { all_words (length program.now.objects) (kinds_of program.now) ≤ 4000 }
     ensures { IfOk result (λ tables. tables ≡ spec.program_tables program.now) }
 {
+    let world = start_world(alloc, program)?;
     let mut tables = Items::new(alloc);
     tables.push(captures_table(alloc, program.closures.as_slice())?)?;
     tables.push(words_part(alloc, program.words.as_slice())?)?;
-    tables.push(areas_table(alloc)?)?;
-    tables.push(world_table(alloc, program)?)?;
+    tables.push(areas_table(alloc, &world, program)?)?;
+    tables.push(world_table(alloc, &world, program)?)?;
     Ok(tables)
 }
 
@@ -161,6 +148,8 @@ fn left_of(alloc: Global, program: &CoreProgram) -> Result<Left, AllocError>
     requires sound { IsSound program.now }
     requires starts { AllAreSmall program.now.places }
     requires few { words_size program.now.words ≤ 20000 }
+    requires keeps { KeepsWords program.now }
+    requires room { all_words (length program.now.objects) (kinds_of program.now) ≤ 4000 }
     ensures { IfOk result (λ left. IsLeftOf program.now left) }
 {
     Ok(Left {

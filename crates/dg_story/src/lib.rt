@@ -3,7 +3,7 @@
 
 mod building;
 mod counting;
-mod goals;
+mod kept;
 mod laws;
 mod refusal;
 mod refused;

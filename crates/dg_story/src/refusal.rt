@@ -9,8 +9,6 @@ use thiserror::Error;
 /// Why a program isn't built.
 #[derive(Clone, Copy, Debug, PartialEq, Eq, Error)]
 pub enum BuildRefusal {
-    #[error("not built yet")]
-    NotBuiltYet,
     #[error("world too large")]
     WorldTooLarge,
     #[error("words too large")]

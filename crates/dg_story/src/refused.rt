@@ -4,7 +4,6 @@ ghost use Rattle.dg_base.specs.Sound.{IsSound};
 ghost use Rattle.dg_story.specs.Refusals.{build_refusal};
 
 use crate::counting::{check_story, words_fit, world_fits};
-use crate::goals::can_be_built;
 use crate::refusal::{BuildFault, BuildRefusal, Lack};
 use dg_base::CoreProgram;
 use std::alloc::Global;
@@ -18,15 +17,12 @@ fn refused(refusal: BuildRefusal) -> BuildFault
     BuildFault::Refused(refusal)
 }
 
-/// Refuses a program that has no story: a global variable starts with a value, or its world, its words or the whole of it are too large.
+/// Refuses a program that has no story: its world, its words or the whole of it are too large.
 pub fn check(alloc: Global, program: &CoreProgram) -> Result<(), BuildFault>
     requires { IsSound program.now }
     ensures fits { IfOk result (λ _. build_refusal program.now ≡ None) }
     ensures refused { (r : BuildRefusal) → IsErrOf result (BuildFault.Refused r) → build_refusal program.now ≡ Some r }
 {
-    if !can_be_built(program) {
-        return Err(refused(BuildRefusal::NotBuiltYet));
-    }
     if !world_fits(program.places.as_slice(), program.objects.len() as u16) {
         return Err(refused(BuildRefusal::WorldTooLarge));
     }

@@ -1,11 +1,16 @@
 // The table of what starts set in the world.
-ghost use Rattle.std.specs.Prelude.{◌≡◌, ◌<◌, ◌%◌, ◌++◌, ◌∷◌, [], IfOk, OnOk, length, replicate};
+ghost use Rattle.std.specs.Prelude.{◌≡◌, ◌<◌, ◌≤◌, ◌+◌, ◌%◌, ◌++◌, ◌∷◌, [], IfOk, OnOk, length, replicate};
+ghost use Rattle.std.specs.Option.{option_copied};
 ghost use Rattle.dg_base.specs.Sound.{IsSound};
 ghost use Rattle.dg_base.specs.declared.program.Term.{out-Term};
 ghost use Rattle.dg_story.specs.Built.{word_bytes, world_table as the_table};
+ghost use Rattle.dg_story.specs.Kept.{kept_facts};
+ghost use Rattle.dg_story.specs.inside.Keeping.{HoldsStart};
 ghost use Rattle.dg_story.specs.inside.World as spec;
 
-use dg_base::{CoreProgram, Items, Place, PlaceKind, Term};
+use crate::kept::cells_kept;
+use dg_base::{Cell, CoreProgram, Items, Place, PlaceKind, Term};
+use dg_world::World;
 use std::alloc::{AllocError, Global};
 use z_asm::Table;
 
@@ -47,8 +52,8 @@ fn flag_by(starts: &[(u16, Term)], object: u16) -> u8
     0
 }
 
-// A word is written.
-fn put_word(bytes: &mut Items<u8>, word: u16) -> Result<(), AllocError>
+/// A word is written.
+pub fn put_word(bytes: &mut Items<u8>, word: u16) -> Result<(), AllocError>
     ensures { OnOk result (bytes.new ≡ bytes.old ++ word_bytes (word ∷ [])) }
 {
     bytes.push((word / 256) as u8)?;
@@ -78,20 +83,49 @@ fn put_flags(bytes: &mut Items<u8>, starts: &[(u16, Term)], objects: u16) -> Res
     Ok(())
 }
 
+// How many cells there are.
+fn many(cells: Option<&[Cell]>) -> u16
+    requires { spec.cells_many (option_copied cells) ≤ 65535 }
+    ensures { result ≡ spec.cells_many (option_copied cells.entry) }
+{
+    match cells {
+        Some(cells) => cells.len() as u16,
+        None => 0,
+    }
+}
+
+// The words of a global variable are: from which word on its cells are kept, and how many they are.
+fn put_variable(bytes: &mut Items<u8>, cells: Option<&[Cell]>, at: u16) -> Result<(), AllocError>
+    requires { at + spec.cells_many (option_copied cells) ≤ 14815 }
+    ensures { OnOk result (bytes.new ≡ bytes.old ++ word_bytes (spec.cells_words (option_copied cells.entry) at)) }
+{
+    let Some(cells) = cells else {
+        put_word(bytes, 0)?;
+        return put_word(bytes, 0);
+    };
+    put_word(bytes, 64 + 2 * at)?;
+    put_word(bytes, cells.len() as u16)
+}
+
 // The words of a place are.
-fn put_place(bytes: &mut Items<u8>, place: &Place, objects: u16) -> Result<(), AllocError>
-    requires { spec.AreSmall place.now.start }
-    ensures { OnOk result (bytes.new ≡ bytes.old ++ word_bytes (spec.own_words objects place.now.kind place.now.start)) }
+fn put_place(
+    bytes: &mut Items<u8>,
+    place: &Place,
+    objects: u16,
+    cells: Option<&[Cell]>,
+    at: u16,
+) -> Result<(), AllocError>
+    requires small { spec.AreSmall place.now.start }
+    requires near { at + spec.cells_many (option_copied cells) ≤ 14815 }
+    ensures { OnOk result (bytes.new ≡
+        bytes.old ++ word_bytes (spec.own_words objects (option_copied cells.entry) at place.now.kind place.now.start)) }
 {
     let starts = place.start.as_slice();
     match place.kind {
         PlaceKind::Flag => put_words(bytes, starts, 1),
         PlaceKind::ObjectFlag => Ok(()),
         PlaceKind::ObjectVar | PlaceKind::Parent => put_words(bytes, starts, objects),
-        PlaceKind::Global => {
-            put_word(bytes, 0)?;
-            put_word(bytes, 0)
-        }
+        PlaceKind::Global => put_variable(bytes, cells, at),
     }
 }
 
@@ -106,14 +140,27 @@ fn put_own_flags(bytes: &mut Items<u8>, place: &Place, objects: u16) -> Result<(
 }
 
 // The words of places.
-#[tactic(auto, using(crate::proofs::WorldLemmas::places_next))]
-fn words_of(alloc: Global, places: &[Place], objects: u16) -> Result<Items<u8>, AllocError>
-    requires { spec.AllAreSmall places.now }
-    ensures { IfOk result (λ bytes. bytes ≡ word_bytes (spec.world_words objects places.now)) }
+fn words_of(
+    alloc: Global,
+    world: &Option<World>,
+    program: &CoreProgram,
+) -> Result<Items<u8>, AllocError>
+    requires few { length program.now.objects ≤ 65535 }
+    requires places { length program.now.places ≤ 65535 }
+    requires starts { spec.AllAreSmall program.now.places }
+    requires holds { HoldsStart world.now program.now }
+    ensures { IfOk result (λ bytes. bytes ≡
+        word_bytes (spec.laid_words (length program.now.objects) (kept_facts program.now) 14315 0 program.now.places)) }
 {
+    let objects = program.objects.len() as u16;
     let mut bytes = Items::new(alloc);
-    for place in places {
-        put_place(&mut bytes, place, objects)?;
+    let mut at = 14_315;
+    let mut number = 0;
+    for place in program.places.as_slice() {
+        let cells = cells_kept(world, program, number, place.kind);
+        put_place(&mut bytes, place, objects, cells, at)?;
+        at += many(cells);
+        number += 1;
     }
     Ok(bytes)
 }
@@ -142,15 +189,20 @@ fn filled(bytes: Items<u8>) -> Result<Items<u8>, AllocError>
 }
 
 /// The table of what starts set.
-#[tactic(auto, using(crate::proofs::Worlds::words_made, crate::proofs::Worlds::flags_made))]
-pub fn world_table(alloc: Global, program: &CoreProgram) -> Result<Table, AllocError>
+#[tactic(auto, using(crate::proofs::Worlds::laid_made, crate::proofs::Worlds::flags_made))]
+pub fn world_table(
+    alloc: Global,
+    world: &Option<World>,
+    program: &CoreProgram,
+) -> Result<Table, AllocError>
     requires sound { IsSound program.now }
     requires starts { spec.AllAreSmall program.now.places }
+    requires holds { HoldsStart world.now program.now }
     ensures { IfOk result (λ table. table ≡ the_table program.now) }
 {
     let objects = program.objects.len() as u16;
     let places = program.places.as_slice();
-    let mut bytes = words_of(alloc, places, objects)?;
+    let mut bytes = words_of(alloc, world, program)?;
     bytes.append(filled(flags_of(alloc, places, objects)?)?)?;
     Ok(Table {
         bytes,

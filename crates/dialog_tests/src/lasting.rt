@@ -75,13 +75,19 @@ fn a_heap_holds_so_many_queries(rt: HostRuntime) -> Result<(), Fail> {
     Ok(())
 }
 
-// How many words a list has that is kept from the start, and the only line of its run. What is kept are the list's words and its pairs, one
-// cell each, of at most 10,000: ten words fit, and 5,000 with their pairs and the empty list behind them are one too many.
-const KEPT: &[(usize, (u8, &str))] = &[(10, (0, "x\n")), (5000, (3, "[Keep limit]\n"))];
+// The command, how many words a list has that is kept from the start, and the only line of its run. What is kept are the list's words and
+// its pairs, one cell each, of at most 10,000, or 500 in a story: 5,000 words with their pairs and the empty list behind them are one too
+// many, and so are 250 in a story.
+const KEPT: &[(&str, usize, (u8, &str))] = &[
+    ("debug p.dg", 10, (0, "x\n")),
+    ("debug p.dg", 5000, (3, "[Keep limit]\n")),
+    ("run p.dg", 249, (0, "x\n")),
+    ("run p.dg", 250, (0, "[Keep limit]\n")),
+];
 
 #[test]
 fn what_starts_set_is_kept_or_ends_the_run(rt: HostRuntime) -> Result<(), Fail> {
-    for (count, wanted) in KEPT {
+    for (line, count, wanted) in KEPT {
         let list = "a ".repeat(rt.alloc(), *count)?;
         let source = format!(in rt.alloc();
             "(global variable (l [{list}]))\n(program entry point) x"
@@ -89,7 +95,7 @@ fn what_starts_set_is_kept_or_ends_the_run(rt: HostRuntime) -> Result<(), Fail> 
         gives(
             &rt,
             rt.alloc(),
-            "debug p.dg",
+            line,
             "p.dg",
             source.as_bytes(),
             b"",

@@ -152,6 +152,14 @@ x
 (program entry point) (collect $X) *(p $X) (into $L) $L
 === 0
 []
+>>> run p.dg
+%% What global variables start with stands in their story, and changes there.
+(global variable (x [1 2]))
+(global variable (y @cat))
+(global variable (z $))
+(program entry point) (x $A) (y $B) $A $B (now) (x [$A 3]) (now) (z [4 | $A]) (now) ~(y $) (x $C) $C (z $D) $D { (y $) yes (or) no }
+=== 0
+[1 2] cat [[1 2] 3] [4 1 2] no
 "#;
 
 #[test]

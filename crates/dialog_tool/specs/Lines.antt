@@ -4,7 +4,7 @@ use Rattle.dg_base.specs.Refusals.{text_of_kind}
 use Rattle.dg_base.specs.Written.{SinkView, Wrote, BrokeOff}
 use Rattle.dg_base.specs.declared.refusal.Refusal.{Refusal}
 use Rattle.dg_story.specs.declared.refusal.BuildRefusal.{BuildRefusal}
-use Rattle.dg_story.specs.declared.refusal.BuildRefusal.TheVariants.{NotBuiltYet, WorldTooLarge, WordsTooLarge, StoryTooLarge}
+use Rattle.dg_story.specs.declared.refusal.BuildRefusal.TheVariants.{WorldTooLarge, WordsTooLarge, StoryTooLarge}
 use Rattle.z_model.specs.Story.{text_of_story}
 use Rattle.z_model.specs.declared.story.StoryRefusal.{StoryRefusal}
 
@@ -18,7 +18,6 @@ story_line name r = name ++ (codes ": " ++ (text_of_story r ++ codes "\n"))
 
 -- why a program has no story
 abbrev pub text_of_build : BuildRefusal → List ℕ
-text_of_build NotBuiltYet = codes "not built yet"
 text_of_build WorldTooLarge = codes "world too large"
 text_of_build WordsTooLarge = codes "words too large"
 text_of_build StoryTooLarge = codes "story too large"

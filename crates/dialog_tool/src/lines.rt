@@ -105,7 +105,6 @@ fn build_text(refusal: BuildRefusal) -> &'static [u8]
     ensures { result.now ≡ text_of_build refusal }
 {
     match refusal {
-        BuildRefusal::NotBuiltYet => b"not built yet",
         BuildRefusal::WorldTooLarge => b"world too large",
         BuildRefusal::WordsTooLarge => b"words too large",
         BuildRefusal::StoryTooLarge => b"story too large",

@@ -1,11 +1,15 @@
 -- What starts set in the world, place by place. The proofs alone rest on it.
-use Rattle.std.specs.Prelude.{◌≡◌, ℕ, zero, suc, ◌+◌, ◌<◌, List, [], ◌∷◌, ◌++◌, All, nat_eq, if◌then◌else◌}
+use Rattle.std.specs.Prelude.{ℕ, zero, suc, ◌+◌, ◌<◌, List, [], ◌∷◌, ◌++◌, All, nat_eq, if◌then◌else◌, Option, Some, None, length}
+use Rattle.dg_base.specs.declared.cells.Cell.{Cell}
 use Rattle.dg_base.specs.declared.program.Place.{Place}
 use Rattle.dg_base.specs.declared.program.PlaceKind.{PlaceKind}
 use Rattle.dg_base.specs.declared.program.PlaceKind.TheVariants.{Flag, ObjectFlag, ObjectVar, Parent, Global}
 use Rattle.dg_base.specs.declared.program.Term.{Term, out-Term}
 use Rattle.dg_base.specs.declared.program.Term.TheOpen as term
+use Rattle.dg_meaning.specs.Facts.{Fact, value_at, kept_at}
+use Rattle.dg_rt.specs.Cells.{at_cell}
 use Rattle.dg_rt.specs.Operands.{no_value}
+use Rattle.dg_story.specs.Kept.{variable_words}
 
 abbrev pub Starts : Type 0
 Starts = List (ℕ × Term)
@@ -42,28 +46,39 @@ abbrev pub flags_by : Starts → ℕ → ℕ → List ℕ
 flags_by starts object zero = []
 flags_by starts object (suc n) = flag_by starts object ∷ flags_by starts (suc object) n
 
+-- The words of a variable whose value has these cells, where it is kept from a word on, and how many cells they are.
+abbrev pub cells_words : Option (List Cell) → ℕ → List ℕ
+cells_words None j = 0 ∷ 0 ∷ []
+cells_words (Some cells) j = at_cell j ∷ length cells ∷ []
+
+abbrev pub cells_many : Option (List Cell) → ℕ
+cells_many None = 0
+cells_many (Some cells) = length cells
+
 -- The words of a place, and its flags.
-abbrev pub own_words : ℕ → PlaceKind → Starts → List ℕ
-own_words objects Flag starts = words_by starts 0 1
-own_words objects ObjectFlag starts = []
-own_words objects ObjectVar starts = words_by starts 0 objects
-own_words objects Parent starts = words_by starts 0 objects
-own_words objects Global starts = 0 ∷ 0 ∷ []
+abbrev pub own_words : ℕ → Option (List Cell) → ℕ → PlaceKind → Starts → List ℕ
+own_words objects cells j Flag starts = words_by starts 0 1
+own_words objects cells j ObjectFlag starts = []
+own_words objects cells j ObjectVar starts = words_by starts 0 objects
+own_words objects cells j Parent starts = words_by starts 0 objects
+own_words objects cells j Global starts = cells_words cells j
 
 abbrev pub own_flags : ℕ → PlaceKind → Starts → List ℕ
 own_flags objects ObjectFlag starts = flags_by starts 0 objects
 own_flags objects kind starts = []
 
--- Those of places.
-abbrev pub world_words : ℕ → List Place → List ℕ
-world_words objects [] = []
-world_words objects (place ∷ places) = own_words objects place.kind place.start ++ world_words objects places
+-- The words of a place where so much is kept in front of it: those of a global variable tell of its value.
+abbrev pub laid_own : ℕ → List Fact → ℕ → ℕ → PlaceKind → Starts → List ℕ
+laid_own objects kept j number Global starts = variable_words (value_at kept number 0) j
+laid_own objects kept j number kind starts = own_words objects None j kind starts
 
+-- Those of the places from a number on.
+abbrev pub laid_words : ℕ → List Fact → ℕ → ℕ → List Place → List ℕ
+laid_words objects kept j number [] = []
+laid_words objects kept j number (place ∷ places) =
+    laid_own objects kept j number place.kind place.start ++ laid_words objects kept (j + kept_at kept number place.kind) (suc number) places
+
+-- The flags of places.
 abbrev pub world_flags : ℕ → List Place → List ℕ
 world_flags objects [] = []
 world_flags objects (place ∷ places) = own_flags objects place.kind place.start ++ world_flags objects places
-
--- No global variable starts set.
-abbrev pub UnsetGlobals : List Place → Type 0
-UnsetGlobals [] = Unit {0}
-UnsetGlobals (place ∷ places) = (place.kind ≡ Global → place.start ≡ []) × UnsetGlobals places

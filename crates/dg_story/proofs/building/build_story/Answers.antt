@@ -5,7 +5,7 @@ use Rattle.dg_story.specs.declared.refusal.BuildFault.{BuildFault}
 use Rattle.dg_story.specs.declared.refusal.BuildFault.TheVariants.{OutOfMemory}
 use Rattle.dg_story.specs.inside.Left.{parts_left}
 use Rattle.dg_story.specs.inside.Stories.{IsWritten}
-use Rattle.dg_story.proofs.Begun.{all_small}
+use Rattle.dg_story.proofs.Begun.{all_small, room_so, words_so}
 use Rattle.dg_story.proofs.Alone.{code_fits, parts_fit, none_large, story_is}
 use Rattle.dg_story.proofs.RefusalLemmas.{rules_few, words_fit}
 use Rattle.dg_story.proofs.building.build_story.Goals as goal
@@ -31,6 +31,12 @@ left_of-left-requires-clause-starts c = all_small c.args.program c.requires.soun
 
 pub left_of-left-requires-clause-few : goal.left_of-left-requires-clause-few
 left_of-left-requires-clause-few c = words_fit c.args.program c.requires.fits
+
+pub left_of-left-requires-clause-keeps : goal.left_of-left-requires-clause-keeps
+left_of-left-requires-clause-keeps c = words_so c.args.program c.requires.sound c.requires.fits
+
+pub left_of-left-requires-clause-room : goal.left_of-left-requires-clause-room
+left_of-left-requires-clause-room c = room_so c.args.program c.requires.sound c.requires.fits
 
 pub rule_count-rule_routines-requires : goal.rule_count-rule_routines-requires
 rule_count-rule_routines-requires c = omega (arith, ap rule_count c.as_slice.ensures, rules_few c.args.program c.requires.fits)
