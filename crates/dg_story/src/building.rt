@@ -1,5 +1,5 @@
 // The story of a program.
-ghost use Rattle.std.specs.Prelude.{◌≡◌, ◌<◌, ◌≤◌, ◌++◌, ◌∷◌, [], None, All, IfOk, OnOk, IsErrOf, length};
+ghost use Rattle.std.specs.Prelude.{◌≡◌, ◌<◌, ◌≤◌, ◌++◌, ◌∷◌, [], None, Some, All, IfOk, OnOk, IsErrOf, length};
 ghost use Rattle.dg_base.specs.Sound.{IsSound};
 ghost use Rattle.dg_base.specs.declared.program.ClosureBody.{ClosureBody as TheClosure};
 ghost use Rattle.dg_meaning.specs.Facts.{kinds_of};
@@ -21,9 +21,11 @@ ghost use Rattle.dg_story.specs.inside.World.{AllAreSmall};
 use crate::kept::{areas_table, start_world};
 use crate::laws::{programs_have_stories, stories_agree};
 use crate::refusal::{BuildFault, BuildRefusal};
+use crate::refused::check;
 use crate::words::words_part;
 use crate::world::world_table;
 use dg_base::{ClosureBody, CoreProgram, Items, Pred};
+use dg_core::let_go as let_go_program;
 use dg_emit::{NumberFault, outline_of, routines_alike, sites_of};
 use dg_mid::{Code, let_go, to_mid};
 use dg_world::World;
@@ -198,8 +200,8 @@ fn rule_count(preds: &[Pred]) -> u32
     count
 }
 
-/// The story of a program that isn't refused.
-pub fn build_story(alloc: Global, program: CoreProgram) -> Result<Built, BuildFault>
+// The story of a program that isn't refused.
+fn build_fitting(alloc: Global, program: CoreProgram) -> Result<Built, BuildFault>
     requires sound { IsSound program }
     requires goals { AllHoldFew 12 program }
     requires heads { HeadsAreFew 12 program }
@@ -225,5 +227,25 @@ pub fn build_story(alloc: Global, program: CoreProgram) -> Result<Built, BuildFa
             rule_routines,
         }),
         Err(fault) => Err(fault),
+    }
+}
+
+/// The story of a program, or why it has none: what `build_refusal` says, and else want of memory.
+pub fn build_story(alloc: Global, program: CoreProgram) -> Result<Built, BuildFault>
+    requires sound { IsSound program }
+    requires goals { AllHoldFew 12 program }
+    requires heads { HeadsAreFew 12 program }
+    ensures fits { OnOk result (build_refusal program ≡ None) }
+    ensures built { IfOk result (λ built. spec.IsBuilt program built) }
+    ensures agrees { IfOk result (λ built. Agrees built.story.items program) }
+    ensures refused { (r : BuildRefusal) → IsErrOf result (BuildFault.Refused r) → build_refusal program ≡ Some r }
+{
+    if let Err(fault) = check(alloc, &program) {
+        let_go_program(alloc, program);
+        return Err(fault);
+    }
+    match build_fitting(alloc, program) {
+        Ok(built) => Ok(built),
+        Err(_) => Err(BuildFault::OutOfMemory),
     }
 }

@@ -12,4 +12,3 @@ mod world;
 
 pub use building::{Built, build_story};
 pub use refusal::{BuildFault, BuildRefusal};
-pub use refused::check;

@@ -5,7 +5,6 @@ ghost use Rattle.dg_base.specs.Sound.{IsSound};
 ghost use Rattle.dg_base.specs.Streams.{SourceView};
 ghost use Rattle.dg_base.specs.declared.program.CoreProgram.{CoreProgram as Core};
 ghost use Rattle.dg_meaning.specs.Few.{AllHoldFew, HeadsAreFew};
-ghost use Rattle.dg_story.specs.Refusals.{build_refusal};
 ghost use Rattle.dialog_tool.specs.Promise.{Answers, HasStory};
 ghost use Rattle.dialog_tool.specs.inside.Building.{HasNoStory};
 ghost use Rattle.dialog_tool.specs.inside.Calls.{call, IsFetched};
@@ -18,31 +17,9 @@ use crate::lines::{DONE, file_fault, no_memory, refuse_build};
 use crate::playing::run_player;
 use crate::reading::program_in;
 use dg_base::{CoreProgram, Shelf, Sink, Source, StoreFault};
-use dg_core::let_go;
-use dg_story::{BuildFault, build_story, check};
+use dg_story::{BuildFault, build_story};
 use std::alloc::Global;
 use z_play::Player;
-
-// The story of a program that isn't refused.
-fn built<K: Sink>(
-    alloc: Global,
-    name: &str,
-    program: CoreProgram,
-    out: &mut K,
-) -> Result<Vec<u8>, u8>
-    requires sound { IsSound program }
-    requires goals { AllHoldFew 12 program }
-    requires heads { HeadsAreFew 12 program }
-    requires fits { build_refusal program ≡ None }
-    ensures story { IfOk result (λ bytes. HasStory program bytes.items) }
-    ensures silent { OnOk result (K.view out.new ≡ K.view out.old) }
-    ensures none { IfErr result (HasNoStory program name.now (K.view out.old) (K.view out.new)) }
-{
-    match build_story(alloc, program) {
-        Ok(built) => Ok(built.story),
-        Err(_) => Err(no_memory(out)),
-    }
-}
 
 // The story of a program, or the status with which the call ends.
 fn story_of<K: Sink>(
@@ -58,14 +35,10 @@ fn story_of<K: Sink>(
     ensures silent { OnOk result (K.view out.new ≡ K.view out.old) }
     ensures none { IfErr result (HasNoStory program name.now (K.view out.old) (K.view out.new)) }
 {
-    let fault = match check(alloc, &program) {
-        Ok(()) => return built(alloc, name, program, out),
-        Err(fault) => fault,
-    };
-    let_go(alloc, program);
-    match fault {
-        BuildFault::Refused(refusal) => Err(refuse_build(name, refusal, out)),
-        BuildFault::OutOfMemory => Err(no_memory(out)),
+    match build_story(alloc, program) {
+        Ok(built) => Ok(built.story),
+        Err(BuildFault::Refused(refusal)) => Err(refuse_build(name, refusal, out)),
+        Err(BuildFault::OutOfMemory) => Err(no_memory(out)),
     }
 }
 

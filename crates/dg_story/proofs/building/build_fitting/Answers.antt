@@ -8,8 +8,8 @@ use Rattle.dg_story.specs.inside.Stories.{IsWritten}
 use Rattle.dg_story.proofs.Begun.{all_small, room_so, words_so}
 use Rattle.dg_story.proofs.Alone.{code_fits, parts_fit, none_large, story_is}
 use Rattle.dg_story.proofs.RefusalLemmas.{rules_few, words_fit}
-use Rattle.dg_story.proofs.building.build_story.Goals as goal
-use Rattle.dg_story.proofs.building.build_story.Goals.{in-Ok, in-Err}
+use Rattle.dg_story.proofs.building.build_fitting.Goals as goal
+use Rattle.dg_story.proofs.building.build_fitting.Goals.{in-Ok, in-Err}
 
 abbrev failed : BuildFault → Result (Vec ℕ Global) BuildFault
 failed fault = Err fault
