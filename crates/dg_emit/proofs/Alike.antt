@@ -1,5 +1,5 @@
 -- Routines depend on a program by its outline.
-use Rattle.std.proofs.Common.{◌⊎◌, ⊎_elim, inl, inr, ◌≡◌, ◌≤◌, ◌<◌, ℕ, zero, suc, ◌+◌, ◌*◌, ◌/◌, Bool, List, [], ◌∷◌, ◌++◌, length, take, drop, map, Option, Some, None, refl, sym, ap, ◌∙◌, subst}
+use Rattle.std.proofs.Common.{⊎_elim, inl, inr, ◌≡◌, ◌≤◌, ◌<◌, ℕ, zero, suc, ◌+◌, ◌*◌, Bool, List, [], ◌∷◌, ◌++◌, length, map, Option, Some, None, refl, sym, ap, ◌∙◌, subst}
 use Rattle.std.specs.List.{All, slice_get, sum_by}
 use Rattle.dg_base.specs.Sound.{IsName}
 use Rattle.std.proofs.Math.Path.{fun_ext}
@@ -16,7 +16,6 @@ use Rattle.dg_meaning.specs.Values.{Label}
 use Rattle.dg_mid.specs.Code.{first_label}
 use Rattle.dg_mid.specs.declared.code.Action.TheVariants as action
 use Rattle.dg_mid.specs.declared.code.Block.{Block}
-use Rattle.dg_mid.specs.declared.code.BodyCode.{BodyCode}
 use Rattle.dg_mid.specs.declared.code.Code.{Code}
 use Rattle.dg_mid.specs.declared.code.Op.{Op}
 use Rattle.dg_mid.specs.declared.code.Op.TheVariants as op
@@ -32,16 +31,16 @@ use Rattle.dg_rt.specs.RunTime.{routine_of}
 use Rattle.dg_turn.specs.Told.{count_told}
 use Rattle.dg_turn.specs.Terms.{word_act, words_acts, captured_of, closure_acts, node_acts, nodes_acts, capped, terms_acts, AreCaptured, IsNode, AreNodes}
 use Rattle.dg_turn.specs.Turns.{HEAD, match_acts, last_acts, head_acts}
-use Rattle.dg_turn.specs.Bodies.{CALLED, body_routine, fork_routine}
+use Rattle.dg_turn.specs.Bodies.{CALLED}
 use Rattle.dg_turn.specs.Operating.{deciding_routine}
 use Rattle.dg_turn.specs.World.{world_at, all_words, all_bytes, changer, changer_args}
 use Rattle.dg_turn.specs.Names.{objects_routines}
 use Rattle.dg_emit.specs.declared.numbers.Numbers.{Numbers}
 use Rattle.dg_emit.specs.Numbers.{routines_of_op, first_of, rules_count, behind_blocks, number_behind, numbers_from, block_number, routines_of_ops}
 use Rattle.dg_emit.specs.Code.{op_routine, op_routines, ops_routines, blocks_routines, preds_routines, code_routines, TermsFit, OpFits, OpsFit, BlocksFit}
-use Rattle.dg_emit.specs.Bodies.{entering_routine, bodies_routines}
+use Rattle.dg_emit.specs.Bodies.{bodies_routines}
 use Rattle.dg_turn.specs.Tries.{Sought, AnyObject, Flagged, Valued, sought_by, sought_at, tries_by}
-use Rattle.dg_emit.specs.Finds.{find_of, kind_at, query_of, tries_of, tries_for, FindFits, GlobalFits, QueryFits}
+use Rattle.dg_emit.specs.Finds.{find_of, kind_at, query_of, tries_of, tries_for, FindFits, QueryFits}
 use Rattle.dg_emit.specs.World.{change_routine, WorldFits, ChangeFits, FlagFits}
 use Rattle.dg_emit.specs.Outline.{SameOutline, RoutinesAlike}
 

@@ -6,7 +6,7 @@ use Rattle.dg_base.specs.declared.program.CoreProgram.{CoreProgram}
 use Rattle.dg_base.specs.declared.program.Place.{Place}
 use Rattle.dg_base.specs.declared.program.PlaceKind.{PlaceKind}
 use Rattle.dg_meaning.specs.Facts.{kinds_of}
-use Rattle.dg_turn.specs.World.{world_at, place_words, place_bytes, all_words, all_bytes, words_at, bytes_at}
+use Rattle.dg_turn.specs.World.{place_words, place_bytes, all_words, all_bytes, words_at, bytes_at}
 use Rattle.dg_emit.specs.World.{WorldFits}
 use Rattle.dg_emit.specs.inside.Places.{words_in, bytes_in}
 

@@ -1,5 +1,5 @@
 -- The routines of queries of objects and of global variables. Hold it against dg_turn/specs/Seeking.antt, Tries.antt and Globals.antt.
-use Rattle.std.specs.Prelude.{◌≡◌, ◌⊎◌, ℕ, List, [], ◌∷◌, length, Option, Some, None, Bool, true, false}
+use Rattle.std.specs.Prelude.{◌≡◌, ◌⊎◌, ℕ, List, [], ◌∷◌, Option, Some, None, Bool}
 use Rattle.std.specs.List.{slice_get}
 use Rattle.dg_base.specs.declared.program.CoreProgram.{CoreProgram}
 use Rattle.dg_base.specs.declared.program.PlaceKind.{PlaceKind}

@@ -1,6 +1,6 @@
 -- Routines that lie in a story in the order of their numbers stand for its code.
-use Rattle.std.proofs.Common.{◌⊎◌, ⊎_elim, inl, inr, Bool, ◌≡◌, ◌≢◌, ℕ, zero, suc, ◌+◌, ◌-◌, ◌%◌, ◌≤◌, List, [], ◌∷◌, ◌++◌, length, Option, Some, None, refl, sym, ap, ◌∙◌, subst, arith}
-use Rattle.std.specs.Prelude.{true, Contains, map, get_or}
+use Rattle.std.proofs.Common.{⊎_elim, inl, inr, Bool, ◌≡◌, ◌≢◌, ℕ, zero, suc, ◌+◌, ◌-◌, ◌%◌, ◌≤◌, List, [], ◌∷◌, ◌++◌, length, Option, Some, None, refl, sym, ap, ◌∙◌, subst, arith}
+use Rattle.std.specs.Prelude.{Contains, map, get_or}
 use Rattle.std.proofs.Math.ListN.{get_or-map}
 use Rattle.std.proofs.lemmas.List.{length-map}
 use Rattle.std.specs.List.{slice_get}
@@ -54,7 +54,6 @@ use Rattle.dg_emit.specs.World.{change_routine, ChangeFits}
 use Rattle.dg_emit.proofs.Names.{name_chars}
 use Rattle.dg_turn.specs.Tries.{Sought, sought_by, sought_at}
 use Rattle.dg_emit.specs.Finds.{find_of, tries_for, kind_at, query_of, FindFits, GlobalFits}
-use Rattle.dg_turn.specs.Globals.{global_routine}
 use Rattle.dg_chain.specs.Routines.{GoesOn, Opens, Writes, FindsObjects, FindsGlobal, RulesFrom, FindsAll, OpsAt}
 use Rattle.dg_chain.specs.Selects.{SelectsAt}
 use Rattle.dg_laid.specs.Laid.{CodeIsLaid, OpsCall, BlockSuits, BodiesAreFew, BlocksStand}

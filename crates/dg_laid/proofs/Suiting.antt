@@ -1,7 +1,7 @@
 -- The code of a sound program suits.
-use Rattle.std.proofs.Common.{◌≡◌, ℕ, zero, suc, ◌≤◌, List, [], ◌∷◌, ◌++◌, length, map, Option, Some, None, refl, sym, ap, ◌∙◌, arith}
+use Rattle.std.proofs.Common.{◌≡◌, ℕ, zero, suc, ◌≤◌, List, [], ◌∷◌, length, map, Option, Some, None, refl, sym, ap, ◌∙◌, arith}
 use Rattle.std.specs.Prelude.{Bool, true, false, ◌&&◌, not}
-use Rattle.std.specs.List.{All, flat_map, slice_get}
+use Rattle.std.specs.List.{All, slice_get}
 use Rattle.std.proofs.Math.Dec.{eqb, ltb}
 use Rattle.std.proofs.lemmas.Bool.{eqb-true, eq-eqb, le-ltb, ltb-false}
 use Rattle.dg_base.specs.declared.program.ClosureBody.{ClosureBody}
@@ -17,14 +17,11 @@ use Rattle.dg_base.specs.Goals.{all_goals_of}
 use Rattle.dg_base.specs.Sound.{IsGoalOf, IsRuleOf, IsPredOf, IsClosureOf, IsEntry, FirstIsParent, FitsHeads, FitsPlace, FitsProgram, terms_of_kind, closure_vars, IsSound}
 use Rattle.dg_meaning.specs.Facts.{kinds_of}
 use Rattle.dg_meaning.specs.Moves.{rules_of}
-use Rattle.dg_mid.specs.declared.code.Action.{Action}
-use Rattle.dg_mid.specs.declared.code.Action.TheVariants as action
 use Rattle.dg_mid.specs.declared.code.BodyCode.{BodyCode}
 use Rattle.dg_mid.specs.declared.code.Code.{Code}
 use Rattle.dg_mid.specs.declared.code.Op.{Op}
 use Rattle.dg_mid.specs.declared.code.Op.TheVariants as op
 use Rattle.dg_mid.specs.declared.code.RuleCode.{RuleCode}
-use Rattle.dg_mid.specs.Actions.{form_of}
 use Rattle.dg_mid.specs.Calls.{AllEnterWith}
 use Rattle.dg_mid.specs.Code.{block_at, rules_at}
 use Rattle.dg_mid.specs.Codes.{RulesStand, RuleStands, BodyStands, Codes}

@@ -1,4 +1,4 @@
-use Rattle.std.proofs.Common.{ℕ, ◌<◌, List, length, ap, ◌∙◌, arith, length-drop}
+use Rattle.std.proofs.Common.{◌<◌, List, length, ap, ◌∙◌, arith, length-drop}
 use Rattle.z_lang.specs.declared.act.Act.{Act}
 use Rattle.dg_emit.proofs.Chains.{taken_few, next_part}
 use Rattle.dg_emit.proofs.objects.put_groups.Goals as goal

@@ -1,4 +1,4 @@
-use Rattle.std.proofs.Common.{◌≡◌, List, ◌+◌, ◌∙◌, length, subst, arith}
+use Rattle.std.proofs.Common.{◌≡◌, List, ◌+◌, ◌∙◌, length, subst}
 use Rattle.std.specs.Prelude.{OnOk}
 use Rattle.z_lang.specs.declared.act.Routine.{Routine}
 use Rattle.dg_emit.proofs.Chains.{parts_room, groups_few, all_written}
