@@ -94,18 +94,11 @@ one_owner (Some v) h cells e =
     let long : length (words_of v) ≡ length cells = words_long v ∙ ap length same in
     ap (λ (l : List ℕ). at_cell h ∷ l) (append-nil (replicate (length (words_of v) - 1) 0)) ∙ ap (λ (k : ℕ). at_cell h ∷ replicate (k - 1) 0) long
 
-no_value : (s : Option Value) → option_map cells_of s ≡ None → s ≡ None
-no_value None e = refl
-no_value (Some v) e = absurd (cc)
-
 pub some_kept : (s : Option Value) (h : ℕ) (cells : List Cell) (set : Option (List Cell)) → set ≡ Some cells → set ≡ option_map cells_of s → kept_words (variable_block s h) ≡ map cell_word cells
 some_kept s h cells set is e = one_kept s h cells (sym e ∙ is)
 
 pub some_owner : (s : Option Value) (h : ℕ) (cells : List Cell) (set : Option (List Cell)) → set ≡ Some cells → set ≡ option_map cells_of s → owner_words (variable_block s h) ≡ at_cell h ∷ replicate (length cells - 1) 0
 some_owner s h cells set is e = one_owner s h cells (sym e ∙ is)
-
-pub none_kept_here : (s : Option Value) (h : ℕ) (set : Option (List Cell)) → set ≡ None → set ≡ option_map cells_of s → variable_block s h ≡ []
-none_kept_here s h set is e = ap (λ (x : Option Value). variable_block x h) (no_value s (sym e ∙ is))
 
 -- its words are words
 pub some_words : (program : CoreProgram) → KeepsWords program → (place : ℕ) (kind : PlaceKind) → slice_get (kinds_of program) place ≡ Some kind → (cells : List Cell) (set : Option (List Cell)) → set ≡ Some cells → set ≡ option_map cells_of (kept_value (kept_facts program) place kind) → AreWords cells

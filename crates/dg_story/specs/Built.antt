@@ -1,5 +1,5 @@
 -- What is built of a program: the story of its code. Hold it against dg_rt/specs/Areas.antt, which says where what lies in memory.
-use Rattle.std.specs.Prelude.{◌≡◌, ℕ, zero, suc, ◌<◌, ◌+◌, ◌/◌, ◌%◌, ◌⊎◌, List, [], ◌∷◌, ◌++◌, length, map, replicate, Bool, true, false}
+use Rattle.std.specs.Prelude.{◌≡◌, ℕ, zero, suc, ◌<◌, ◌+◌, ◌-◌, ◌/◌, ◌%◌, ◌⊎◌, List, [], ◌∷◌, ◌++◌, length, map, replicate, Bool, true, false}
 use Rattle.dg_base.specs.declared.program.ClosureBody.{ClosureBody}
 use Rattle.dg_base.specs.declared.program.CoreProgram.{CoreProgram}
 use Rattle.dg_base.specs.declared.program.Pred.{Pred}
@@ -13,7 +13,8 @@ use Rattle.z_asm.specs.Story as image
 use Rattle.z_story.specs.declared.building.Parts.{Parts}
 use Rattle.z_story.specs.Parts.{image_of}
 use Rattle.z_story.specs.Does.{StoryDoes}
-use Rattle.dg_rt.specs.Areas.{kept_at}
+use Rattle.dg_rt.specs.Areas.{kept_at, line_at, fixed_end}
+use Rattle.dg_rt.specs.Cells.{at_cell}
 use Rattle.dg_rt.specs.Kept.{Block}
 use Rattle.dg_rt.specs.Words.{words_table}
 use Rattle.dg_turn.specs.Sites.{sites_of}
@@ -45,7 +46,10 @@ word_bytes (w ∷ ws) = w / 256 ∷ w % 256 ∷ word_bytes ws
 
 -- The areas that every story has stand first behind the registers and the object table: zeros, and between them what global variables start with.
 abbrev pub kept_table : List Block → Table
-kept_table bs = record { bytes = replicate 28024 0 ++ (word_bytes (kept_areas bs) ++ replicate 1260 0); writable = true }
+kept_table bs =
+    let before : List ℕ = replicate (at_cell kept_at - image.tables_from) 0 in
+    let behind : List ℕ = replicate (at_cell fixed_end - at_cell line_at) 0 in
+    record { bytes = before ++ (word_bytes (kept_areas bs) ++ behind); writable = true }
 
 -- What starts set in the world: words, which tell where values are kept, and then a byte for each flag of an object, filled up to a whole word.
 abbrev pub world_table : CoreProgram → Table
