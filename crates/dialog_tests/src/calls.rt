@@ -9,7 +9,7 @@ use std::test::Fail;
 pub const USAGE: &str =
     "usage: dialog debug FILE, build FILE OUT, play STORY, run FILE, singles FILE, make N\n";
 
-// The status of a source that has no story yet.
+// The status of a source that has no story.
 const NOT_BUILT: u8 = 7;
 
 pub fn words(alloc: Global, line: &str) -> Result<Vec<String>, Fail> {
