@@ -1,4 +1,4 @@
--- A select counts 200, and a closure 55.
+-- A select counts 200, and a closure 100.
 use Rattle.std.proofs.Common.{◌≡◌, ℕ, ◌+◌, ◌*◌, ◌≤◌, List, [], ◌∷◌, ◌++◌, length, arith}
 use Rattle.std.specs.List.{All, flat_map}
 use Rattle.std.proofs.lemmas.List.Elements.{All-head, All-tail}
@@ -46,12 +46,12 @@ preds_count p (pred ∷ ps) all =
 abbrev pub of_closures : List ClosureBody → List Goal
 of_closures cs = flat_map (λ (closure : ClosureBody). all_goals_of closure.body) cs
 
-closures_count : (p : CoreProgram) (cs : List ClosureBody) → All (IsClosureOf p) cs → 200 * selects (of_closures cs) + 55 * length cs ≤ closures_size cs
+closures_count : (p : CoreProgram) (cs : List ClosureBody) → All (IsClosureOf p) cs → 200 * selects (of_closures cs) + 100 * length cs ≤ closures_size cs
 closures_count p [] all = omega arith
 closures_count p (c ∷ cs) all =
     let h = All-head (IsClosureOf p) c cs all in
     omega (arith, selects_append (all_goals_of c.body) (of_closures cs), goals_count p (closure_vars c) (all_goals_of c.body) h.body, closures_count p cs (All-tail (IsClosureOf p) c cs all))
 
-pub selects_count : (p : CoreProgram) → IsSound p → 200 * selects (all_goals p) + 55 * length p.closures ≤ story_size p
+pub selects_count : (p : CoreProgram) → IsSound p → 200 * selects (all_goals p) + 100 * length p.closures ≤ story_size p
 selects_count p sound =
     omega (arith, selects_append (of_preds p.preds) (of_closures p.closures), preds_count p p.preds sound.preds, closures_count p p.closures sound.closures)

@@ -51,7 +51,7 @@ start_room false entry = let lt = ltb-true (room (routine_of 0 (start_acts false
 
 module _ (program : CoreProgram) (code : Code) (sized : IsSized program code) where
   count : 25 * (blocks_weight (bytes program) code.blocks + 32 * rules_count code.preds + 32 * length code.closures) + 23 * names_size program.objects ≤ 23 * (100 + story_size program)
-  count = counted program code (captured_all program sized.sound) sized.codes (sized.light (bytes program))
+  count = counted program code (captured_all program sized.sound) sized.once sized.codes (sized.light (bytes program))
 
   all_room : (keeps : Bool) → rooms (story_routines program code keeps) ≤ 457900
   all_room keeps =
@@ -73,7 +73,6 @@ module _ (program : CoreProgram) (code : Code) (sized : IsSized program code) wh
     near = λ tables keeps short. (
         let written = short.written in
         let told = short.told in
-        let few = sized.closures in
         omega (arith, sized.size, selects_count program sized.sound)
         );
     small = λ tables keeps near large. elim large [

@@ -49,11 +49,12 @@ use Rattle.dg_emit.specs.World.{WorldFits, ChangeFits, FlagFits}
 use Rattle.dg_emit.specs.Finds.{QueryFits}
 use Rattle.dg_emit.proofs.Left.{nodes_next}
 use Rattle.dg_emit.proofs.Nodes.{first_term, other_terms}
-use Rattle.dg_fits.specs.Sizes.{place_size, places_size, words_size, node_size, nodes_size, terms_size, rules_size, preds_size}
+use Rattle.dg_fits.specs.Sizes.{place_size, places_size, words_size, terms_size, rules_size, preds_size}
 use Rattle.dg_fits.specs.Laws.{IsSized, CodeSuits}
 use Rattle.dg_fits.proofs.Names.{name_ok, name_passes, name_is}
 use Rattle.dg_fits.proofs.Terms.{some_node, captured_are}
 use Rattle.dg_fits.proofs.Counting.{closures_many}
+use Rattle.dg_fits.proofs.Selects.{selects_count}
 use Rattle.dg_fits.proofs.SitesFew.{sites_counted}
 
 both : {a b : Bool} → a ≡ true → b ≡ true → (a && b) ≡ true
@@ -407,24 +408,11 @@ one_few : (key : Option Label) → one_if_key key ≤ 1
 one_few None = omega arith
 one_few (Some f) = omega arith
 
-node_least : (x : term.Term-F Term) → 100 ≤ node_size x
-node_least (term.Num n) = omega arith
-node_least (term.Word n) = omega arith
-node_least (term.Object n) = omega arith
-node_least (term.Var n) = omega arith
-node_least (term.Closure c) = omega arith
-node_least (term.Pair head tail) = omega arith
-node_least term.Nil = omega arith
-
-nodes_least : (xs : List Term) → 100 * length xs ≤ nodes_size xs
-nodes_least [] = omega arith
-nodes_least (x ∷ xs) = omega (arith, node_least (out-Term x), nodes_least xs)
-
 first_counted : (head : List Term) → 100 * one_if_key (first_label head) ≤ terms_size head
 first_counted [] = omega arith
 first_counted (t ∷ ts) =
     let some : 1 ≤ length (nodes t) = omega (arith, some_node t [], length-append (nodes t) []) in
-    omega (arith, one_few (label_at (out-Term t)), nodes_least (nodes t))
+    omega (arith, one_few (label_at (out-Term t)))
 
 keyed_counted : (code : Code) (cs : List RuleCode) (rs : List Rule) → RulesStand code cs rs → 200 * keyed cs ≤ rules_size rs
 keyed_counted code [] rs stand = omega arith
@@ -488,10 +476,13 @@ objects_few p code sized = let few = (are_few p code sized).objects in omega ari
 pub objects_least : (p : CoreProgram) (code : Code) → IsSized p code → length p.objects ≤ 4000
 objects_least p code sized = omega (arith, objects_many (length p.objects) p.places sized.sound.parent, sized.world)
 
+closures_least : (p : CoreProgram) (code : Code) → IsSized p code → length p.closures ≤ 4400
+closures_least p code sized = omega (arith, selects_count p sized.sound, sized.size)
+
 pub passes_all : (p : CoreProgram) (code : Code) → IsSized p code → (b : ℕ) → OpsPass (tests p) (block_at code b)
 passes_all p code sized =
     let few = are_few p code sized in
-    code_passes (tests p) p code sized.light (program_passes p few.words few.objects (let few = sized.closures in omega arith) (captured_all p sized.sound) sized.sound sized.heads sized.goals)
+    code_passes (tests p) p code sized.light (program_passes p few.words few.objects (let few = closures_least p code sized in omega arith) (captured_all p sized.sound) sized.sound sized.heads sized.goals)
 
 pub suits : (p : CoreProgram) (code : Code) → IsSized p code → CodeSuits p code
 suits p code sized =
@@ -500,8 +491,8 @@ suits p code sized =
     record {
       fits = (
         blocks_fit p (world_is p code sized) code.blocks (passes_all p code sized),
-        preds_fit p few.words few.objects (let few = sized.closures in omega arith) captured code code.preds p.preds sized.codes.rules sized.sound.preds sized.heads,
-        omega (arith, closures_many p code sized.codes, sized.closures),
+        preds_fit p few.words few.objects (let few = closures_least p code sized in omega arith) captured code code.preds p.preds sized.codes.rules sized.sound.preds sized.heads,
+        omega (arith, closures_many p code sized.codes, closures_least p code sized),
         (objects_few p code sized, sized.sound.objects),
       );
       keyed_few = λ pred.

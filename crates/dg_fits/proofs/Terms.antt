@@ -14,7 +14,8 @@ use Rattle.z_lang.specs.Sizes.{atom_bytes, act_bytes, body_bytes}
 use Rattle.dg_turn.specs.Terms.{header_at, word_act, words_acts, cell_act, two_numbers, captured_of, capture_acts, captures_for, closure_acts, node_acts, nodes_acts, capped, charge_acts, laying_acts, terms_acts}
 use Rattle.dg_emit.proofs.Left.{nodes_next}
 use Rattle.dg_mid.specs.Weights.{nodes_weight, terms_weight}
-use Rattle.dg_fits.specs.Sizes.{node_size, nodes_size, terms_size}
+use Rattle.dg_fits.specs.Once.{in_node, in_nodes, in_terms}
+use Rattle.dg_fits.specs.Sizes.{terms_size}
 use Rattle.dg_fits.specs.inside.Bytes.{node_bytes, bytes}
 
 pub bytes_append : (xs ys : List Act) → body_bytes (xs ++ ys) ≡ body_bytes xs + body_bytes ys
@@ -150,7 +151,7 @@ terms_room p v ts = omega (arith, terms_few p v ts, nodes_many ts, nodes_alike p
 -- ## What they count
 
 module _ (p : CoreProgram) (captured : (c : ℕ) → captured_count (slice_get p.closures c) ≤ 64) where
-  node_counts : (x : term.Term-F Term) → 25 * (13 + node_bytes p x) ≤ 23 * node_size x
+  node_counts : (x : term.Term-F Term) → 25 * (13 + node_bytes p x) ≤ 2300 + 1025 * in_node x
   node_counts (term.Pair head tail) = omega arith
   node_counts (term.Closure c) = omega (arith, captured c, captured_are (slice_get p.closures c))
   node_counts (term.Num n) = omega arith
@@ -159,10 +160,11 @@ module _ (p : CoreProgram) (captured : (c : ℕ) → captured_count (slice_get p
   node_counts term.Nil = omega arith
   node_counts (term.Var n) = omega arith
 
-  nodes_count : (xs : List Term) → 25 * nodes_weight (bytes p) xs ≤ 23 * nodes_size xs
+  nodes_count : (xs : List Term) → 25 * nodes_weight (bytes p) xs ≤ 2300 * length xs + 1025 * in_nodes xs
   nodes_count [] = omega arith
   nodes_count (x ∷ xs) = omega (arith, node_counts (out-Term x), nodes_count xs)
 
-  pub terms_count : (ts : List Term) → 25 * terms_weight (bytes p) ts ≤ 23 * terms_size ts
+  -- a closure takes more, for which what it counts itself is left
+  pub terms_count : (ts : List Term) → 25 * terms_weight (bytes p) ts ≤ 23 * terms_size ts + 1025 * in_terms ts
   terms_count [] = omega arith
   terms_count (t ∷ ts) = omega (arith, nodes_count (nodes t), terms_count ts)

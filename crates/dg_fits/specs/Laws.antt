@@ -17,13 +17,14 @@ use Rattle.dg_turn.specs.Sites.{sites_of}
 use Rattle.dg_emit.specs.Numbers.{numbers_end}
 use Rattle.dg_emit.specs.Code.{CodeFits}
 use Rattle.dg_emit.specs.Story.{first_number, story_routines}
+use Rattle.dg_fits.specs.Once.{StandOnce}
 use Rattle.dg_fits.specs.Sizes.{world_size, words_size, selects, story_size}
 
--- A sound program that isn't refused for its size, whose goals and heads hold at most 12 terms each, and code that stands for it and takes no more room
--- than its goals have, whatever the parts of code weigh.
+-- A sound program that isn't refused for its size, in which each closure stands in one term at most, whose goals and heads hold at most 12 terms each, and
+-- code that stands for it and takes no more room than its goals have, whatever the parts of code weigh.
 pub record IsSized (program : CoreProgram) (code : Code) : Type 0 where
   pub sound : IsSound program
-  pub closures : length program.closures ≤ 2200
+  pub once : StandOnce program
   pub world : world_size program ≤ 8000
   pub words : words_size program.words ≤ 20000
   pub size : story_size program ≤ 440000

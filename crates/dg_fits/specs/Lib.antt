@@ -1,3 +1,4 @@
 pub mod Sizes
+pub mod Once
 pub mod Laws
 pub mod inside

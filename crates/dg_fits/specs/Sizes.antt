@@ -2,8 +2,7 @@
 use Rattle.std.specs.Prelude.{ℕ, ◌+◌, ◌*◌, List, [], ◌∷◌, length}
 use Rattle.dg_base.specs.declared.program.Goal.{Goal, out-Goal}
 use Rattle.dg_base.specs.declared.program.Goal.TheOpen.{Goal-F, Text, Either, Once, Not, If, Exhaust, Collect, Accumulate, Stoppable, Select}
-use Rattle.dg_base.specs.declared.program.Term.{Term, out-Term}
-use Rattle.dg_base.specs.declared.program.Term.TheOpen.{Term-F, Closure}
+use Rattle.dg_base.specs.declared.program.Term.{Term}
 use Rattle.dg_base.specs.declared.program.Rule.{Rule}
 use Rattle.dg_base.specs.declared.program.ClosureBody.{ClosureBody}
 use Rattle.dg_base.specs.declared.program.Pred.{Pred}
@@ -47,17 +46,9 @@ abbrev pub names_size : List (List ℕ) → ℕ
 names_size [] = 0
 names_size (name ∷ names) = 6 * characters name + names_size names
 
--- A node counts 100. A closure counts 55, and each term that it is 145: in a source it is one, and both count 200 as two nodes do.
-abbrev pub node_size : Term-F Term → ℕ
-node_size (Closure c) = 145
-node_size layer = 100
-
-abbrev pub nodes_size : List Term → ℕ
-nodes_size [] = 0
-nodes_size (node ∷ nodes) = node_size (out-Term node) + nodes_size nodes
-
+-- A node counts 100.
 abbrev pub term_size : Term → ℕ
-term_size term = nodes_size (nodes term)
+term_size term = 100 * length (nodes term)
 
 abbrev pub terms_size : List Term → ℕ
 terms_size [] = 0
@@ -102,7 +93,7 @@ preds_size (pred ∷ preds) = 100 + rules_size pred.rules + preds_size preds
 
 abbrev pub closures_size : List ClosureBody → ℕ
 closures_size [] = 0
-closures_size (closure ∷ closures) = 55 + body_size closure.body + closures_size closures
+closures_size (closure ∷ closures) = 100 + body_size closure.body + closures_size closures
 
 -- The terms that start set.
 abbrev pub starts_size : List (ℕ × Term) → ℕ

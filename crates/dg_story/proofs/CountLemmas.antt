@@ -1,17 +1,17 @@
 -- What bodies and terms count, by their parts.
-use Rattle.std.proofs.Common.{◌≡◌, ℕ, ◌+◌, ◌-◌, ◌*◌, ◌≤◌, length, take, get_or, List, [], ◌∷◌, ◌++◌, refl, sym, ap, ◌∙◌, arith}
+use Rattle.std.proofs.Common.{◌≡◌, ℕ, ◌+◌, ◌-◌, ◌*◌, ◌≤◌, length, take, get_or, List, [], ◌∷◌, ◌++◌, refl, sym, ap, ◌∙◌, arith, length-append}
 use Rattle.std.specs.List.{flat_map}
-use Rattle.std.proofs.lemmas.List.{take_more, take_all, append-nil}
+use Rattle.std.proofs.lemmas.List.{take_more, take_all}
 use Rattle.dg_base.specs.declared.program.Goal.{Goal, out-Goal}
 use Rattle.dg_base.specs.declared.program.Goal.TheOpen as part
-use Rattle.dg_base.specs.declared.program.Term.{Term, out-Term}
+use Rattle.dg_base.specs.declared.program.Term.{Term}
 use Rattle.dg_base.specs.declared.program.Term.TheVariants as term
 use Rattle.dg_base.specs.declared.program.Term.TheBlock.{hidden-the_row-Term-0}
 use Rattle.dg_base.specs.Terms.{nodes}
 use Rattle.dg_base.specs.Goals.{goals_within, all_goals_of}
 use Rattle.dg_base.proofs.NodeLemmas.{inside, within_out}
 use Rattle.dg_story.specs.declared.counting.Left.{Left}
-use Rattle.dg_fits.specs.Sizes.{node_size, nodes_size, term_size, lists_held, goals_size, body_size, words_size}
+use Rattle.dg_fits.specs.Sizes.{term_size, lists_held, goals_size, body_size, words_size}
 use Rattle.dg_story.specs.inside.Counting.{left_size, lists_size, whole_size}
 
 pub left_append : (xs ys : List Left) → left_size (xs ++ ys) ≡ left_size xs + left_size ys
@@ -77,20 +77,15 @@ nodes_are : (h t : Term) → nodes (term.Pair h t) ≡ term.Pair h t ∷ ((nodes
 unfolding hidden-the_row-Term-0 denote.Hole.Carrier.hidden
 nodes_are h t = refl
 
-nodes_append : (xs ys : List Term) → nodes_size (xs ++ ys) ≡ nodes_size xs + nodes_size ys
-nodes_append [] ys = omega arith
-nodes_append (x ∷ xs) ys = omega (arith, nodes_append xs ys)
-
-pair_counts : (h t : Term) → node_size (out-Term (term.Pair h t)) ≡ 100
-unfolding out-Term denote.Hole.Carrier.out
-pair_counts h t = refl
-
 pub size_pair : (h t : Term) → term_size (term.Pair h t) ≡ 100 + (term_size h + term_size t)
 size_pair h t =
-    let a = nodes_append (nodes h ++ []) (nodes t ++ []) in
-    let b = ap nodes_size (append-nil (nodes h)) in
-    let c = ap nodes_size (append-nil (nodes t)) in
-    omega (arith, ap nodes_size (nodes_are h t), pair_counts h t, a, b, c)
+    omega (
+      arith,
+      ap length (nodes_are h t),
+      length-append (nodes h ++ []) (nodes t ++ []),
+      length-append (nodes h) [],
+      length-append (nodes t) [],
+    )
 
 -- Words count at least 3 each.
 pub words_many : (words : List (List ℕ)) → 3 * length words ≤ words_size words

@@ -17,7 +17,7 @@ use Rattle.dg_story.specs.inside.Stories.{IsWritten, HasStory}
 use Rattle.dg_story.proofs.Mapped.{written_long}
 use Rattle.dg_story.proofs.Rows.{from_kept_long, StartsFit}
 use Rattle.dg_story.proofs.Begun.{starts_so}
-use Rattle.dg_story.proofs.RefusalLemmas.{closures_few, world_fits, words_fit, story_fits}
+use Rattle.dg_story.proofs.RefusalLemmas.{world_fits, words_fit, story_fits}
 
 starts_long : (at : ℕ) (words : List (List ℕ)) → length (word_starts at words) ≡ 2 * length words
 starts_long at [] = refl
@@ -42,7 +42,7 @@ module _ (fit : fits.StoriesFit) (suit : fits.CodesSuit) (assembled : fits.Routi
   sized : fits.IsSized program code
   sized = record {
     sound = written.sound;
-    closures = closures_few program written.fits;
+    once = written.once;
     world = world_fits program written.fits;
     words = words_fit program written.fits;
     size = story_fits program written.fits;

@@ -12,27 +12,22 @@ use Rattle.dg_story.specs.Refusals.{build_refusal}
 use Rattle.dg_story.specs.Built.{rule_count}
 
 -- No refusal's test holds.
-record NoneHolds (b c f d : Bool) : Type 0 where
+record NoneHolds (b c d : Bool) : Type 0 where
   world : b ≡ false
   words : c ≡ false
-  few : f ≡ false
   whole : d ≡ false
 
-none_holds : (b c f d : Bool) → (if b then Some WorldTooLarge else (if c then Some WordsTooLarge else (if f then Some StoryTooLarge else (if d then Some StoryTooLarge else None)))) ≡ None → NoneHolds b c f d
-none_holds false false false false e = record { world = refl; words = refl; few = refl; whole = refl }
-none_holds false false false true e = absurd (search rules)
-none_holds false false true d e = absurd (search rules)
-none_holds false true f d e = absurd (search rules)
-none_holds true c f d e = absurd (search rules)
+none_holds : (b c d : Bool) → (if b then Some WorldTooLarge else (if c then Some WordsTooLarge else (if d then Some StoryTooLarge else None))) ≡ None → NoneHolds b c d
+none_holds false false false e = record { world = refl; words = refl; whole = refl }
+none_holds false false true e = absurd (search rules)
+none_holds false true d e = absurd (search rules)
+none_holds true c d e = absurd (search rules)
 
 module _ (p : CoreProgram) (e : build_refusal p ≡ None) where
-  none : NoneHolds (nat_lt 8000 (world_size p)) (nat_lt 20000 (words_size p.words)) (nat_lt 2200 (length p.closures)) (nat_lt 440000 (story_size p))
-  none = none_holds (nat_lt 8000 (world_size p)) (nat_lt 20000 (words_size p.words)) (nat_lt 2200 (length p.closures)) (nat_lt 440000 (story_size p)) e
+  none : NoneHolds (nat_lt 8000 (world_size p)) (nat_lt 20000 (words_size p.words)) (nat_lt 440000 (story_size p))
+  none = none_holds (nat_lt 8000 (world_size p)) (nat_lt 20000 (words_size p.words)) (nat_lt 440000 (story_size p)) e
 
-  -- There are few closures, and the sizes are within theirs.
-  pub closures_few : length p.closures ≤ 2200
-  closures_few = ltb-false 2200 (length p.closures) none.few
-
+  -- The sizes are within theirs.
   pub world_fits : world_size p ≤ 8000
   world_fits = ltb-false 8000 (world_size p) none.world
 

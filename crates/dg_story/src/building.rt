@@ -9,6 +9,7 @@ ghost use Rattle.dg_chain.specs.Agrees.{Agrees};
 ghost use Rattle.dg_emit.specs.Code.{CodeFits};
 ghost use Rattle.dg_emit.specs.Numbers.{numbers_end};
 ghost use Rattle.dg_emit.specs.Story.{first_number, story_routines};
+ghost use Rattle.dg_fits.specs.Once.{StandOnce};
 ghost use Rattle.dg_fits.specs.Sizes.{words_size};
 ghost use Rattle.z_asm.specs.Story.{IsTooLarge};
 ghost use Rattle.z_story.specs.Parts.{AreParts, image_of};
@@ -203,6 +204,7 @@ fn rule_count(preds: &[Pred]) -> u32
 // The story of a program that isn't refused.
 fn build_fitting(alloc: Global, program: CoreProgram) -> Result<Built, BuildFault>
     requires sound { IsSound program }
+    requires once { StandOnce program }
     requires goals { AllHoldFew 12 program }
     requires heads { HeadsAreFew 12 program }
     requires fits { build_refusal program ≡ None }
@@ -233,6 +235,7 @@ fn build_fitting(alloc: Global, program: CoreProgram) -> Result<Built, BuildFaul
 /// The story of a program, or why it has none: what `build_refusal` says, and else want of memory.
 pub fn build_story(alloc: Global, program: CoreProgram) -> Result<Built, BuildFault>
     requires sound { IsSound program }
+    requires once { StandOnce program }
     requires goals { AllHoldFew 12 program }
     requires heads { HeadsAreFew 12 program }
     ensures fits { OnOk result (build_refusal program ≡ None) }

@@ -25,11 +25,6 @@ const NODE: usize = 100;
 
 const CHARACTER: usize = 6;
 
-/// What a closure counts, and how much more than others a term that is one.
-const CLOSURE: usize = 55;
-
-const CLOSURE_TERM: usize = 45;
-
 fn place_size(kind: PlaceKind, objects: u64) -> u64
     requires { objects ≤ 65535 }
     ensures size { result ≡ spec.place_size objects kind }
@@ -249,7 +244,6 @@ impl<'p> Count<'p> {
         self.take(NODE)?;
         match term {
             Term::Pair(head, tail) => self.add_two(head.get(), tail.get()),
-            Term::Closure(_) => self.take(CLOSURE_TERM),
             _ => Ok(()),
         }
     }
@@ -321,7 +315,7 @@ impl<'p> Count<'p> {
         ensures lacks { IsErrOf result Room → Lacks (spec.closures_size closures.now) self.old }
     {
         for closure in closures {
-            self.take(CLOSURE)?;
+            self.take(NODE)?;
             self.add(Left::Goals(closure.body.as_slice()))?;
             self.clear()?;
         }

@@ -8,9 +8,6 @@ use crate::refusal::{BuildFault, BuildRefusal, Lack};
 use dg_base::CoreProgram;
 use std::alloc::Global;
 
-/// How many closures a program may have: as many as count no more than the whole may.
-const CLOSURES: usize = 2_200;
-
 fn refused(refusal: BuildRefusal) -> BuildFault
     ensures { result ≡ BuildFault.Refused refusal }
 {
@@ -28,9 +25,6 @@ pub fn check(alloc: Global, program: &CoreProgram) -> Result<(), BuildFault>
     }
     if !words_fit(program.words.as_slice()) {
         return Err(refused(BuildRefusal::WordsTooLarge));
-    }
-    if program.closures.len() > CLOSURES {
-        return Err(refused(BuildRefusal::StoryTooLarge));
     }
     match check_story(alloc, program) {
         Ok(()) => Ok(()),

@@ -5,6 +5,7 @@ ghost use Rattle.dg_base.specs.Sound.{IsSound};
 ghost use Rattle.dg_base.specs.Streams.{SourceView};
 ghost use Rattle.dg_base.specs.declared.program.CoreProgram.{CoreProgram as Core};
 ghost use Rattle.dg_meaning.specs.Few.{AllHoldFew, HeadsAreFew};
+ghost use Rattle.dg_fits.specs.Once.{StandOnce};
 ghost use Rattle.dialog_tool.specs.Promise.{Answers, HasStory};
 ghost use Rattle.dialog_tool.specs.inside.Building.{HasNoStory};
 ghost use Rattle.dialog_tool.specs.inside.Calls.{call, IsFetched};
@@ -29,6 +30,7 @@ fn story_of<K: Sink>(
     out: &mut K,
 ) -> Result<Vec<u8>, u8>
     requires sound { IsSound program }
+    requires once { StandOnce program }
     requires goals { AllHoldFew 12 program }
     requires heads { HeadsAreFew 12 program }
     ensures story { IfOk result (λ bytes. HasStory program bytes.items) }

@@ -4,6 +4,7 @@ ghost use Rattle.dg_base.specs.Shelves.{CalledOnce};
 ghost use Rattle.dg_base.specs.Sound.{IsSound};
 ghost use Rattle.dg_base.specs.Streams.{SourceView};
 ghost use Rattle.dg_meaning.specs.Few.{AllHoldFew, HeadsAreFew};
+ghost use Rattle.dg_fits.specs.Once.{StandOnce};
 ghost use Rattle.dialog_tool.specs.Promise.{Answers};
 ghost use Rattle.dialog_tool.specs.inside.Calls.{call, IsFetched};
 ghost use Rattle.dialog_tool.specs.Command.{Command};
@@ -13,6 +14,7 @@ ghost use Rattle.dg_compile.specs.Source.{Compiles, refusal_at};
 use crate::lines::{file_fault, no_memory, refuse};
 use dg_base::{CoreProgram, Kind, ReadFault, Refusal, Shelf, ShelfFault, Sink};
 use dg_compile::{compile, long_sources_are_refused};
+use dg_once::closures_stand_once;
 use std::alloc::Global;
 
 const MOST_BYTES: usize = 1_048_576;
@@ -36,6 +38,7 @@ pub fn program_in<F: Shelf, K: Sink>(
     ensures program { IfOk result (λ p.
         (file : List ℕ) × IsFetched (F.view shelf.old) (F.view shelf.new) name.now file × Compiles file (Ok p)) }
     ensures sound { IfOk result IsSound }
+    ensures once { IfOk result StandOnce }
     ensures goals { IfOk result (AllHoldFew 12) }
     ensures heads { IfOk result (HeadsAreFew 12) }
     ensures calls { CalledOnce (F.view shelf.old).calls (F.view shelf.new).calls }
@@ -45,6 +48,7 @@ pub fn program_in<F: Shelf, K: Sink>(
         Answers (call command dice (F.view shelf.old) (F.view shelf.new) input input (K.view out.old) (K.view out.new)) status) }
 {
     long_sources_are_refused();
+    closures_stand_once();
     let source = match shelf.fetch(alloc, name, MOST_BYTES) {
         Ok(source) => source,
         Err(ShelfFault::TooLong) => return Err(refuse(name, &too_long(), out)),

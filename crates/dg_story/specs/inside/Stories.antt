@@ -11,12 +11,14 @@ use Rattle.dg_mid.specs.Weights.{Weights, IsLight}
 use Rattle.z_story.specs.Parts.{AreParts}
 use Rattle.dg_chain.specs.Agrees.{Agrees}
 use Rattle.dg_emit.specs.Code.{CodeFits}
+use Rattle.dg_fits.specs.Once.{StandOnce}
 use Rattle.dg_story.specs.Refusals.{build_refusal}
 use Rattle.dg_story.specs.Built.{story_parts, keeps_within, IsStoryOf, HasNoStory}
 
 -- A program that isn't refused, with code that was written of it.
 pub record IsWritten (program : CoreProgram) (code : Code) : Type 0 where
   pub sound : IsSound program
+  pub once : StandOnce program
   pub goals : AllHoldFew 12 program
   pub heads : HeadsAreFew 12 program
   pub fits : build_refusal program ≡ None

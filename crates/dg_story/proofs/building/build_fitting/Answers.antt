@@ -43,12 +43,12 @@ rule_count-rule_routines-requires c = omega (arith, ap rule_count c.as_slice.ens
 
 pub story_with-story-requires-clause-fits : goal.story_with-story-requires-clause-fits
 story_with-story-requires-clause-fits c =
-    let written : IsWritten c.args.program c.in_ok-code.code = record { sound = c.requires.sound; goals = c.requires.goals; heads = c.requires.heads; fits = c.requires.fits; codes = c.in_ok-code.ensures.codes; tidy = c.in_ok-code.ensures.tidy; leaves = c.in_ok-code.ensures.leave; light = c.in_ok-code.ensures.light } in
+    let written : IsWritten c.args.program c.in_ok-code.code = record { sound = c.requires.sound; once = c.requires.once; goals = c.requires.goals; heads = c.requires.heads; fits = c.requires.fits; codes = c.in_ok-code.ensures.codes; tidy = c.in_ok-code.ensures.tidy; leaves = c.in_ok-code.ensures.leave; light = c.in_ok-code.ensures.light } in
     code_fits c.routines_alike.ensures c.args.program c.in_ok-code.code c.in-Ok.left c.in-Ok.ensures (c.programs_have_stories.ensures c.args.program c.in_ok-code.code written)
 
 pub story_with-story-requires-clause-parts : goal.story_with-story-requires-clause-parts
 story_with-story-requires-clause-parts c =
-    let written : IsWritten c.args.program c.in_ok-code.code = record { sound = c.requires.sound; goals = c.requires.goals; heads = c.requires.heads; fits = c.requires.fits; codes = c.in_ok-code.ensures.codes; tidy = c.in_ok-code.ensures.tidy; leaves = c.in_ok-code.ensures.leave; light = c.in_ok-code.ensures.light } in
+    let written : IsWritten c.args.program c.in_ok-code.code = record { sound = c.requires.sound; once = c.requires.once; goals = c.requires.goals; heads = c.requires.heads; fits = c.requires.fits; codes = c.in_ok-code.ensures.codes; tidy = c.in_ok-code.ensures.tidy; leaves = c.in_ok-code.ensures.leave; light = c.in_ok-code.ensures.light } in
     parts_fit c.routines_alike.ensures c.args.program c.in_ok-code.code c.in-Ok.left c.in-Ok.ensures (c.programs_have_stories.ensures c.args.program c.in_ok-code.code written)
 
 pub returns-in-Ok-story-clause-built : goal.returns-in-Ok-story-clause-built
@@ -68,7 +68,7 @@ returns-in-Ok-story-clause-built c =
 
 pub returns-in-Ok-story-clause-agrees : goal.returns-in-Ok-story-clause-agrees
 returns-in-Ok-story-clause-agrees c =
-    let written : IsWritten c.args.program c.in_ok-code.code = record { sound = c.requires.sound; goals = c.requires.goals; heads = c.requires.heads; fits = c.requires.fits; codes = c.in_ok-code.ensures.codes; tidy = c.in_ok-code.ensures.tidy; leaves = c.in_ok-code.ensures.leave; light = c.in_ok-code.ensures.light } in
+    let written : IsWritten c.args.program c.in_ok-code.code = record { sound = c.requires.sound; once = c.requires.once; goals = c.requires.goals; heads = c.requires.heads; fits = c.requires.fits; codes = c.in_ok-code.ensures.codes; tidy = c.in_ok-code.ensures.tidy; leaves = c.in_ok-code.ensures.leave; light = c.in_ok-code.ensures.light } in
     elim c.match-left-2.branch [
       | in-Ok w ↦
           c.stories_agree.ensures c.args.program c.in_ok-code.code written c.in-Ok-story.story.items
@@ -79,7 +79,7 @@ returns-in-Ok-story-clause-agrees c =
 
 pub returns-in-Err-story-clause-fits : goal.returns-in-Err-story-clause-fits
 returns-in-Err-story-clause-fits c e =
-    let written : IsWritten c.args.program c.in_ok-code.code = record { sound = c.requires.sound; goals = c.requires.goals; heads = c.requires.heads; fits = c.requires.fits; codes = c.in_ok-code.ensures.codes; tidy = c.in_ok-code.ensures.tidy; leaves = c.in_ok-code.ensures.leave; light = c.in_ok-code.ensures.light } in
+    let written : IsWritten c.args.program c.in_ok-code.code = record { sound = c.requires.sound; once = c.requires.once; goals = c.requires.goals; heads = c.requires.heads; fits = c.requires.fits; codes = c.in_ok-code.ensures.codes; tidy = c.in_ok-code.ensures.tidy; leaves = c.in_ok-code.ensures.leave; light = c.in_ok-code.ensures.light } in
     let f = same_fault c.in-Err-story.fault e in
     elim c.match-left-2.branch [
       | in-Ok w ↦

@@ -29,3 +29,6 @@ returns-in-Err-Refused-clause-ends g c = λ command dice input words.
 
 pub returns-clause-ends : goal.returns-clause-ends
 returns-clause-ends g c = λ command dice input words. no_room _ _ c.in-Ok.ensures.kept refl c.no_memory-in-Err-OutOfMemory-compile.ensures
+
+pub returns-in-Ok-compile-clause-once : goal.returns-in-Ok-compile-clause-once
+returns-in-Ok-compile-clause-once g c = c.closures_stand_once.ensures _ _ c.in-Ok-compile.ensures.program
