@@ -6,9 +6,11 @@ use Rattle.std.proofs.lemmas.Option.{same_Some}
 use Rattle.z_asm.specs.declared.image.Code.{Code}
 use Rattle.z_asm.specs.declared.image.Image.{Image}
 use Rattle.z_asm.specs.Layout.{aligned, code_size, stand_from, spans_from, end_from, packed_address}
-use Rattle.z_asm.specs.Story.{routines_from}
-use Rattle.z_asm.specs.Assembled.{ArePlaces}
-use Rattle.z_asm.proofs.Layouts.{aligned_is, near, next_end}
+use Rattle.z_asm.specs.Story.{front_of, routines_from, image_end, story_of}
+use Rattle.z_asm.specs.Conditions.{IsImage}
+use Rattle.z_asm.specs.Assembled.{AreApart, ArePlaces}
+use Rattle.z_asm.proofs.Layouts.{aligned_is, aligned_most, near, next_end}
+use Rattle.z_asm.proofs.Standing.{whole}
 
 spans_many : (at : ℕ) (codes : List Code) → length (spans_from at (map code_size codes)) ≡ length codes
 spans_many at [] = refl
@@ -23,10 +25,20 @@ span_is at (c ∷ codes) zero code e =
     ∙ ap (λ (y : Code). Some (8 * (aligned at / 8), 8 * (aligned at / 8) + code_size y)) (same_Some c code e)
 span_is at (c ∷ codes) (suc k) code e = span_is (aligned at + code_size c) codes k code e
 
-pub are_places : (image : Image) → ArePlaces image (spans_from (routines_from image) (map code_size image.routines))
-are_places image = record {
+spans_apart : (before at end : ℕ) (codes : List Code) → before ≤ at → end_from at (map code_size codes) ≤ end → AreApart before end (spans_from at (map code_size codes))
+spans_apart before at end [] h e = omega arith
+spans_apart before at end (c ∷ codes) h e =
+    let w = aligned_most at in
+    (omega arith, omega arith, spans_apart (aligned at + code_size c) (aligned at + code_size c) end codes (omega arith) e)
+
+pub are_places : (image : Image) → IsImage image → front_of image ≤ 65536 → image_end image ≤ 524280 → ArePlaces image (spans_from (routines_from image) (map code_size image.routines))
+are_places image is readable close = record {
   count = spans_many (routines_from image) image.routines;
   each = λ k code e. span_is (routines_from image) image.routines k code e;
+  apart =
+      let long = whole image is readable close in
+      let most = aligned_most (image_end image) in
+      spans_apart 0 (routines_from image) (length (story_of image)) image.routines (omega arith) (omega arith);
 }
 
 -- the next routine ends near where all do

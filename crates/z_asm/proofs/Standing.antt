@@ -236,7 +236,7 @@ module _ (image : Image) (is : IsImage image) (readable : front_of image ≤ 655
       by_first : (h z w f d x y : List ℕ) → h ++ ((z ++ (w ++ (f ++ (d ++ x)))) ++ y) ≡ ((((h ++ z) ++ w) ++ f) ++ d) ++ (x ++ y)
       by_first h z w f d x y = simp append_assoc
 
-  whole : length (story_of image) ≡ aligned (image_end image)
+  pub whole : length (story_of image) ≡ aligned (image_end image)
   whole =
       let a = laid_long (routines_from image) (map (code_part (image_names image)) image.routines) (map code_size image.routines) (codes_sized (image_names image) image.routines writable) in
       let m = aligned_most (image_end image) in

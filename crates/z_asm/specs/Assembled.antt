@@ -1,5 +1,5 @@
 -- What an assembled story has: each table, string and routine at its address, a header, and first instructions.
-use Rattle.std.specs.Prelude.{◌≡◌, ℕ, ◌+◌, ◌*◌, ◌≤◌, List, length, Some, None, true, false, slice_get}
+use Rattle.std.specs.Prelude.{◌≡◌, ℕ, ◌+◌, ◌*◌, ◌<◌, ◌≤◌, List, [], ◌∷◌, length, Some, None, true, false, slice_get}
 use Rattle.z_model.specs.Spelling.{BytesAt}
 use Rattle.z_model.specs.Story.{story_refusal, first_address, globals_of, static_base as story_base, length_of, layout_of}
 use Rattle.z_code.specs.Targets.{label_from, OpsAt}
@@ -9,7 +9,7 @@ use Rattle.z_asm.specs.declared.image.Table.{Table}
 use Rattle.z_asm.specs.declared.image.Image.{Image}
 use Rattle.z_asm.specs.Header.{globals}
 use Rattle.z_asm.specs.Layout.{code_size}
-use Rattle.z_asm.specs.Story.{image_base, code_start, front_of, image_names, first_ops}
+use Rattle.z_asm.specs.Story.{image_base, code_start, front_of, image_names, first_ops, story_of}
 
 -- A table's bytes stand at its address: before the static base where it is writable, and from there on where it isn't.
 pub record HasTable (image : Image) (story : List ℕ) (k : ℕ) (t : Table) : Type 0 where
@@ -44,8 +44,14 @@ pub record IsAssembled (image : Image) (story : List ℕ) : Type 0 where
   pub texts : (k : ℕ) (text : List ℕ) → slice_get image.strings k ≡ Some text → HasText image story k text
   pub routines : (k : ℕ) (code : Code) → slice_get image.routines k ≡ Some code → HasCode image story k code
 
+-- Stretches in order from a place on, none empty, apart, and within the end.
+abbrev pub AreApart : ℕ → ℕ → List (ℕ × ℕ) → Type 0
+AreApart at end [] = at ≤ end
+AreApart at end (place ∷ places) = (at ≤ place.0) × (place.0 < place.1) × AreApart place.1 end places
+
 -- For each routine its first byte, which stands at its packed address, and the place behind its last.
 pub record ArePlaces (image : Image) (places : List (ℕ × ℕ)) : Type 0 where
   pub count : length places ≡ length image.routines
   pub each : (k : ℕ) (code : Code) → slice_get image.routines k ≡ Some code →
       let start = 8 * (image_names image).routine k in slice_get places k ≡ Some (start, start + code_size code)
+  pub apart : AreApart 0 (length (story_of image)) places
