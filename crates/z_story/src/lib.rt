@@ -9,7 +9,7 @@ ghost use Rattle.z_story.specs.declared.building.Parts.{Parts};
 ghost use Rattle.z_story.specs.Parts.{AreParts, image_of};
 ghost use Rattle.z_story.specs.Does.{StoryDoes};
 
-pub use building::{Parts, build};
+pub use building::{Parts, Placed, build};
 use z_lang::{lists_stand, routines_follow};
 
 /// In a story that is assembled of routines each does what its acts mean, and the run is the first one's.
