@@ -3,9 +3,10 @@ use Rattle.std.proofs.Common.{◌≡◌, ℕ, List, Bool, sym, ap, ◌∙◌, su
 use Rattle.dg_base.specs.declared.program.CoreProgram.{CoreProgram}
 use Rattle.dg_mid.specs.declared.code.Code.{Code}
 use Rattle.z_asm.specs.declared.image.Table.{Table}
+use Rattle.z_asm.specs.Assembled.{ArePlaces}
 use Rattle.z_lang.specs.declared.act.Routine.{Routine}
 use Rattle.z_story.specs.declared.building.Parts.{Parts}
-use Rattle.z_story.specs.Parts.{AreParts}
+use Rattle.z_story.specs.Parts.{AreParts, image_of}
 use Rattle.dg_rt.specs.RunTime.{routine_of, runtime}
 use Rattle.dg_emit.specs.Outline.{RoutinesAlike, SameOutline}
 use Rattle.dg_emit.specs.Code.{CodeFits}
@@ -43,3 +44,6 @@ module _ (alike : RoutinesAlike) (program : CoreProgram) (code : Code) (left : L
 
   pub story_is : (story : List ℕ) → IsStoryOf (parts_left left code) story → IsStoryOf (story_parts program code (keeps_within program)) story
   story_is story h = subst (λ (parts : Parts). IsStoryOf parts story) parts_are h
+
+  pub places_are : (places : List (ℕ × ℕ)) → ArePlaces (image_of (parts_left left code)) places → ArePlaces (image_of (story_parts program code (keeps_within program))) places
+  places_are places h = subst (λ (parts : Parts). ArePlaces (image_of parts) places) parts_are h

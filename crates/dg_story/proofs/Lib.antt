@@ -21,3 +21,5 @@ pub mod Keeping
 pub mod Agreeing
 pub mod Fitting
 pub mod Alone
+pub mod Marking
+pub mod Marked

@@ -25,6 +25,7 @@ use Rattle.dg_fits.specs.Laws.{parts_with}
 use Rattle.dg_story.specs.Kept.{kept_areas, start_words_from, kept_facts, kept_blocks}
 pub use Rattle.dg_story.specs.Kept.{keeps_within}
 use Rattle.dg_story.specs.declared.building.Built.{Built}
+use Rattle.dg_story.specs.Marks.{HasMarks}
 use Rattle.dg_story.specs.declared.refusal.BuildFault.{BuildFault}
 use Rattle.dg_story.specs.declared.refusal.BuildFault.TheVariants.{Refused}
 use Rattle.dg_story.specs.declared.refusal.BuildRefusal.TheVariants.{StoryTooLarge}
@@ -108,10 +109,11 @@ abbrev pub rule_count : List Pred → ℕ
 rule_count [] = 0
 rule_count (pred ∷ preds) = length pred.rules + rule_count preds
 
--- What is built of a program: a story of tidy code that stands for it, and the number of its rules.
+-- What is built of a program: a story of tidy code that stands for it, the number of its rules, and a mark for each.
 pub record IsBuilt (program : CoreProgram) (built : Built) : Type 0 where
   pub code : Code
   pub codes : Codes program code
   pub tidy : Tidy code
   pub story : IsStoryOf (story_parts program code (keeps_within program)) built.story.items
   pub rules : built.rule_routines ≡ rule_count program.preds
+  pub marks : HasMarks program code (story_parts program code (keeps_within program)) built.story.items built.marks.items

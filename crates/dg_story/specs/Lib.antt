@@ -1,4 +1,5 @@
 pub mod Refusals
 pub mod Kept
 pub mod Built
+pub mod Marks
 pub mod inside

@@ -1,4 +1,5 @@
 pub mod Counting
+pub mod Marked
 pub mod Stories
 pub mod Left
 pub mod World

@@ -1,5 +1,5 @@
 // The story of a program.
-ghost use Rattle.std.specs.Prelude.{◌≡◌, ◌<◌, ◌≤◌, ◌++◌, ◌∷◌, [], None, Some, All, IfOk, OnOk, IsErrOf, length};
+ghost use Rattle.std.specs.Prelude.{◌≡◌, ◌<◌, ◌≤◌, ◌+◌, ◌++◌, ◌∷◌, [], None, Some, All, IfOk, OnOk, IsErrOf, length};
 ghost use Rattle.dg_base.specs.Sound.{IsSound};
 ghost use Rattle.dg_base.specs.declared.program.ClosureBody.{ClosureBody as TheClosure};
 ghost use Rattle.dg_meaning.specs.Facts.{kinds_of};
@@ -11,16 +11,19 @@ ghost use Rattle.dg_emit.specs.Numbers.{numbers_end};
 ghost use Rattle.dg_emit.specs.Story.{first_number, story_routines};
 ghost use Rattle.dg_fits.specs.Once.{StandOnce};
 ghost use Rattle.dg_fits.specs.Sizes.{words_size};
+ghost use Rattle.z_asm.specs.Assembled.{ArePlaces};
 ghost use Rattle.z_asm.specs.Story.{IsTooLarge};
 ghost use Rattle.z_story.specs.Parts.{AreParts, image_of};
 ghost use Rattle.dg_story.specs.Refusals.{build_refusal};
 ghost use Rattle.dg_story.specs.Built as spec;
 ghost use Rattle.dg_story.specs.inside.Keeping.{KeepsWords};
 ghost use Rattle.dg_story.specs.inside.Left.{IsLeftOf, parts_left};
+ghost use Rattle.dg_story.specs.inside.Marked.{HasThose};
 ghost use Rattle.dg_story.specs.inside.World.{AllAreSmall};
 
 use crate::kept::{areas_table, start_world};
 use crate::laws::{programs_have_stories, stories_agree};
+use crate::marks::{marks_of, rule_names};
 use crate::refusal::{BuildFault, BuildRefusal};
 use crate::refused::check;
 use crate::words::words_part;
@@ -33,13 +36,15 @@ use dg_world::World;
 use std::alloc::{AllocError, Global};
 use z_asm::{AsmFault, Table};
 use z_lang::Routine;
-use z_story::{Parts, build};
+use z_list::Mark;
+use z_story::{Parts, Placed, build};
 
-/// A story, and how many of its routines are those of rules.
+/// A story, how many of its routines are those of rules, and where each of these stands, in the order of predicates and of their rules.
 #[derive(Drop)]
 pub struct Built {
     pub story: Vec<u8>,
     pub rule_routines: u32,
+    pub marks: Vec<Mark>,
 }
 
 /// The cells that what starts keep may have.
@@ -119,13 +124,14 @@ fn routines_of(
 }
 
 // The story of parts.
-fn story_of(alloc: Global, parts: Parts) -> Result<Vec<u8>, BuildFault>
+fn story_of(alloc: Global, parts: Parts) -> Result<Placed, BuildFault>
     requires { AreParts parts }
-    ensures ok { IfOk result (λ story. spec.IsStoryOf parts story.items) }
+    ensures ok { IfOk result (λ placed. spec.IsStoryOf parts placed.story.items) }
+    ensures places { IfOk result (λ placed. ArePlaces (image_of parts) placed.places.items) }
     ensures large { IsErrOf result spec.too_large → IsTooLarge (image_of parts) }
 {
     match build(alloc, parts) {
-        Ok(story) => Ok(story),
+        Ok(placed) => Ok(placed),
         Err(AsmFault::TooLarge) => Err(BuildFault::Refused(BuildRefusal::StoryTooLarge)),
         Err(AsmFault::OutOfMemory) => Err(BuildFault::OutOfMemory),
     }
@@ -178,10 +184,11 @@ fn parts_of(alloc: Global, left: Left, code: &Code) -> Result<Parts, BuildFault>
 }
 
 // The story of these tables and of the routines of some code.
-fn story_with(alloc: Global, left: Left, code: &Code) -> Result<Vec<u8>, BuildFault>
+fn story_with(alloc: Global, left: Left, code: &Code) -> Result<Placed, BuildFault>
     requires fits { CodeFits left.outline code.now }
     requires parts { AreParts (parts_left left code.now) }
-    ensures ok { IfOk result (λ story. spec.IsStoryOf (parts_left left code.now) story.items) }
+    ensures ok { IfOk result (λ placed. spec.IsStoryOf (parts_left left code.now) placed.story.items) }
+    ensures places { IfOk result (λ placed. ArePlaces (image_of (parts_left left code.now)) placed.places.items) }
     ensures large { IsErrOf result spec.too_large → spec.HasNoStory code.now (parts_left left code.now) }
 {
     match parts_of(alloc, left, code) {
@@ -201,6 +208,26 @@ fn rule_count(preds: &[Pred]) -> u32
     count
 }
 
+// A story with the marks of these rules, of which there are so many.
+fn with_marks(
+    alloc: Global,
+    placed: Placed,
+    rules: Result<Vec<(u16, u16)>, AllocError>,
+    rule_routines: u32,
+) -> Result<Built, BuildFault>
+    requires { IfOk rules (λ names. first_number + length names.items ≤ length placed.places.items) }
+    ensures ok { IfOk result (λ built. HasThose placed rules rule_routines built) }
+    ensures fits { IsErrOf result spec.too_large → ⊥ }
+{
+    let rules = rules?;
+    let marks = marks_of(alloc, &rules, &placed.places)?;
+    Ok(Built {
+        story: placed.story,
+        rule_routines,
+        marks,
+    })
+}
+
 // The story of a program that isn't refused.
 fn build_fitting(alloc: Global, program: CoreProgram) -> Result<Built, BuildFault>
     requires sound { IsSound program }
@@ -216,6 +243,7 @@ fn build_fitting(alloc: Global, program: CoreProgram) -> Result<Built, BuildFaul
     programs_have_stories();
     routines_alike();
     let left = left_of(alloc, &program);
+    let rules = rule_names(alloc, program.preds.as_slice());
     let rule_routines = rule_count(program.preds.as_slice());
     let code = to_mid(program, alloc)?;
     let story = match left {
@@ -224,10 +252,7 @@ fn build_fitting(alloc: Global, program: CoreProgram) -> Result<Built, BuildFaul
     };
     let_go(alloc, code);
     match story {
-        Ok(story) => Ok(Built {
-            story,
-            rule_routines,
-        }),
+        Ok(placed) => with_marks(alloc, placed, rules, rule_routines),
         Err(fault) => Err(fault),
     }
 }

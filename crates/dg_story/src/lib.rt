@@ -5,6 +5,7 @@ mod building;
 mod counting;
 mod kept;
 mod laws;
+mod marks;
 mod refusal;
 mod refused;
 mod words;

@@ -1,17 +1,23 @@
-use Rattle.std.proofs.Common.{◌≡◌, ℕ, IfOk, Result, Ok, Err, Vec, Global, ap, sym, ◌∙◌, subst, arith}
+use Rattle.std.proofs.Common.{◌≡◌, List, IfOk, Result, Ok, Err, length, ap, sym, ◌∙◌, subst, arith}
+use Rattle.dg_base.specs.declared.program.Pred.{Pred}
+use Rattle.z_asm.specs.Assembled.{ArePlaces}
+use Rattle.z_story.specs.declared.building.Placed.{Placed}
+use Rattle.z_story.specs.Parts.{image_of}
 use Rattle.dg_story.specs.Built.{IsStoryOf, rule_count, too_large}
 use Rattle.dg_story.specs.declared.building.Built.{Built}
 use Rattle.dg_story.specs.declared.refusal.BuildFault.{BuildFault}
 use Rattle.dg_story.specs.declared.refusal.BuildFault.TheVariants.{OutOfMemory}
+use Rattle.dg_story.specs.Marks.{rule_names}
 use Rattle.dg_story.specs.inside.Left.{parts_left}
 use Rattle.dg_story.specs.inside.Stories.{IsWritten}
 use Rattle.dg_story.proofs.Begun.{all_small, room_so, words_so}
-use Rattle.dg_story.proofs.Alone.{code_fits, parts_fit, none_large, story_is}
+use Rattle.dg_story.proofs.Alone.{code_fits, parts_fit, none_large, story_is, places_are}
+use Rattle.dg_story.proofs.Marked.{rules_enough, built_so, agrees_so}
 use Rattle.dg_story.proofs.RefusalLemmas.{rules_few, words_fit}
 use Rattle.dg_story.proofs.building.build_fitting.Goals as goal
 use Rattle.dg_story.proofs.building.build_fitting.Goals.{in-Ok, in-Err}
 
-abbrev failed : BuildFault → Result (Vec ℕ Global) BuildFault
+abbrev failed : BuildFault → Result Placed BuildFault
 failed fault = Err fault
 
 abbrev refused : BuildFault → Result Built BuildFault
@@ -23,7 +29,7 @@ same_fault fault e = cc
 other_fault : (fault : BuildFault) → failed fault ≡ failed OutOfMemory → fault ≡ too_large → ⊥
 other_fault fault e f = cc
 
-never : (story : Vec ℕ Global) (fault : BuildFault) → ◌≡◌ {A = Result (Vec ℕ Global) BuildFault} (Ok story) (Err fault) → ⊥
+never : (story : Placed) (fault : BuildFault) → ◌≡◌ {A = Result Placed BuildFault} (Ok story) (Err fault) → ⊥
 never story fault e = cc
 
 pub left_of-left-requires-clause-starts : goal.left_of-left-requires-clause-starts
@@ -39,7 +45,7 @@ pub left_of-left-requires-clause-room : goal.left_of-left-requires-clause-room
 left_of-left-requires-clause-room c = room_so c.args.program c.requires.sound c.requires.fits
 
 pub rule_count-rule_routines-requires : goal.rule_count-rule_routines-requires
-rule_count-rule_routines-requires c = omega (arith, ap rule_count c.as_slice.ensures, rules_few c.args.program c.requires.fits)
+rule_count-rule_routines-requires c = omega (arith, ap rule_count c.as_slice-2.ensures, rules_few c.args.program c.requires.fits)
 
 pub story_with-story-requires-clause-fits : goal.story_with-story-requires-clause-fits
 story_with-story-requires-clause-fits c =
@@ -51,19 +57,28 @@ story_with-story-requires-clause-parts c =
     let written : IsWritten c.args.program c.in_ok-code.code = record { sound = c.requires.sound; once = c.requires.once; goals = c.requires.goals; heads = c.requires.heads; fits = c.requires.fits; codes = c.in_ok-code.ensures.codes; tidy = c.in_ok-code.ensures.tidy; leaves = c.in_ok-code.ensures.leave; light = c.in_ok-code.ensures.light } in
     parts_fit c.routines_alike.ensures c.args.program c.in_ok-code.code c.in-Ok.left c.in-Ok.ensures (c.programs_have_stories.ensures c.args.program c.in_ok-code.code written)
 
+pub with_marks-requires : goal.with_marks-requires
+with_marks-requires c =
+    elim c.match-left-2.branch [
+      | in-Ok w ↦
+          rules_enough c.args.program c.in_ok-code.code c.in_ok-code.ensures.codes c.in-Ok-story.placed.places.items
+          (places_are c.routines_alike.ensures c.args.program c.in_ok-code.code w.in-Ok.left w.in-Ok.ensures c.in-Ok-story.placed.places.items
+          (subst (λ (r : Result Placed BuildFault). IfOk r (λ placed. ArePlaces (image_of (parts_left w.in-Ok.left c.in_ok-code.code)) placed.places.items)) (sym w.story-is ∙ c.in-Ok-story.is) w.story_with-story.ensures.places)) c.rule_names-rules.result (subst (λ (ps : List Pred). IfOk c.rule_names-rules.result (λ names. names.items ≡ rule_names 0 ps)) c.as_slice.ensures c.rule_names-rules.ensures)
+      | in-Err w ↦ absurd (never c.in-Ok-story.placed OutOfMemory (sym c.in-Ok-story.is ∙ w.story-is))
+    ]
+
 pub returns-in-Ok-story-clause-built : goal.returns-in-Ok-story-clause-built
 returns-in-Ok-story-clause-built c =
     elim c.match-left-2.branch [
-      | in-Ok w ↦ record {
-        code = c.in_ok-code.code;
-        codes = c.in_ok-code.ensures.codes;
-        tidy = c.in_ok-code.ensures.tidy;
-        story =
-            story_is c.routines_alike.ensures c.args.program c.in_ok-code.code w.in-Ok.left w.in-Ok.ensures c.in-Ok-story.story.items
-            (subst (λ (r : Result (Vec ℕ Global) BuildFault). IfOk r (λ story. IsStoryOf (parts_left w.in-Ok.left c.in_ok-code.code) story.items)) (sym w.story-is ∙ c.in-Ok-story.is) w.story_with-story.ensures.ok);
-        rules = c.rule_count-rule_routines.ensures ∙ ap rule_count c.as_slice.ensures;
-      }
-      | in-Err w ↦ absurd (never c.in-Ok-story.story OutOfMemory (sym c.in-Ok-story.is ∙ w.story-is))
+      | in-Ok w ↦
+          built_so c.args.program c.in_ok-code.code c.in_ok-code.ensures.codes c.in_ok-code.ensures.tidy c.in-Ok-story.placed c.rule_names-rules.result
+          (subst (λ (ps : List Pred). IfOk c.rule_names-rules.result (λ names. names.items ≡ rule_names 0 ps)) c.as_slice.ensures c.rule_names-rules.ensures) c.rule_count-rule_routines.result (c.rule_count-rule_routines.ensures ∙ ap rule_count c.as_slice-2.ensures)
+          (story_is c.routines_alike.ensures c.args.program c.in_ok-code.code w.in-Ok.left w.in-Ok.ensures c.in-Ok-story.placed.story.items
+          (subst (λ (r : Result Placed BuildFault). IfOk r (λ placed. IsStoryOf (parts_left w.in-Ok.left c.in_ok-code.code) placed.story.items)) (sym w.story-is ∙ c.in-Ok-story.is) w.story_with-story.ensures.ok))
+          (places_are c.routines_alike.ensures c.args.program c.in_ok-code.code w.in-Ok.left w.in-Ok.ensures c.in-Ok-story.placed.places.items
+          (subst (λ (r : Result Placed BuildFault). IfOk r (λ placed. ArePlaces (image_of (parts_left w.in-Ok.left c.in_ok-code.code)) placed.places.items)) (sym w.story-is ∙ c.in-Ok-story.is) w.story_with-story.ensures.places))
+          c.with_marks.result c.with_marks.ensures.ok
+      | in-Err w ↦ absurd (never c.in-Ok-story.placed OutOfMemory (sym c.in-Ok-story.is ∙ w.story-is))
     ]
 
 pub returns-in-Ok-story-clause-agrees : goal.returns-in-Ok-story-clause-agrees
@@ -71,11 +86,19 @@ returns-in-Ok-story-clause-agrees c =
     let written : IsWritten c.args.program c.in_ok-code.code = record { sound = c.requires.sound; once = c.requires.once; goals = c.requires.goals; heads = c.requires.heads; fits = c.requires.fits; codes = c.in_ok-code.ensures.codes; tidy = c.in_ok-code.ensures.tidy; leaves = c.in_ok-code.ensures.leave; light = c.in_ok-code.ensures.light } in
     elim c.match-left-2.branch [
       | in-Ok w ↦
-          c.stories_agree.ensures c.args.program c.in_ok-code.code written c.in-Ok-story.story.items
-          (story_is c.routines_alike.ensures c.args.program c.in_ok-code.code w.in-Ok.left w.in-Ok.ensures c.in-Ok-story.story.items
-          (subst (λ (r : Result (Vec ℕ Global) BuildFault). IfOk r (λ story. IsStoryOf (parts_left w.in-Ok.left c.in_ok-code.code) story.items)) (sym w.story-is ∙ c.in-Ok-story.is) w.story_with-story.ensures.ok))
-      | in-Err w ↦ absurd (never c.in-Ok-story.story OutOfMemory (sym c.in-Ok-story.is ∙ w.story-is))
+          agrees_so c.args.program c.in-Ok-story.placed c.rule_names-rules.result c.rule_count-rule_routines.result
+          (c.stories_agree.ensures c.args.program c.in_ok-code.code written c.in-Ok-story.placed.story.items
+          (story_is c.routines_alike.ensures c.args.program c.in_ok-code.code w.in-Ok.left w.in-Ok.ensures c.in-Ok-story.placed.story.items
+          (subst (λ (r : Result Placed BuildFault). IfOk r (λ placed. IsStoryOf (parts_left w.in-Ok.left c.in_ok-code.code) placed.story.items)) (sym w.story-is ∙ c.in-Ok-story.is) w.story_with-story.ensures.ok)))
+          c.with_marks.result c.with_marks.ensures.ok
+      | in-Err w ↦ absurd (never c.in-Ok-story.placed OutOfMemory (sym c.in-Ok-story.is ∙ w.story-is))
     ]
+
+pub rule_names-rules-requires-clause-few : goal.rule_names-rules-requires-clause-few
+rule_names-rules-requires-clause-few c = omega (arith, ap length c.as_slice.ensures, c.requires.sound.few_preds)
+
+pub rule_names-rules-requires-clause-rules : goal.rule_names-rules-requires-clause-rules
+rule_names-rules-requires-clause-rules c = omega (arith, ap rule_count c.as_slice.ensures, rules_few c.args.program c.requires.fits)
 
 pub returns-in-Err-story-clause-fits : goal.returns-in-Err-story-clause-fits
 returns-in-Err-story-clause-fits c e =
