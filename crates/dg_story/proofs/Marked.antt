@@ -1,5 +1,5 @@
 -- What is built has the marks of its rules.
-use Rattle.std.proofs.Common.{◌≡◌, ℕ, ◌+◌, ◌≤◌, List, length, drop, IfOk, Result, Ok, Err, Vec, Global, Bool, sym, ap, ◌∙◌, subst, arith}
+use Rattle.std.proofs.Common.{◌≡◌, ℕ, ◌+◌, ◌≤◌, List, length, drop, IfOk, Result, Ok, Err, Vec, Global, sym, ap, ◌∙◌, subst}
 use Rattle.dg_base.specs.declared.program.CoreProgram.{CoreProgram}
 use Rattle.dg_mid.specs.declared.code.Code.{Code}
 use Rattle.dg_mid.specs.Codes.{Codes}

@@ -1,5 +1,5 @@
 -- The marks of rules are where their routines stand.
-use Rattle.std.proofs.Common.{◌⊎◌, inl, inr, ◌≡◌, ℕ, zero, suc, ◌+◌, ◌-◌, ◌*◌, ◌≤◌, ◌<◌, List, [], ◌∷◌, ◌++◌, length, map, drop, get_or, Some, None, Bool, refl, sym, ap, ◌∙◌, subst, arith, append_assoc, length-append}
+use Rattle.std.proofs.Common.{◌⊎◌, inl, inr, ◌≡◌, ℕ, zero, suc, ◌+◌, ◌-◌, ◌*◌, ◌≤◌, ◌<◌, List, [], ◌∷◌, ◌++◌, length, map, drop, get_or, Some, Bool, refl, sym, ap, ◌∙◌, subst, arith, append_assoc, length-append}
 use Rattle.std.specs.List.{slice_get}
 use Rattle.std.proofs.Math.ListN.{drop_of_length-le}
 use Rattle.std.proofs.lemmas.List.{append-nil, drop_more}
@@ -15,7 +15,6 @@ use Rattle.dg_mid.specs.Codes.{Codes, RulesStand}
 use Rattle.z_asm.specs.Assembled.{AreApart, ArePlaces}
 use Rattle.z_asm.specs.Layout.{code_size}
 use Rattle.z_asm.specs.Story as image
-use Rattle.z_asm.specs.declared.image.Code.{Code as ImageCode}
 use Rattle.z_lang.specs.declared.act.Routine.{Routine}
 use Rattle.z_list.specs.declared.mark.Mark.{Mark}
 use Rattle.z_list.specs.Listing.{AreMarks}

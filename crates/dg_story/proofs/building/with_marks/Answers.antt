@@ -1,4 +1,4 @@
-use Rattle.std.proofs.Common.{◌≡◌, refl, ℕ, List, ap, ◌∙◌, drop}
+use Rattle.std.proofs.Common.{refl, ℕ, List, ap, ◌∙◌, drop}
 use Rattle.dg_emit.specs.Story.{first_number}
 use Rattle.dg_story.specs.inside.Marked.{marks_at}
 use Rattle.dg_story.proofs.building.with_marks.Goals as goal
