@@ -1,13 +1,13 @@
 -- A goal whose terms are written has done something to what lasts.
-use Rattle.std.proofs.Common.{◌≡◌, ℕ, ◌+◌, List, [], sym, ◌∙◌, subst}
+use Rattle.std.proofs.Common.{◌≡◌, ℕ, ◌+◌, List, [], refl, sym, subst}
 use Rattle.std.specs.declared.vec.Vec.{Vec}
 use Rattle.std.specs.declared.alloc.Global.{Global}
 use Rattle.dg_base.specs.declared.program.Goal.{Goal, out-Goal}
 use Rattle.dg_base.specs.declared.program.Term.{Term}
 use Rattle.dg_base.specs.declared.program.CoreProgram.{CoreProgram}
 use Rattle.dg_base.specs.Goals.{terms_held}
-use Rattle.dg_meaning.specs.World.{Game, World, prints}
-use Rattle.dg_meaning.specs.Cells.{cells, writing}
+use Rattle.dg_meaning.specs.World.{Game, World}
+use Rattle.dg_meaning.specs.Cells.{cells}
 use Rattle.dg_meaning.specs.Path.{Registers, GoesOn, FailsAt as FailsAtMove}
 use Rattle.dg_meaning.specs.Moves.{path_of}
 use Rattle.dg_meaning.specs.Transcript.{Run}
@@ -18,8 +18,8 @@ use Rattle.dg_unify.specs.declared.list.ListBindings.{ListBindings}
 use Rattle.dg_interp.specs.declared.engine.Engine.{Engine}
 use Rattle.dg_lasting.specs.declared.lasting.Lasting.{Lasting}
 use Rattle.dg_lasting.specs.Lasting.{picks_in, InWorld, MayPick}
-use Rattle.dg_interp.specs.inside.Engine.{store_in, KeepsPlaces, steps_of, There, IsReady, TakesAt, StandsAt, FailsAt, Adds, Then, SameLimits}
-use Rattle.dg_interp.proofs.Takes.{behind, taken_in, adds_taken, store_ready}
+use Rattle.dg_interp.specs.inside.Engine.{store_in, KeepsPlaces, steps_of, There, IsReady, TakesAt, StandsAt, FailsAt, Adds, Then, Silent}
+use Rattle.dg_interp.proofs.Takes.{behind, taken_in, store_ready}
 use Rattle.dg_interp.proofs.Giving.{steps_kept, written_agrees}
 
 module _ (x : Goal) (ts : List Term) (held : terms_held (out-Goal x) ≡ ts) (old : Engine) (out : Lasting) (store : ListBindings) (stack : Vec Ref Global) (ready : IsReady old) (k : Kept (store_in old.store) (store_in store)) (saved : (ms : List Saved) → KeepsPlaces old.store ms → KeepsPlaces store ms)
@@ -35,8 +35,8 @@ module _ (x : Goal) (ts : List Term) (held : terms_held (out-Goal x) ≡ ts) (ol
         here = r.here;
       }
 
-  pub acted_limits : out.gathered.aux ≡ old.lasting.gathered.aux → out.world.area.keep ≡ old.lasting.world.area.keep → SameLimits old acted_to
-  acted_limits aux keep = record { heap = k.heap_limit; trail = k.trail_limit; aux = aux; keep = keep }
+  pub acted_limits : out.gathered.aux ≡ old.lasting.gathered.aux → out.world.area.keep ≡ old.lasting.world.area.keep → Silent old acted_to
+  acted_limits aux keep = record { heap = k.heap_limit; trail = k.trail_limit; aux = aux; keep = keep; told = refl }
 
   module _ (g : Game) (n : ℕ) (w : World) (run : Run) (st : TakesAt x old g n w run) where
     abbrev pub r : Registers
@@ -65,11 +65,11 @@ module _ (x : Goal) (ts : List Term) (held : terms_held (out-Goal x) ≡ ts) (ol
       stop = st.at.stop;
     }
 
-    adds_to : (u : World) → prints u.events ≡ prints v.events → u.typed ≡ w.typed → Adds [] w u
-    adds_to u same typed = record { prints_are = same ∙ (adds_taken r (writing (terms_held (out-Goal x))) w).prints_are; typed = typed }
+    adds_to : (u : World) → u.events ≡ v.events → u.typed ≡ w.typed → Adds [] w u
+    adds_to u same typed = record { events_are = same; typed = typed }
 
     -- it goes on behind itself, in another world
-    pub acted_on : (u : World) → prints u.events ≡ prints v.events → u.typed ≡ w.typed → InWorld out g u → Went g st.at.inside.lives st.at.ways n (GoesOn (path_of (steps_of old) r) u) run → Then [] w (λ z. StandsAt acted_to g n z run)
+    pub acted_on : (u : World) → u.events ≡ v.events → u.typed ≡ w.typed → InWorld out g u → Went g st.at.inside.lives st.at.ways n (GoesOn (path_of (steps_of old) r) u) run → Then [] w (λ z. StandsAt acted_to g n z run)
     acted_on u same typed world went = record {
       world = u;
       adds = adds_to u same typed;
@@ -77,7 +77,7 @@ module _ (x : Goal) (ts : List Term) (held : terms_held (out-Goal x) ≡ ts) (ol
     }
 
     -- it fails
-    pub acted_not : (u : World) → prints u.events ≡ prints v.events → u.typed ≡ w.typed → InWorld out g u → Went g st.at.inside.lives st.at.ways n (FailsAtMove u) run → Then [] w (λ z. FailsAt acted_to g n z run)
+    pub acted_not : (u : World) → u.events ≡ v.events → u.typed ≡ w.typed → InWorld out g u → Went g st.at.inside.lives st.at.ways n (FailsAtMove u) run → Then [] w (λ z. FailsAt acted_to g n z run)
     acted_not u same typed world went = record {
       world = u;
       adds = adds_to u same typed;

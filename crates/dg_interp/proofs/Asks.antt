@@ -16,7 +16,7 @@ use Rattle.dg_meaning.specs.World.{Game, World, Asked, HasFailed, noted, worked}
 use Rattle.dg_meaning.specs.inside.Context.{Way, Live}
 use Rattle.dg_meaning.specs.Path.{Registers, Branch, Rules as RulesOf, Outcome}
 use Rattle.dg_meaning.specs.Moves.{first_looks, rule_branches, rules_of, choice, outcome}
-use Rattle.dg_meaning.specs.Cells.{cells, writing}
+use Rattle.dg_meaning.specs.Cells.{cells}
 use Rattle.dg_meaning.specs.Transcript.{Run}
 use Rattle.dg_meaning.specs.inside.Keeps.{After, Tried}
 use Rattle.dg_interp.specs.Runnable.{IsRunnableRule}
@@ -33,18 +33,20 @@ use Rattle.dg_choices.specs.declared.frames.Frame.{Frame}
 use Rattle.dg_choices.specs.declared.frames.Choice.{Choice}
 use Rattle.dg_choices.specs.declared.frames.Left.TheVariants.{Rules}
 use Rattle.dg_interp.specs.declared.engine.Engine.{Engine}
+use Rattle.dg_watch.specs.declared.watch.CallEvent.{CallEvent}
+use Rattle.dg_watch.specs.declared.watch.CallEvent.TheVariants as call
 use Rattle.dg_interp.specs.inside.Rules.{ArgsWritten}
 use Rattle.dg_terms.specs.Terms.{Overflows, Written}
 use Rattle.dg_interp.specs.inside.Frames.{stretch, values_in, steps_behind, AreChoices, AreFrames, IsLeft, StandOn, GoBackTo}
-use Rattle.dg_interp.specs.inside.Engine.{store_in, open_in, KeepsPlaces, HasPlace, IsPlace, Point, IsSound, IsReady, TakesAt, FailsAt, BeginsAt, FullAt, Adds, Leads, SameLimits, steps_of}
+use Rattle.dg_interp.specs.inside.Engine.{store_in, open_in, KeepsPlaces, HasPlace, IsPlace, Point, IsSound, IsReady, TakesAt, FailsAt, BeginsAt, FullAt, with_all, Adds, LeadsBy, Tells, steps_of}
 use Rattle.dg_unify.specs.inside.Engines.{Agrees}
 use Rattle.dg_interp.proofs.Links.{SameBy, same_here, same_append, behind_new, at_same, frame_raise, frames_append, choices_same, stand_raise, stand_same}
 use Rattle.dg_unify.proofs.StoreLemmas.{kept_same, all_hold}
 use Rattle.dg_interp.proofs.Stores.{values_kept, hold_front, appended_stretch}
 use Rattle.dg_interp.proofs.Kept.{back_limits}
 use Rattle.dg_interp.proofs.Grown.{grown_front, grown_longer, grown_values, grown_hold, grown_back, grown_base, grown_choices}
-use Rattle.dg_interp.proofs.Places.{open_still, adds_on, adds_noted}
-use Rattle.dg_interp.proofs.Takes.{behind, taken_in, comes_of, adds_taken, terms_full}
+use Rattle.dg_interp.proofs.Places.{open_still}
+use Rattle.dg_interp.proofs.Takes.{behind, taken_in, comes_of, terms_full}
 use Rattle.dg_interp.proofs.Turns.{all_first, all_rest}
 
 -- the rules of a runnable program
@@ -129,11 +131,8 @@ module _ (old : Engine) (query : Query) (terms : List Term) (store1 : ListBindin
   abbrev asked_in : (g : Game) (n : ℕ) (w : World) (run : Run) → from g n w run → World
   asked_in g n w run st = noted (Asked query.pred) (looked_in g n w run st)
 
-  adds_asked : (g : Game) (n : ℕ) (w : World) (run : Run) (st : from g n w run) → Adds [] w (asked_in g n w run st)
-  adds_asked g n w run st =
-      let v = looked_in g n w run st in
-      let a = adds_taken (r_of g n w run st) (writing (terms_held (out-Goal x))) w in
-      adds_on w v (asked_in g n w run st) [] [] (record { prints_are = a.prints_are; typed = refl }) (adds_noted v (Asked query.pred) refl)
+  adds_asked : (g : Game) (n : ℕ) (w : World) (run : Run) (st : from g n w run) → Adds (Asked query.pred ∷ []) w (asked_in g n w run st)
+  adds_asked g n w run st = record { events_are = refl; typed = refl }
 
   abbrev branches : (g : Game) (n : ℕ) (w : World) (run : Run) → from g n w run → List Rule → List Branch
   branches g n w run st rules = rule_branches g query.pred (values_in s1 ys args) query.many (steps_of old) (r_of g n w run st) rules
@@ -149,13 +148,13 @@ module _ (old : Engine) (query : Query) (terms : List Term) (store1 : ListBindin
       let here : rules_of (slice_get g.program.preds query.pred) ≡ rules = ap (λ (p : CoreProgram). rules_of (slice_get p.preds query.pred)) (sym st.at.inside.program) ∙ sym are in
       subst (λ m. After g st.at.inside.lives st.at.ways n m run) (as_asked ∙ ap (λ rs. on rs (map (value_of g.program values) terms)) here ∙ ap (on rules) (sym (args_are g st.at.inside.program))) (comes_of x old g n w run st)
 
-  module _ (rules : Bor (List Rule)) (are : rules.now ≡ rules_of (slice_get old.program.now.preds query.pred)) where
+  module _ (told : Vec CallEvent Global) (rules : Bor (List Rule)) (are : rules.now ≡ rules_of (slice_get old.program.now.preds query.pred)) where
     -- no rule is there
     abbrev pub failing : Engine
-    failing = record old { store = store1; refs = refs1; made = made1 }
+    failing = record old { store = store1; refs = refs1; made = made1; told = told }
 
-    pub ask_limits : SameLimits old failing
-    ask_limits = record { heap = k1.heap_limit; trail = k1.trail_limit; aux = refl; keep = refl }
+    abbrev pub ask_tells : (calls : List CallEvent) → told.items ≡ with_all old.told.items calls → Tells old failing
+    ask_tells calls is = record { heap = k1.heap_limit; trail = k1.trail_limit; aux = refl; keep = refl; calls = calls; told = is }
 
     failing_keeps : KeepsPlaces store1 ready.sound.base.places.saved
     failing_keeps = saved1 ready.sound.base.places.saved ready.sound.base.places.keeps
@@ -169,12 +168,12 @@ module _ (old : Engine) (query : Query) (terms : List Term) (store1 : ListBindin
     choices_now : (g : Game) (ms : List Saved) (cs : List Live) → AreChoices g xs fs os ms cs → AreChoices g ys fs os ms cs
     choices_now g ms cs h = grown_choices old store1 refs1 made ready k1 saved1 there.written.appended.is there.written.appended.hold g ms cs h
 
-    pub asks_none : rules.now ≡ [] → Leads from (FailsAt failing)
+    pub asks_none : rules.now ≡ [] → LeadsBy (call.Asked query.pred ∷ call.Failed query.pred ∷ []) from (FailsAt failing)
     asks_none none g n w run st =
         let v = asked_in g n w run st in
         record {
           world = noted (HasFailed query.pred) v;
-          adds = adds_on w v (noted (HasFailed query.pred) v) [] [] (adds_asked g n w run st) (adds_noted v (HasFailed query.pred) refl);
+          adds = record { events_are = refl; typed = refl };
           holds = record {
             inside = record {
               program = st.at.inside.program;
@@ -199,7 +198,7 @@ module _ (old : Engine) (query : Query) (terms : List Term) (store1 : ListBindin
       gs = fs ++ old.here ∷ []
 
       abbrev pub asking : Engine
-      asking = record old { store = store2; refs = refs1; made = made1; frames = frames; newest = old.newest + 1 }
+      asking = record old { store = store2; refs = refs1; made = made1; frames = frames; newest = old.newest + 1; told = told }
 
       count : length gs ≡ length fs + 1
       count = length-append fs (old.here ∷ [])
@@ -219,8 +218,8 @@ module _ (old : Engine) (query : Query) (terms : List Term) (store1 : ListBindin
       pub asking_place : HasPlace asking place
       asking_place = record { back = record { mark = place; store = s2 }; saved = ready.sound.base.places.saved; is = place_now ready.sound.base.places.saved failing_keeps; back_to = back_now }
 
-      pub asking_limits : SameLimits old asking
-      asking_limits = record { heap = k2.heap_limit ∙ k1.heap_limit; trail = k2.trail_limit ∙ k1.trail_limit; aux = refl; keep = refl }
+      abbrev pub asking_tells : (calls : List CallEvent) → told.items ≡ with_all old.told.items calls → Tells old asking
+      asking_tells calls is = record { heap = k2.heap_limit ∙ k1.heap_limit; trail = k2.trail_limit ∙ k1.trail_limit; aux = refl; keep = refl; calls = calls; told = is }
 
       pub asking_sound : old.newest + 1 + old.left < 2 ^ 64 → IsSound asking
       asking_sound room = record {
@@ -262,7 +261,7 @@ module _ (old : Engine) (query : Query) (terms : List Term) (store1 : ListBindin
             since = omega (arith, ap (λ (t : State). t.since) state2, ap (λ (t : State). t.vars) state2);
           }
 
-      pub asks_some : Leads from (BeginsAt (Rules query args rules) place asking)
+      pub asks_some : LeadsBy (call.Asked query.pred ∷ []) from (BeginsAt (Rules query args rules) place asking)
       asks_some g n w run st =
           let r = r_of g n w run st in
           record {

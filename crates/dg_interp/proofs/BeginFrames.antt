@@ -5,7 +5,7 @@ use Rattle.std.proofs.lemmas.List.{append-nil}
 use Rattle.std.specs.declared.vec.Vec.{Vec}
 use Rattle.std.specs.declared.alloc.Global.{Global}
 use Rattle.dg_base.specs.declared.program.Goal.{Goal}
-use Rattle.dg_meaning.specs.World.{Game, World, prints}
+use Rattle.dg_meaning.specs.World.{Game, World}
 use Rattle.dg_meaning.specs.Path.{Registers, Branch, Moves, GoesOn}
 use Rattle.dg_meaning.specs.Moves.{begun, inside, enter, path_of, goals_at, list_branches}
 use Rattle.dg_meaning.specs.Transcript.{Run}
@@ -122,7 +122,7 @@ module _ (old : Engine) (frame : Frame) (others : Left) (b : Bool) (place : Plac
       frame_begun = record {
         ready = record { sound = begun_sound old others b place store1 old.refs old.made choices sound left plain same_b has k1 saved1 [] no_refs none_held kept frame; here = is };
         left = refl;
-        limits = record { heap = k1.heap_limit; trail = k1.trail_limit; aux = refl; keep = refl };
+        limits = record { heap = k1.heap_limit; trail = k1.trail_limit; aux = refl; keep = refl; calls = []; told = refl };
         leads = λ g n w run st.
             let r = st.at.registers in
             let v = begun (inside heap r) with.work w in
@@ -130,7 +130,7 @@ module _ (old : Engine) (frame : Frame) (others : Left) (b : Bool) (place : Plac
             (begun_values old others b place store1 old.refs old.made choices sound left plain same_b has k1 saved1 [] no_refs none_held kept) sound.base.frames (same_here (length fs) fs) in
             record {
               world = v;
-              adds = record { prints_are = sym (append-nil (prints w.events)); typed = refl };
+              adds = record { events_are = refl; typed = refl };
               holds = begun_stands old others b place store1 old.refs old.made choices sound left plain same_b has k1 saved1 [] no_refs none_held kept all with.kind g n w run st frame v (inside heap r) st.at.inside.world (agrees_now r st.at.agrees) (ap (λ i. i + 1) st.at.tag) refl
                   (subst (λ l. Stands g (lives_now g r st.at.inside.lives st.at.ways) st.at.ways (path_of l (inside heap r)) n v run) (sym same) (stands g n w run st));
             };

@@ -2,7 +2,7 @@
 use Rattle.std.proofs.Common.{◌≡◌, ℕ, zero, suc, ◌+◌, ◌<◌, ◌≤◌, List, [], ◌∷◌, ◌++◌, Bool, true, false, Option, refl, sym, ap, ◌∙◌, subst, arith, length, length-append, map, Bor}
 use Rattle.std.specs.Prelude.{reverse}
 use Rattle.std.specs.List.{All, zip}
-use Rattle.std.proofs.lemmas.List.{append-nil, length-map}
+use Rattle.std.proofs.lemmas.List.{length-map}
 use Rattle.std.specs.declared.vec.Vec.{Vec}
 use Rattle.std.specs.declared.alloc.Global.{Global}
 use Rattle.dg_base.specs.declared.program.Goal.{Goal}
@@ -11,7 +11,7 @@ use Rattle.dg_base.specs.declared.program.CoreProgram.{CoreProgram}
 use Rattle.dg_meaning.specs.Values.{Value, value_of}
 use Rattle.dg_meaning.specs.inside.Substitutions.{IsSubstitution, Extends}
 use Rattle.dg_meaning.specs.Unify.{Unified, solve}
-use Rattle.dg_meaning.specs.World.{Game, World, prints}
+use Rattle.dg_meaning.specs.World.{Game, World}
 use Rattle.dg_meaning.specs.Path.{Step, Registers, Path, Branch, Enter, Clash, Plain, Rules as RulesOf, Moves}
 use Rattle.dg_meaning.specs.Moves.{begun, inside, enter, path_of, choice_cells, begins as the_begins, enter_if, is_excluded, call_cells, unless_excluded, entering, older_bound, rule_steps, vars_of, new_vars, entered, match, matched, rule_branch, rule_branches}
 use Rattle.dg_meaning.specs.Transcript.{Run}
@@ -41,8 +41,9 @@ use Rattle.dg_terms.specs.Passing.{IsCandidate}
 use Rattle.dg_meaning.specs.Selection.{first_excludes, from_candidate}
 use Rattle.dg_interp.specs.inside.Rules.{rule_cells, matched_in, EntersRule, RuleFull}
 use Rattle.dg_interp.specs.inside.Frames.{values_in, frame_steps, steps_behind, steps_at, kind_of, branches_of, IsFrame, IsLeft}
-use Rattle.dg_interp.specs.inside.Engine.{store_in, KeepsPlaces, HasPlace, Point, IsSound, BeginsAt, FullAt, Adds, SameLimits, WentOn, WentWrong, kept_if, open_in}
+use Rattle.dg_interp.specs.inside.Engine.{store_in, KeepsPlaces, HasPlace, Point, IsSound, BeginsAt, FullAt, Adds, Silent, WentOn, WentWrong, kept_if, open_in}
 use Rattle.dg_unify.specs.inside.Engines.{Agrees}
+use Rattle.dg_interp.proofs.Places.{silent}
 use Rattle.dg_interp.proofs.Links.{SameBy, same_here, behind_same}
 use Rattle.dg_unify.proofs.StoreLemmas.{kept_on}
 use Rattle.dg_interp.proofs.Stores.{values_kept, hold_front, appended_stretch, values_count, trail_append, trail_older, made_is}
@@ -275,17 +276,17 @@ module _ (old : Engine) (query : Query) (args : Env) (rules others : Bor (List R
       rule_sound = begun_sound old (Rules query args others) true place store2 refs2 made2 choices sound others_fit tt refl has k12 saved12 ends.appended.made ends.appended.is ends.appended.hold kept
 
       adds_begun : (r : Registers) (work : ℕ) (w : World) → Adds [] w (begun r work w)
-      adds_begun r work w = record { prints_are = sym (append-nil (prints w.events)); typed = refl }
+      adds_begun r work w = record { events_are = refl; typed = refl }
 
-      limits : (here : Frame) → SameLimits old (new here)
-      limits here = record { heap = k12.heap_limit; trail = k12.trail_limit; aux = refl; keep = refl }
+      limits : (here : Frame) → Silent old (new here)
+      limits here = record { heap = k12.heap_limit; trail = k12.trail_limit; aux = refl; keep = refl; told = refl }
 
       -- its head doesn't match
       pub rule_wrong : found ≡ false → WentWrong from old (new old.here)
       rule_wrong is = record {
         sound = rule_sound old.here;
         left = refl;
-        limits = limits old.here;
+        limits = silent (limits old.here);
         leads = λ g n w run st.
             let r = st.at.registers in
             let none : (match g the_args rule r).agrees ≡ false = sym (rule_found g rule the_args heap s s1 s2 r st.at.agrees sub charged xs ys found (does g st.at.inside.program)) ∙ is in
@@ -331,7 +332,7 @@ module _ (old : Engine) (query : Query) (args : Env) (rules others : Bor (List R
             };
           };
           left = refl;
-          limits = limits here;
+          limits = silent (limits here);
           leads = λ g n w run st.
               let r = st.at.registers in
               let yes' : (match g the_args rule r).agrees ≡ true = sym (rule_found g rule the_args heap s s1 s2 r st.at.agrees sub charged xs ys found (does g st.at.inside.program)) ∙ is in
@@ -355,13 +356,13 @@ module _ (old : Engine) (left : Left) (frame : Frame) (place : Place) (sound : I
   way_begun = record {
     ready = record { sound = record { base = sound.base; room = sound.room; picks = sound.picks }; here = is };
     left = refl;
-    limits = record { heap = refl; trail = refl; aux = refl; keep = refl };
+    limits = record { heap = refl; trail = refl; aux = refl; keep = refl; calls = []; told = refl };
     leads = λ g n w run st.
         let r = st.at.registers in
         let v = begun (inside 0 r) 0 w in
         record {
           world = v;
-          adds = record { prints_are = sym (append-nil (prints w.events)); typed = refl };
+          adds = record { events_are = refl; typed = refl };
           holds = record {
             at = record {
               inside = record {

@@ -21,7 +21,7 @@ use Rattle.dg_choices.specs.declared.frames.Left.{Left}
 use Rattle.dg_choices.specs.declared.frames.Choice.{Choice}
 use Rattle.dg_interp.specs.declared.engine.Engine.{Engine}
 use Rattle.dg_interp.specs.inside.Frames.{values_in, kind_of, branches_of, lives_of, ways_of, AreChoices, IsLeft, IsOrdinary, StandOn, GoBackTo, stays_with}
-use Rattle.dg_interp.specs.inside.Engine.{store_in, KeepsPlaces, HasPlace, Within, There, IsSound, StandsAt, FailsAt, BeginsAt, SameLimits, steps_of, kept_if, open_in}
+use Rattle.dg_interp.specs.inside.Engine.{store_in, KeepsPlaces, HasPlace, Within, There, IsSound, StandsAt, FailsAt, BeginsAt, Silent, steps_of, kept_if, open_in}
 use Rattle.dg_lasting.specs.Lasting.{InWorld}
 use Rattle.dg_interp.proofs.Links.{SameBy, same_here, branches_same, choices_same, back_same, frames_raise, stand_raise}
 use Rattle.dg_unify.proofs.StoreLemmas.{all_hold}
@@ -69,8 +69,8 @@ module _ (old : Engine) (left : Left) (b : Bool) (place : Place) (store1 : ListB
   pub stand : StandOn fs (length fs) (length xs) old.newest (kept_if b o os)
   stand = kept_stand b fs (length fs) (length xs) old.newest o os (omega arith) (omega arith) (omega arith) fits same_b plain sound.base.frames sound.base.choices
 
-  pub begun_limits : (here : Frame) → SameLimits old (begun_engine here)
-  begun_limits here = record { heap = k.heap_limit; trail = k.trail_limit; aux = refl; keep = refl }
+  pub begun_limits : (here : Frame) → Silent old (begun_engine here)
+  begun_limits here = record { heap = k.heap_limit; trail = k.trail_limit; aux = refl; keep = refl; told = refl }
 
   pub begun_sound : (here : Frame) → IsSound (begun_engine here)
   begun_sound here = record {

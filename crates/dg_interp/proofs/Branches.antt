@@ -4,8 +4,12 @@ use Rattle.std.specs.Prelude.{reverse, Result as Answer, Ok, Err, IfOk, IfErr, O
 use Rattle.std.specs.List.{All}
 use Rattle.std.specs.declared.vec.Vec.{Vec}
 use Rattle.std.specs.declared.alloc.Global.{Global}
+use Rattle.dg_base.specs.declared.program.Rule.{Rule}
+use Rattle.dg_choices.specs.declared.frames.Query.{Query}
+use Rattle.dg_meaning.specs.Values.{Value}
+use Rattle.dg_meaning.specs.Moves.{rule_branches}
 use Rattle.dg_meaning.specs.World.{Game, World}
-use Rattle.dg_meaning.specs.Path.{Result, Failing, Branch, ChoiceKind, Plain, Rules as RulesOf, Shield, Gathers}
+use Rattle.dg_meaning.specs.Path.{Step, Result, Failing, Branch, ChoiceKind, Plain, Rules as RulesOf, Shield, Gathers}
 use Rattle.dg_meaning.specs.Transcript.{Run}
 use Rattle.dg_meaning.specs.inside.Context.{Live, Drops}
 use Rattle.dg_meaning.specs.inside.Keeps.{Failed, Finished, FailsTo, GoesBack as ComesBack, Resumed, Tried, open_at, tried_in}
@@ -22,18 +26,19 @@ use Rattle.dg_unify.specs.declared.list.ListBindings.{ListBindings}
 use Rattle.dg_choices.specs.declared.frames.Frame.{Frame}
 use Rattle.dg_choices.specs.declared.frames.Choice.{Choice}
 use Rattle.dg_interp.specs.declared.engine.Engine.{Engine}
-use Rattle.dg_interp.specs.inside.Frames.{values_in, kind_of, branches_of, cut_if, lives_of, ways_of, IsChoice, AreChoices, AreFrames, IsLeft, IsNoted, StandOn, GoBackTo, TakesNewest, left_in, stays_with, all_left}
+use Rattle.dg_watch.specs.declared.watch.CallEvent.{CallEvent}
+use Rattle.dg_interp.specs.inside.Frames.{values_in, steps_behind, kind_of, branches_of, cut_if, lives_of, ways_of, IsChoice, AreChoices, AreFrames, IsLeft, IsNoted, StandOn, GoBackTo, TakesNewest, left_in, stays_with, all_left}
 use Rattle.dg_choices.specs.inside.Cutting.{cut_of, Cuts}
 use Rattle.dg_choices.specs.declared.frames.Left.{Left}
 use Rattle.dg_choices.specs.declared.frames.Left.TheVariants.{Rules, Lists, Ways, Way as OneWay, Behind, TakeOut, Things}
 use Rattle.dg_lasting.specs.declared.lasting.Lasting.{Lasting}
 use Rattle.dg_lasting.specs.Lasting.{InWorld, MayPick, Closes, picks_in}
-use Rattle.dg_interp.specs.inside.Engine.{store_in, KeepsPlaces, open_in, HasPlaces, Sound, Within, HasPlace, IsPlace, Retries, Point, IsSound, StandsAt, FailsAt, BeginsAt, Adds, Then, Leads, FullAt, SameLimits, WentOn, WentWrong, HasEndedSo, AtGoal, Branches, GoesBack, Tries, branches_left}
+use Rattle.dg_interp.specs.inside.Engine.{store_in, KeepsPlaces, open_in, HasPlaces, Sound, Within, HasPlace, IsPlace, Retries, Point, IsSound, StandsAt, FailsAt, BeginsAt, events_of, again_rules, again, Adds, Then, LeadsBy, Leads, FullAt, SameLimits, Silent, Tells, WentOn, WentWrong, HasEndedSo, AtGoal, Branches, GoesBack, Tries, branches_left}
 use Rattle.dg_interp.proofs.Links.{SameBy, same_take, branches_same, frames_take, stand_raise, stand_same, choices_same, back_same, cut_gone, cut_fewer}
 use Rattle.dg_unify.proofs.StoreLemmas.{all_hold}
 use Rattle.dg_interp.proofs.Stores.{values_kept, take_all}
 use Rattle.dg_interp.proofs.Kept.{back_limits, tried_inside}
-use Rattle.dg_interp.proofs.Places.{went_further, went_wrong, cut_base, cut_inside, adds_nothing, open_still, world_tried, adds_on, adds_drops, adds_tried, leads_on, limits_on}
+use Rattle.dg_interp.proofs.Places.{went_further, went_wrong, cut_base, cut_inside, adds_nothing, open_still, world_tried, adds_on, adds_drops, tried_events, adds_tried, leads_by, leads_then, silent_on, tells_on}
 use Rattle.dg_interp.proofs.Turns.{reverse_pop}
 
 -- ## What a choice takes out
@@ -137,7 +142,7 @@ module _ (old : Engine) (o : Choice) (choices : Vec Choice Global) (sound : IsSo
     part_dropped = record {
       sound = record { base = cut_base t old.program.now old.lasting old.store xs fs os (reverse rest.items) cuts old.newest popped_base; room = sound.room; picks = sound.picks };
       left = refl;
-      limits = record { heap = refl; trail = refl; aux = refl; keep = refl };
+      limits = record { heap = refl; trail = refl; aux = refl; keep = refl; calls = []; told = refl };
       leads = λ g n w run st. record {
         world = w;
         adds = adds_nothing w;
@@ -153,11 +158,11 @@ module _ (old : Engine) (o : Choice) (choices : Vec Choice Global) (sound : IsSo
 
   -- ## A choice that was not cut
 
-  module _ (frames : Vec Frame Global) (refs : Vec Ref Global) (out : Lasting) (store : ListBindings) (cut : frames.items ≡ take o.height fs) (cut_refs : refs.items ≡ take o.refs xs) (closed : Closes o.gathered old.lasting out)
+  module _ (frames : Vec Frame Global) (refs : Vec Ref Global) (out : Lasting) (store : ListBindings) (told : Vec CallEvent Global) (cut : frames.items ≡ take o.height fs) (cut_refs : refs.items ≡ take o.refs xs) (closed : Closes o.gathered old.lasting out)
       (back : (s : Store) (ms : List Saved) → KeepsPlaces old.store (record { mark = o.place; store = s } ∷ ms) → Back s (store_in store))
       (keeps : (s : Store) (ms : List Saved) → KeepsPlaces old.store (record { mark = o.place; store = s } ∷ ms) → KeepsPlaces store (record { mark = o.place; store = s } ∷ ms)) where
     abbrev mid : Engine
-    mid = record old { frames = frames; refs = refs; lasting = out; store = store; choices = choices; newest = o.tag; stoppable = o.stoppable }
+    mid = record old { frames = frames; refs = refs; lasting = out; store = store; choices = choices; newest = o.tag; stoppable = o.stoppable; told = told }
 
     count : length frames.items ≡ o.height
     count = ap length cut ∙ length-take o.height fs ∙ omega (arith, stand.0)
@@ -274,13 +279,33 @@ module _ (old : Engine) (o : Choice) (choices : Vec Choice Global) (sound : IsSo
       popped_takes n v run resumed (Things trial args) t e = tt
       popped_takes n v run resumed (TakeOut whole into frame) t e = takes_newest g c (lives_of os cs) is.registers.next_tag _ _ _ [] n v run resumed e
 
-      begins : (n : ℕ) (w v : World) (run : Run) → InWorld out g v → length v.gathered ≡ open_at c.others c.height → Adds [] w v → Resumed g c (lives_of os cs) n v run → Then [] w (λ u. BeginsAt o.left o.place mid g n u run)
+      -- a query goes on to its next rule
+      tried_so : (k : ChoiceKind) (left : Left) (fs' : List Frame) → k ≡ kind_of left → c.others ≡ branches_of g (values_in (store_in store) refs.items) fs' (length fs') left is.registers → tried_events k c.others ≡ events_of (again left)
+      tried_so k left fs' e b = ap (λ x. tried_events x c.others) e ∙ ap (tried_events (kind_of left)) b ∙ by left where
+        plain : (bs : List Branch) → tried_events Plain bs ≡ []
+        plain [] = refl
+        plain (b ∷ bs) = refl
+
+        of_rules : (q : Query) (vs : List Value) (steps : List Step) (rules : List Rule) → tried_events (RulesOf q.pred) (rule_branches g q.pred vs q.many steps is.registers rules) ≡ events_of (again_rules q.pred rules)
+        of_rules q vs steps [] = refl
+        of_rules q vs steps (rule ∷ rules) = refl
+
+        by : (left : Left) → tried_events (kind_of left) (branches_of g (values_in (store_in store) refs.items) fs' (length fs') left is.registers) ≡ events_of (again left)
+        by (Rules query args rules) = of_rules query (values_in (store_in store) refs.items args) (steps_behind (values_in (store_in store) refs.items) fs' (length fs')) rules.now
+        by (Lists env tag lists) = plain (branches_of g (values_in (store_in store) refs.items) fs' (length fs') (Lists env tag lists) is.registers)
+        by (Ways first other) = refl
+        by (OneWay frame) = refl
+        by (Behind frame waits) = refl
+        by (TakeOut whole into frame) = refl
+        by (Things trial args) = plain (branches_of g (values_in (store_in store) refs.items) fs' (length fs') (Things trial args) is.registers)
+
+      begins : (n : ℕ) (w v : World) (run : Run) → InWorld out g v → length v.gathered ≡ open_at c.others c.height → Adds [] w v → Resumed g c (lives_of os cs) n v run → Then (events_of (again o.left)) w (λ u. BeginsAt o.left o.place mid g n u run)
       begins n w v run still count adds resumed =
           let r = is.registers in
           let u = tried_in c.kind c.others v in
           record {
             world = u;
-            adds = adds_on w v u [] [] adds (adds_tried c.kind c.others v);
+            adds = subst (λ es. Adds es w u) (tried_so c.kind o.left frames.items is.kind popped_branches) (adds_on w v u [] (tried_events c.kind c.others) adds (adds_tried c.kind c.others v));
             holds = record {
               at = record {
                 inside = popped_within u (world_tried out g c.kind c.others v still);
@@ -304,9 +329,9 @@ module _ (old : Engine) (o : Choice) (choices : Vec Choice Global) (sound : IsSo
             };
           }
 
-    pub begins_popped : None ≡ cut_of o.left → Leads (FailsAt old) (BeginsAt o.left o.place mid)
+    pub begins_popped : None ≡ cut_of o.left → LeadsBy (again o.left) (FailsAt old) (BeginsAt o.left o.place mid)
     begins_popped none g n w run st = from st.inside.saved st.inside.entries st.inside.lives st.inside.keeps (subst (λ l. AreChoices g xs fs l st.inside.saved st.inside.entries) was st.inside.choices) (st.inside.lives_are ∙ ap (λ l. lives_of l st.inside.entries) was) (failed g st.inside.lives n w run st.failed) where
-      from : (ms : List Saved) (es ls : List Live) → KeepsPlaces old.store ms → AreChoices g xs fs (o ∷ os) ms es → ls ≡ lives_of (o ∷ os) es → FailsTo g n w run ls → Then [] w (λ u. BeginsAt o.left o.place mid g n u run)
+      from : (ms : List Saved) (es ls : List Live) → KeepsPlaces old.store ms → AreChoices g xs fs (o ∷ os) ms es → ls ≡ lives_of (o ∷ os) es → FailsTo g n w run ls → Then (events_of (again o.left)) w (λ u. BeginsAt o.left o.place mid g n u run)
       from [] es ls k h e f = absurd h
       from (m ∷ ms) [] ls k h e f = absurd h
       from (m ∷ ms) (c ∷ cs) ls k h e f =
@@ -328,6 +353,7 @@ module _ (old : Engine) (choices : Vec Choice Global) (empty : length old.choice
   pub none_popped : HasEndedSo (FailsAt old) Failing old (record old { choices = choices })
   none_popped = record {
     left = refl;
+    limits = record { heap = refl; trail = refl; aux = refl; keep = refl; calls = []; told = refl };
     ends = λ g n w run st. from g n w run st.inside.saved st.inside.entries (subst (λ l. AreChoices g old.refs.items old.frames.items l st.inside.saved st.inside.entries) none st.inside.choices) (subst (λ l. FailsTo g n w run l) (st.inside.lives_are ∙ ap (λ l. lives_of l st.inside.entries) none) (failed g st.inside.lives n w run st.failed));
   } where
     from : (g : Game) (n : ℕ) (w : World) (run : Run) → (ms : List Saved) (cs : List Live) → AreChoices g old.refs.items old.frames.items [] ms cs → FailsTo g n w run (lives_of [] cs) → Then [] w (λ v. Finished n v Failing run)
@@ -337,26 +363,48 @@ module _ (old : Engine) (choices : Vec Choice Global) (empty : length old.choice
 
 -- ## One after another
 
+pub full_by : (cs : List CallEvent) (A B : Point) (s t : Store) (e : Full) → t.heap_limit ≡ s.heap_limit → t.trail_limit ≡ s.trail_limit → LeadsBy cs A B → FullAt B t e → FullAt A s e
+full_by cs A B s t full.Heap same same' h f = λ g n w run a. let x = h g n w run a in let y = f g n x.world run x.holds in omega (arith, y, same)
+full_by cs A B s t full.Trail same same' h f = λ g n w run a. let x = h g n w run a in let y = f g n x.world run x.holds in omega (arith, y, same')
+full_by cs A B s t full.OutOfMemory same same' h f = tt
+
 pub full_from : (A B : Point) (s t : Store) (e : Full) → t.heap_limit ≡ s.heap_limit → t.trail_limit ≡ s.trail_limit → Leads A B → FullAt B t e → FullAt A s e
-full_from A B s t full.Heap same same' h f = λ g n w run a. let x = h g n w run a in let y = f g n x.world run x.holds in omega (arith, y, same)
-full_from A B s t full.Trail same same' h f = λ g n w run a. let x = h g n w run a in let y = f g n x.world run x.holds in omega (arith, y, same')
-full_from A B s t full.OutOfMemory same same' h f = tt
+full_from A B s t e same same' h f = full_by [] A B s t e same same' h f
 
-pub went_on_from : (A B : Point) (old mid new : Engine) → mid.left ≡ old.left → SameLimits old mid → Leads A B → WentOn B mid new → WentOn A old new
-went_on_from A B old mid new left limits h k = record { ready = k.ready; left = k.left ∙ left; limits = limits_on old mid new limits k.limits; leads = leads_on A B (StandsAt new) h k.leads }
+pub went_on_from : (A B : Point) (old mid new : Engine) → mid.left ≡ old.left → Silent old mid → Leads A B → WentOn B mid new → WentOn A old new
+went_on_from A B old mid new left limits h k = record { ready = k.ready; left = k.left ∙ left; limits = silent_on old mid new limits k.limits; leads = leads_then k.limits.calls A B (StandsAt new) h k.leads }
 
-pub went_wrong_from : (A B : Point) (old mid new : Engine) → mid.left ≡ old.left → SameLimits old mid → Leads A B → WentWrong B mid new → WentWrong A old new
-went_wrong_from A B old mid new left limits h k = record { sound = k.sound; left = k.left ∙ left; limits = limits_on old mid new limits k.limits; leads = leads_on A B (FailsAt new) h k.leads }
+pub went_wrong_from : (A B : Point) (old mid new : Engine) → mid.left ≡ old.left → Silent old mid → Leads A B → WentWrong B mid new → WentWrong A old new
+went_wrong_from A B old mid new left limits h k = record { sound = k.sound; left = k.left ∙ left; limits = silent_on old mid new limits k.limits; leads = leads_then k.limits.calls A B (FailsAt new) h k.leads }
 
-pub ended_from : (A B : Point) (result : Result) (old mid new : Engine) → mid.left ≡ old.left → Leads A B → HasEndedSo B result mid new → HasEndedSo A result old new
-ended_from A B result old between new left h k = record { left = k.left ∙ left; ends = leads_on A B (λ g n v run. Finished n v result run) h k.ends }
+pub ended_from : (A B : Point) (result : Result) (old mid new : Engine) → mid.left ≡ old.left → Silent old mid → Leads A B → HasEndedSo B result mid new → HasEndedSo A result old new
+ended_from A B result old between new left limits h k =
+    record { left = k.left ∙ left; limits = silent_on old between new limits k.limits; ends = leads_then k.limits.calls A B (λ g n v run. Finished n v result run) h k.ends }
 
-pub tried_from : (A B : Point) (old mid new : Engine) → mid.left ≡ old.left → SameLimits old mid → Leads A B → (begun : Bool) → Tries B begun mid new → Tries A begun old new
+pub tried_from : (A B : Point) (old mid new : Engine) → mid.left ≡ old.left → Silent old mid → Leads A B → (begun : Bool) → Tries B begun mid new → Tries A begun old new
 tried_from A B old mid new left limits h true k = went_on_from A B old mid new left limits h k
 tried_from A B old mid new left limits h false k = went_wrong_from A B old mid new left limits h k
 
-pub retried_from : (A B : Point) (old mid new : Engine) (extra : ℕ) → mid.left ≡ old.left → SameLimits old mid → Leads A B → branches_left old ≡ 1 + extra + branches_left mid → (begun : Bool) → Tries B begun mid new → branches_left new ≤ branches_left mid + extra → Tries A begun old new × (branches_left new < branches_left old)
-retried_from A B old mid new extra left limits h count begun k less = (tried_from A B old mid new left limits h begun k, omega (arith, count, less))
+-- ## Behind calls
+
+pub went_on_by : (A B : Point) (old mid new : Engine) → mid.left ≡ old.left → (tells : Tells old mid) → LeadsBy tells.calls A B → WentOn B mid new → WentOn A old new
+went_on_by A B old between new left tells h k =
+    record { ready = k.ready; left = k.left ∙ left; limits = tells_on old between new tells k.limits; leads = leads_by tells.calls k.limits.calls A B (StandsAt new) h k.leads }
+
+pub went_wrong_by : (A B : Point) (old mid new : Engine) → mid.left ≡ old.left → (tells : Tells old mid) → LeadsBy tells.calls A B → WentWrong B mid new → WentWrong A old new
+went_wrong_by A B old between new left tells h k =
+    record { sound = k.sound; left = k.left ∙ left; limits = tells_on old between new tells k.limits; leads = leads_by tells.calls k.limits.calls A B (FailsAt new) h k.leads }
+
+pub ended_by : (A B : Point) (result : Result) (old mid new : Engine) → mid.left ≡ old.left → (tells : Tells old mid) → LeadsBy tells.calls A B → HasEndedSo B result mid new → HasEndedSo A result old new
+ended_by A B result old between new left tells h k =
+    record { left = k.left ∙ left; limits = tells_on old between new tells k.limits; ends = leads_by tells.calls k.limits.calls A B (λ g n v run. Finished n v result run) h k.ends }
+
+pub tried_by : (A B : Point) (old mid new : Engine) → mid.left ≡ old.left → (tells : Tells old mid) → LeadsBy tells.calls A B → (begun : Bool) → Tries B begun mid new → Tries A begun old new
+tried_by A B old between new left tells h true k = went_on_by A B old between new left tells h k
+tried_by A B old between new left tells h false k = went_wrong_by A B old between new left tells h k
+
+pub retried_from : (A B : Point) (old mid new : Engine) (extra : ℕ) → mid.left ≡ old.left → (tells : Tells old mid) → LeadsBy tells.calls A B → branches_left old ≡ 1 + extra + branches_left mid → (begun : Bool) → Tries B begun mid new → branches_left new ≤ branches_left mid + extra → Tries A begun old new × (branches_left new < branches_left old)
+retried_from A B old mid new extra left tells h count begun k less = (tried_by A B old mid new left tells h begun k, omega (arith, count, less))
 
 pub at_goal_from : (A : Point) (old mid new : Engine) → WentOn A old mid → AtGoal (StandsAt mid) mid new → AtGoal A old new
 at_goal_from A old between new h k = record { went_on = went_further A old between new h k.went_on; goal = k.goal }
@@ -365,12 +413,12 @@ at_goal_from A old between new h k = record { went_on = went_further A old betwe
 pub refused_on : (A : Point) (old mid wrong new : Engine) → WentOn A old mid → WentWrong (StandsAt mid) mid wrong → WentOn (FailsAt wrong) wrong new → WentOn A old new
 refused_on A old between wrong new h j k =
     let w = went_wrong A old between wrong h j in
-    went_on_from A (FailsAt wrong) old wrong new w.left w.limits w.leads k
+    went_on_by A (FailsAt wrong) old wrong new w.left w.limits w.leads k
 
 -- another branch has begun behind a failure, or the run has failed
-pub goes_back_from : (A B : Point) (old mid new : Engine) → mid.left ≡ old.left → SameLimits old mid → Leads A B → (found : Bool) → GoesBack B found mid new → Branches A found old new
+pub goes_back_from : (A B : Point) (old mid new : Engine) → mid.left ≡ old.left → Silent old mid → Leads A B → (found : Bool) → GoesBack B found mid new → Branches A found old new
 goes_back_from A B old between new left limits h true k = went_on_from A B old between new left limits h k.0
-goes_back_from A B old between new left limits h false k = ended_from A B Failing old between new left h k
+goes_back_from A B old between new left limits h false k = ended_from A B Failing old between new left limits h k
 
 -- ## What a call answers
 
@@ -394,11 +442,24 @@ pub full_made : (A B : Point) (s t : Store) (r : Answer Bool Full) → t.heap_li
 full_made A B s t (Ok found) same same' h f = tt
 full_made A B s t (Err e) same same' h f = full_from A B s t e same same' h f
 
-pub back_made : (A B : Point) (old mid new : Engine) → mid.left ≡ old.left → SameLimits old mid → Leads A B → (r : Answer Bool Full) → IfOk r (λ found. GoesBack B found mid new) → IfOk r (λ found. Branches A found old new)
+pub back_made : (A B : Point) (old mid new : Engine) → mid.left ≡ old.left → Silent old mid → Leads A B → (r : Answer Bool Full) → IfOk r (λ found. GoesBack B found mid new) → IfOk r (λ found. Branches A found old new)
 back_made A B old between new left limits h (Ok found) k = goes_back_from A B old between new left limits h found k
 back_made A B old between new left limits h (Err e) k = tt
 
-pub tries_made : (A B : Point) (old mid new : Engine) → mid.left ≡ old.left → SameLimits old mid → Leads A B → (r : Answer Bool Full) → IfOk r (λ begun. Tries B begun mid new) → IfOk r (λ begun. Tries A begun old new)
+pub full_made_by : (cs : List CallEvent) (A B : Point) (s t : Store) (r : Answer Bool Full) → t.heap_limit ≡ s.heap_limit → t.trail_limit ≡ s.trail_limit → LeadsBy cs A B → IfErr r (λ e. FullAt B t e) → IfErr r (λ e. FullAt A s e)
+full_made_by cs A B s t (Ok found) same same' h f = tt
+full_made_by cs A B s t (Err e) same same' h f = full_by cs A B s t e same same' h f
+
+pub back_by : (A B : Point) (old mid new : Engine) → mid.left ≡ old.left → (tells : Tells old mid) → LeadsBy tells.calls A B → (r : Answer Bool Full) → IfOk r (λ found. GoesBack B found mid new) → IfOk r (λ found. Branches A found old new)
+back_by A B old between new left tells h (Ok true) k = went_on_by A B old between new left tells h k.0
+back_by A B old between new left tells h (Ok false) k = ended_by A B Failing old between new left tells h k
+back_by A B old between new left tells h (Err e) k = tt
+
+pub tries_by : (A B : Point) (old mid new : Engine) → mid.left ≡ old.left → (tells : Tells old mid) → LeadsBy tells.calls A B → (r : Answer Bool Full) → IfOk r (λ begun. Tries B begun mid new) → IfOk r (λ begun. Tries A begun old new)
+tries_by A B old between new left tells h (Ok begun) k = tried_by A B old between new left tells h begun k
+tries_by A B old between new left tells h (Err e) k = tt
+
+pub tries_made : (A B : Point) (old mid new : Engine) → mid.left ≡ old.left → Silent old mid → Leads A B → (r : Answer Bool Full) → IfOk r (λ begun. Tries B begun mid new) → IfOk r (λ begun. Tries A begun old new)
 tries_made A B old between new left limits h (Ok begun) k = tried_from A B old between new left limits h begun k
 tries_made A B old between new left limits h (Err e) k = tt
 

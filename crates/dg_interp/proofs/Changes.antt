@@ -34,9 +34,10 @@ use Rattle.dg_interp.specs.declared.engine.Engine.{Engine}
 use Rattle.dg_lasting.specs.declared.lasting.Lasting.{Lasting}
 use Rattle.dg_interp.specs.inside.Frames.{values_in}
 use Rattle.dg_lasting.specs.Lasting.{outline, HaveGathered, InWorld}
-use Rattle.dg_interp.specs.inside.Engine.{store_in, limit_in, KeepsPlaces, steps_of, IsReady, TakesAt, StandsAt, FailsAt, PassesLimit, Leads, Then, SameLimits, WentOn}
+use Rattle.dg_interp.specs.inside.Engine.{store_in, limit_in, KeepsPlaces, steps_of, IsReady, TakesAt, StandsAt, FailsAt, PassesLimit, Leads, Then, Silent, WentOn}
 use Rattle.dg_lasting.specs.Changing.{all_in_store, SetsFormed, Became}
 use Rattle.dg_interp.specs.inside.Made.{MadeArgs, changes_at, ChangedMade}
+use Rattle.dg_interp.proofs.Places.{silent}
 use Rattle.dg_interp.proofs.Takes.{behind, taken_in, comes_of}
 use Rattle.dg_interp.proofs.Giving.{written_agrees}
 use Rattle.dg_interp.proofs.Acted.{acted_to, acted_ready, acted_limits, acted_on, acted_not}
@@ -112,8 +113,8 @@ module _ (place : ℕ) (terms : List Term) (sets : Bool) (old mid new : Engine) 
   pub changed_ready : IsReady new
   changed_ready = subst IsReady (sym here) (acted_ready x terms (now_held place terms sets) old outer new.store mid.made ready kept keeps grew refl)
 
-  pub changed_limits : SameLimits old new
-  changed_limits = subst (SameLimits old) (sym here) (acted_limits x terms (now_held place terms sets) old outer new.store mid.made ready kept keeps grew refl keep_is)
+  pub changed_limits : Silent old new
+  changed_limits = subst (Silent old) (sym here) (acted_limits x terms (now_held place terms sets) old outer new.store mid.made ready kept keeps grew refl keep_is)
 
   pub changed_left : new.left ≡ old.left
   changed_left = ap (λ (e : Engine). e.left) here
@@ -219,7 +220,7 @@ module _ (place : ℕ) (terms : List Term) (sets : Bool) (old mid new : Engine) 
   changed_on is = record {
     ready = changed_ready;
     left = changed_left;
-    limits = changed_limits;
+    limits = silent (changed_limits);
     leads = λ g n w run st. subst (λ (e : Engine). Then [] w (λ z. StandsAt e g n z run)) (sym here) (subst (Left g n w run st) is (left g n w run st));
   }
 

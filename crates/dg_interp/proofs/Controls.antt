@@ -31,7 +31,7 @@ use Rattle.dg_choices.specs.declared.frames.Mark.TheVariants.{Nothing, CutTo, Re
 use Rattle.dg_interp.specs.declared.engine.Engine.{Engine}
 use Rattle.dg_interp.specs.inside.Frames.{values_in, mark_steps, steps_behind, steps_at, IsFrame, IsLeft}
 use Rattle.dg_unify.specs.inside.Engines.{Agrees}
-use Rattle.dg_interp.specs.inside.Engine.{store_in, KeepsPlaces, steps_of, IsReady, Point, TakesAt, OpensAt, IsSound, FailsAt, IsPushed, IsAgain, FullAt, Leads, SameLimits, WentOn, Branches}
+use Rattle.dg_interp.specs.inside.Engine.{store_in, KeepsPlaces, steps_of, IsReady, Point, TakesAt, OpensAt, IsSound, FailsAt, IsPushed, IsAgain, FullAt, Leads, Silent, WentOn, Branches}
 use Rattle.dg_interp.proofs.Links.{same_here, same_values, same_append, behind_same, at_same, stand_raise}
 use Rattle.dg_interp.proofs.Takes.{behind, taken_in, comes_of, adds_taken, store_sound}
 use Rattle.dg_interp.proofs.Places.{inside_in, inside_kept, adds_nothing, limits_on}
@@ -39,9 +39,9 @@ use Rattle.dg_interp.proofs.Branches.{went_on_from, ended_from}
 use Rattle.dg_interp.proofs.Opens.{agrees_here, opens, pushed_behind, pushed_same, pushed_takes}
 use Rattle.dg_interp.proofs.Stores.{values_kept, hold_front}
 
-pub branches_made : (A B : Point) (old mid new : Engine) → mid.left ≡ old.left → SameLimits old mid → Leads A B → (r : Answer Bool Full) → IfOk r (λ found. Branches B found mid new) → IfOk r (λ found. Branches A found old new)
+pub branches_made : (A B : Point) (old mid new : Engine) → mid.left ≡ old.left → Silent old mid → Leads A B → (r : Answer Bool Full) → IfOk r (λ found. Branches B found mid new) → IfOk r (λ found. Branches A found old new)
 branches_made A B old between new left limits h (Ok true) k = went_on_from A B old between new left limits h k
-branches_made A B old between new left limits h (Ok false) k = ended_from A B Failing old between new left h k
+branches_made A B old between new left limits h (Ok false) k = ended_from A B Failing old between new left limits h k
 branches_made A B old between new left limits h (Err e) k = tt
 
 -- ## What runnable goals hold
@@ -85,7 +85,7 @@ pub record Behind (frame : Frame) (old new : Engine) : Type 0 where
   pub same : (f : Frame) → IsFrame (length old.frames.items) (length old.refs.items) f → steps_at (values_of new) new.frames.items f ≡ steps_at (values_of old) old.frames.items f
   pub older : (k : ℕ) → k ≤ length old.frames.items → steps_behind (values_of new) new.frames.items k ≡ steps_behind (values_of old) old.frames.items k
   pub takes : (x : Goal) (g : Game) (n : ℕ) (w : World) (run : Run) → TakesAt x old g n w run → TakesAt x new g n w run
-  pub limits : SameLimits old new
+  pub limits : Silent old new
 
 pub pushed_means : (frame : Frame) (old new : Engine) → IsReady old → IsFrame (length old.frames.items) (length old.refs.items) frame → IsPushed frame old new → Behind frame old new
 pushed_means frame old new ready is p = subst (Behind frame old) (sym p.same) (record {
@@ -95,7 +95,7 @@ pushed_means frame old new ready is p = subst (Behind frame old) (sym p.same) (r
       ap (λ (l : List Frame). steps_behind (values_of old) l k) p.frames
       ∙ behind_same (length old.refs.items) (values_of old) (values_of old) old.frames.items (old.frames.items ++ frame ∷ []) (length old.frames.items) k le (same_values (length old.refs.items) (values_of old)) ready.sound.base.frames (same_append old.frames.items frame);
   takes = pushed_takes old frame new.frames ready is p.frames;
-  limits = record { heap = refl; trail = refl; aux = refl; keep = refl };
+  limits = record { heap = refl; trail = refl; aux = refl; keep = refl; told = refl };
 })
 
 pub pushed_leads : (x : Goal) (frame : Frame) (old new : Engine) → Behind frame old new → (B : Point) → Leads (TakesAt x new) B → Leads (TakesAt x old) B
@@ -125,7 +125,7 @@ pub record Twice (goals : Bor (List Goal)) (old between new : Engine) : Type 0 w
   pub all : behind_all new ≡ goals_at (values_of new new.here.env) new.here.tag goals.now ++ steps_of new
   pub older : steps_behind (values_of new) new.frames.items (length between.frames.items) ≡ steps_of new
   pub takes : (x : Goal) (g : Game) (n : ℕ) (w : World) (run : Run) → TakesAt x old g n w run → TakesAt x new g n w run
-  pub limits : SameLimits old new
+  pub limits : Silent old new
 
 pub twice : (goals : Bor (List Goal)) (old between new : Engine) → IsReady old → AreRunnable goals.now → IsPushed old.here old between → IsPushed (then_frame goals between) between new → Twice goals old between new
 twice goals old between new ready runnable p q =
@@ -315,14 +315,14 @@ module _ (goals : Bor (List Goal)) (old : Engine) (ready : IsReady old) (all : b
         here = is;
       };
       left = refl;
-      limits = record { heap = k.heap_limit; trail = k.trail_limit; aux = refl; keep = refl };
+      limits = record { heap = k.heap_limit; trail = k.trail_limit; aux = refl; keep = refl; calls = []; told = refl };
       leads = λ g n w run st.
           let r = behind x old g n w run st in
           let v = taken_in x old g n w run st in
           let a = adds_taken r (writing (terms_held (out-Goal x))) w in
           record {
             world = begun (inside 10 r) 0 v;
-            adds = record { prints_are = a.prints_are; typed = refl };
+            adds = record { events_are = a.events_are; typed = refl };
             holds = record {
               at = record {
                 inside = inside_kept _ _ saved st.at.inside.world st.at.inside;

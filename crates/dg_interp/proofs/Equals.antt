@@ -31,6 +31,7 @@ use Rattle.dg_terms.specs.Terms.{Overflows, BothMade}
 use Rattle.dg_interp.specs.inside.Frames.{values_in}
 use Rattle.dg_interp.specs.inside.Engine.{store_in, KeepsPlaces, steps_of, IsReady, TakesAt, FailsAt, FullAt, Adds, Leads, WentOn}
 use Rattle.dg_unify.specs.inside.Engines.{Agrees}
+use Rattle.dg_interp.proofs.Places.{silent}
 use Rattle.dg_interp.proofs.Stores.{trail_append, trail_within, made_is}
 use Rattle.dg_interp.proofs.Takes.{behind, taken_in, comes_of, adds_taken, terms_full, store_ready}
 use Rattle.dg_interp.proofs.Values.{grown, grown_limits, stands_behind, fails_behind}
@@ -141,13 +142,13 @@ module _ (a b : Term) (old : Engine) (mid : Store) (ra rb : Ref) (store : ListBi
   y = Equal a b
 
   adds_bound : (g : Game) (n : ℕ) (w : World) (run : Run) (st : TakesAt y old g n w run) → Adds [] w (bound_in a b old mid ra rb sound made g n w run st)
-  adds_bound g n w run st = let t = adds_taken (behind y old g n w run st) (writing (terms_held (out-Goal y))) w in record { prints_are = t.prints_are; typed = refl }
+  adds_bound g n w run st = let t = adds_taken (behind y old g n w run st) (writing (terms_held (out-Goal y))) w in record { events_are = t.events_are; typed = refl }
 
   pub equal_passed : found ≡ true → WentOn (TakesAt y old) old (grown y old store stack ready k saved)
   equal_passed is = record {
     ready = store_ready old store stack k saved ready;
     left = refl;
-    limits = grown_limits y old store stack ready k saved;
+    limits = silent (grown_limits y old store stack ready k saved);
     leads = λ g n w run st.
         let v = bound_in a b old mid ra rb sound made g n w run st in
         let r = after a b old mid ra rb sound made g n w run st in

@@ -1,6 +1,6 @@
 -- What queries of the world come to.
 use Rattle.std.proofs.Common.{◌≡◌, ℕ, zero, suc, ◌+◌, List, [], ◌∷◌, Bool, true, false, Option, Some, None, refl, sym, ap, ◌∙◌, subst, arith, map, drop}
-use Rattle.std.specs.Prelude.{slice_get, is_some, if◌then◌else◌}
+use Rattle.std.specs.Prelude.{slice_get, is_some}
 use Rattle.std.specs.List.{All}
 use Rattle.std.specs.Option.{option_map}
 use Rattle.std.proofs.lemmas.List.Elements.{All-head, All-tail}
@@ -8,7 +8,6 @@ use Rattle.std.specs.declared.vec.Vec.{Vec}
 use Rattle.std.specs.declared.alloc.Global.{Global}
 use Rattle.dg_base.specs.declared.cells.Cell.{Cell}
 use Rattle.dg_base.specs.declared.cells.Simple.{Simple}
-use Rattle.dg_base.specs.declared.cells.Simple.TheVariants as simple
 use Rattle.dg_base.specs.declared.program.Goal.{Goal, out-Goal}
 use Rattle.dg_base.specs.declared.program.Goal.TheVariants.{Holds as HoldsGoal, IsObject, outs-Holds, outs-IsObject}
 use Rattle.dg_base.specs.declared.program.PlaceKind.{PlaceKind}
@@ -19,7 +18,7 @@ use Rattle.dg_base.specs.Goals.{terms_held}
 use Rattle.dg_meaning.specs.Cells.{cells, writing}
 use Rattle.dg_meaning.specs.Changes.{found}
 use Rattle.dg_meaning.specs.Copies.{vars_in, copy_from, copy_cells}
-use Rattle.dg_meaning.specs.Facts.{Fact, is_at, value_at, kinds_of}
+use Rattle.dg_meaning.specs.Facts.{Fact, value_at, kinds_of}
 use Rattle.dg_meaning.specs.Letters.{copied}
 use Rattle.dg_meaning.specs.Substitutions.{walk}
 use Rattle.dg_meaning.specs.ValueCells.{cells_of}
@@ -37,7 +36,6 @@ use Rattle.dg_unify.specs.declared.bindings.Ref.{Ref}
 use Rattle.dg_unify.specs.declared.bindings.Full.{Full}
 use Rattle.dg_unify.specs.declared.bindings.Full.TheVariants as full
 use Rattle.dg_unify.specs.declared.list.ListBindings.{ListBindings}
-use Rattle.dg_lists.specs.Formed.{IsFormed}
 use Rattle.dg_lists.specs.Reading.{Lacks, Copied}
 use Rattle.dg_world.specs.Tables.{Outline, IsKind, simple_value}
 use Rattle.dg_world.specs.Worlds.{StandsFor}
@@ -51,9 +49,9 @@ use Rattle.dg_meaning.specs.inside.Finding.{may_find}
 use Rattle.dg_lasting.proofs.Finds.{no_copy, same_copy, KeptAs, value_formed, kept_as, kept_none}
 use Rattle.dg_interp.specs.inside.Giving.{ActsAt, UnifiesAt}
 use Rattle.dg_interp.specs.inside.Finding.{EffectAt, made_values, AsksPlaceAt, AsksObjectsAt, TriesObjectsAt, ReadsAt}
-use Rattle.dg_interp.specs.inside.Engine.{Point, store_in, KeepsPlaces, steps_of, IsReady, TakesAt, FailsAt, FullAt, Leads, SameLimits, WentOn}
+use Rattle.dg_interp.specs.inside.Engine.{Point, store_in, KeepsPlaces, steps_of, IsReady, TakesAt, FailsAt, FullAt, Leads, Silent, WentOn}
 use Rattle.dg_unify.proofs.StoreLemmas.{kept_told}
-use Rattle.dg_interp.proofs.Places.{adds_nothing, inside_in, inside_kept, limits_here}
+use Rattle.dg_interp.proofs.Places.{silent, adds_nothing, inside_in, inside_kept, limits_here}
 use Rattle.dg_interp.proofs.Takes.{behind, taken_in, comes_of, adds_taken}
 use Rattle.dg_interp.proofs.Giving.{with_store, steps_kept, kept_limits, acts_on, written_agrees}
 use Rattle.dg_interp.proofs.TakingOut.{made_heap}
@@ -121,7 +119,7 @@ module _ (fact : List Fact → Option Value) (args : List Value) (old : Engine) 
   reads_alone ready none some = record {
     ready = ready;
     left = refl;
-    limits = limits_here old;
+    limits = silent (limits_here old);
     leads = λ g n w run st.
         let v = some g w st.at.inside.program st.at.inside.world in
         let r = st.at.registers in
@@ -166,7 +164,7 @@ module _ (fact : List Fact → Option Value) (args : List Value) (old : Engine) 
       ap (λ x. Unifies q ((x, copy_of c.v r) ∷ []) v) (sym (kept_told s t into k hold)) ∙ ap (λ y. Unifies q ((told t into, y) ∷ []) v) (copy_told s t c.v made r c.copy st.at.agrees) in
       record {
         world = v;
-        adds = record { prints_are = (adds_nothing w).prints_are; typed = refl };
+        adds = record { events_are = refl; typed = refl };
         holds = acts_on old store stack ready k saved g n w v run st.at st.at.inside.world (λ x u. Unifies x ((told t into, told t made) ∷ []) u) q (copy_agrees s t c.v made r c.copy st.at.agrees) refl refl
             (subst (λ a. Went g st.at.inside.lives st.at.ways n (move_of (steps_of old) r a) run) values (read_so (told s into) rest is g n w run st c.v c.is));
       }
@@ -230,8 +228,8 @@ module _ (x : Goal) (terms : List Term) (held : terms_held (out-Goal x) ≡ term
   grew : (program : CoreProgram) → old.program.now ≡ program → (store_in mid.store).state ≡ record (store_in old.store).state { heap = (store_in old.store).state.heap + cells program terms }
   grew program e = (made.written program e).charged.state
 
-  pub asked_limits : SameLimits old mid
-  asked_limits = subst (SameLimits old) (sym made.same) (kept_limits old mid.store mid.made ready made.kept made.saved)
+  pub asked_limits : Silent old mid
+  asked_limits = subst (Silent old) (sym made.same) (kept_limits old mid.store mid.made ready made.kept made.saved)
 
   pub asked_left : mid.left ≡ old.left
   asked_left = ap (λ (e : Engine). e.left) made.same
@@ -302,7 +300,7 @@ module _ (does : Game → List Step → Registers → World → Effect) (old : E
       let v = worked (work r) w in
       record {
         world = v;
-        adds = record { prints_are = (adds_nothing w).prints_are; typed = refl };
+        adds = record { events_are = refl; typed = refl };
         holds = record {
           at = record {
             inside = inside_in v st.at.inside.world st.at.inside;
@@ -340,7 +338,7 @@ module _ (test : List Fact → Bool) (old : Engine) where
   test_on ready passed = record {
     ready = ready;
     left = refl;
-    limits = limits_here old;
+    limits = silent (limits_here old);
     leads = λ g n w run st. record {
       world = w;
       adds = adds_nothing w;

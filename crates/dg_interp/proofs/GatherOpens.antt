@@ -46,7 +46,7 @@ use Rattle.dg_interp.specs.inside.Frames.{values_in, steps_at, steps_behind, who
 use Rattle.dg_interp.specs.inside.Gathering.{gathering_goal, gathering_live, GathersAt}
 use Rattle.dg_interp.specs.inside.Engine.{Point, store_in, KeepsPlaces, IsReady, TakesAt, Leads, WentOn, FullAt, PassesLimit, steps_of, open_in}
 use Rattle.dg_interp.proofs.Links.{SameBy, SameTo, same_append, at_same, behind_new, frame_raise, frames_raise, frames_append, stand_raise, stand_same, choices_same, back_same}
-use Rattle.dg_interp.proofs.Places.{adds_nothing, open_still, inside_kept}
+use Rattle.dg_interp.proofs.Places.{open_still, inside_kept}
 use Rattle.dg_unify.proofs.StoreLemmas.{kept_on, all_hold, kept_told}
 use Rattle.dg_interp.proofs.Stores.{values_kept, hold_front, front_same}
 use Rattle.dg_interp.proofs.Kept.{back_limits}
@@ -121,7 +121,7 @@ module _ (whole : Whole) (term : Term) (goals : List Goal) (into : Term) (old : 
       let a = adds_taken r (writing (terms_held (out-Goal wx))) w in
       record {
         world = v;
-        adds = record { prints_are = a.prints_are; typed = refl };
+        adds = record { events_are = a.events_are; typed = refl };
         holds = record {
           at = record {
             inside = inside_kept _ _ saved st.at.inside.world st.at.inside;
@@ -363,13 +363,13 @@ module _ (whole : Whole) (value into : Ref) (goals : Bor (List Goal)) (old : Eng
           here = first_is;
         };
         left = refl;
-        limits = record { heap = k.heap_limit; trail = k.trail_limit; aux = ap (λ (x : Lasting). x.gathered.aux) opens.is; keep = ap (λ (x : Lasting). x.world.area.keep) opens.is };
+        limits = record { heap = k.heap_limit; trail = k.trail_limit; aux = ap (λ (x : Lasting). x.gathered.aux) opens.is; keep = ap (λ (x : Lasting). x.world.area.keep) opens.is; calls = []; told = refl };
         leads = λ g n w run st.
             let r = st.at.registers in
             let c = gathering_live whole (told s into) (steps_of old) (open_in old) r st.at.ways in
             record {
               world = opened_in g n w run st;
-              adds = record { prints_are = (adds_nothing w).prints_are; typed = refl };
+              adds = record { events_are = refl; typed = refl };
               holds = record {
                 at = record {
                   inside = record {

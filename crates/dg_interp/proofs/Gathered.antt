@@ -28,9 +28,9 @@ use Rattle.dg_lasting.specs.declared.lasting.Lasting.{Lasting}
 use Rattle.dg_lasting.specs.Lasting.{picks_in, InWorld, MayPick, Gathers, GathersTooMuch}
 use Rattle.dg_interp.specs.inside.Frames.{stretch, values_in}
 use Rattle.dg_interp.specs.inside.Gathering.{KeepsAt}
-use Rattle.dg_interp.specs.inside.Engine.{Point, store_in, KeepsPlaces, IsReady, FullAt, LacksIn, LackAt, Leads, SameLimits, PassesLimit, WentWrong, limit_in}
+use Rattle.dg_interp.specs.inside.Engine.{Point, store_in, KeepsPlaces, IsReady, FullAt, LacksIn, LackAt, LeadsBy, Leads, Silent, Tells, PassesLimit, WentWrong, limit_in}
 use Rattle.dg_meaning.specs.Peaks.{Area, Aux}
-use Rattle.dg_interp.proofs.Places.{adds_nothing, limits_at}
+use Rattle.dg_interp.proofs.Places.{limits_at, telling_limits, silent}
 use Rattle.dg_interp.proofs.Takes.{store_sound}
 
 -- ## A value is kept
@@ -106,10 +106,10 @@ module _ (old : Engine) (ready : IsReady old) (store1 : ListBindings) (r : Ref) 
     value_kept = record {
       sound = let now = store_sound old store2 old.made k saved ready.sound in record { base = now.base; room = now.room; picks = subst (λ (o : Lasting). MayPick old.left (picks_in o)) (sym is.is) now.picks };
       left = refl;
-      limits = record { heap = k.heap_limit; trail = k.trail_limit; aux = ap (λ (o : Lasting). o.gathered.aux) is.is; keep = ap (λ (o : Lasting). o.world.area.keep) is.is };
+      limits = record { heap = k.heap_limit; trail = k.trail_limit; aux = ap (λ (o : Lasting). o.gathered.aux) is.is; keep = ap (λ (o : Lasting). o.world.area.keep) is.is; calls = []; told = refl };
       leads = λ g n w run st. record {
         world = kept_in g n w run st;
-        adds = record { prints_are = (adds_nothing w).prints_are; typed = refl };
+        adds = record { events_are = refl; typed = refl };
         holds = record {
           inside = record {
             program = st.at.inside.program;
@@ -132,13 +132,16 @@ pub var_among : (t t1 : Store) (a : Ref) (refs part : List Ref) (place : Env) �
 var_among t t1 a refs part place is h = subst (λ l. Made 0 t t1 a (value_of_var (map (told t) l) 0)) is h
 
 -- what is lacked further on is lacked here
-pub lacks_from : (A B : Point) (old mid : Engine) → SameLimits old mid → Leads A B → (lack : Lack) → LackAt B mid lack → LackAt A old lack
-lacks_from A B old between same leads lack h = in_area (area_of lack) h
+pub lacks_by : (A B : Point) (old mid : Engine) → (tells : Tells old mid) → LeadsBy tells.calls A B → (lack : Lack) → LackAt B mid lack → LackAt A old lack
+lacks_by A B old between tells leads lack h = in_area (area_of lack) h
   where
     in_area : (o : Option Area) → LacksIn o B between → LacksIn o A old
     in_area None h = tt
     in_area (Some area) h = λ g n w run a.
         let x = leads g n w run a in
         let y = h g n x.world run x.holds in
-        let same_limit : limit_in area between ≡ limit_in area old = limits_at old between same area in
+        let same_limit : limit_in area between ≡ limit_in area old = limits_at old between (telling_limits tells) area in
         omega (arith, y, same_limit)
+
+pub lacks_from : (A B : Point) (old mid : Engine) → Silent old mid → Leads A B → (lack : Lack) → LackAt B mid lack → LackAt A old lack
+lacks_from A B old between same leads lack h = lacks_by A B old between (silent same) leads lack h

@@ -29,12 +29,12 @@ use Rattle.dg_unify.specs.declared.list.ListBindings.{ListBindings}
 use Rattle.dg_interp.specs.declared.engine.Engine.{Engine}
 use Rattle.dg_terms.specs.Terms.{Overflows}
 use Rattle.dg_interp.specs.inside.Frames.{values_in}
-use Rattle.dg_interp.specs.inside.Engine.{Point, store_in, KeepsPlaces, steps_of, There, IsReady, TakesAt, StandsAt, FailsAt, FullAt, Leads, SameLimits, WentOn, Branches}
+use Rattle.dg_interp.specs.inside.Engine.{Point, store_in, KeepsPlaces, steps_of, There, IsReady, TakesAt, StandsAt, FailsAt, FullAt, Leads, Silent, WentOn, Branches}
 use Rattle.dg_lasting.specs.Lasting.{InWorld}
 use Rattle.dg_interp.specs.inside.Giving.{ActsAt, SolvesAt, UnifiesAt, GivesAt}
 use Rattle.dg_unify.proofs.StoreLemmas.{kept_told}
 use Rattle.dg_interp.proofs.Stores.{trail_append, trail_within, made_is, values_kept, hold_front}
-use Rattle.dg_interp.proofs.Places.{inside_kept, adds_nothing}
+use Rattle.dg_interp.proofs.Places.{silent, inside_kept, adds_nothing}
 use Rattle.dg_interp.proofs.Links.{same_here, at_same}
 use Rattle.dg_interp.proofs.Takes.{behind, taken_in, comes_of, adds_taken, terms_full, store_ready}
 use Rattle.dg_interp.proofs.Branches.{went_on_from, ended_from}
@@ -51,8 +51,8 @@ module _ (old : Engine) (store : ListBindings) (stack : Vec Ref Global) (ready :
   steps_kept = at_same (length old.refs.items) (values_in (store_in old.store) old.refs.items) (values_in (store_in store) old.refs.items) old.frames.items old.frames.items (length old.frames.items) old.here ready.here
       (values_kept (length old.refs.items) (store_in old.store) (store_in store) old.refs.items old.refs.items k (hold_front (store_in old.store) old.refs.items ready.sound.base.hold) refl) ready.sound.base.frames (same_here (length old.frames.items) old.frames.items)
 
-  pub kept_limits : SameLimits old with_store
-  kept_limits = record { heap = k.heap_limit; trail = k.trail_limit; aux = refl; keep = refl }
+  pub kept_limits : Silent old with_store
+  kept_limits = record { heap = k.heap_limit; trail = k.trail_limit; aux = refl; keep = refl; told = refl }
 
   module _ (g : Game) (n : ℕ) (w v : World) (run : Run) (at : There old (old.newest + 1) g w) (world : InWorld old.lasting g v) where
     abbrev there_on : (r : Registers) → Agrees (store_in store) r → r.next_tag ≡ at.registers.next_tag → r.stoppable ≡ at.registers.stoppable → There with_store (old.newest + 1) g v
@@ -75,8 +75,8 @@ module _ (old : Engine) (store : ListBindings) (stack : Vec Ref Global) (ready :
     pub fails_on : Failed g at.inside.lives n v run → FailsAt with_store g n v run
     fails_on h = record { inside = inside_kept _ _ saved world at.inside; failed = h }
 
-pub same_limits : (e : Engine) → SameLimits e e
-same_limits e = record { heap = refl; trail = refl; aux = refl; keep = refl }
+pub same_limits : (e : Engine) → Silent e e
+same_limits e = record { heap = refl; trail = refl; aux = refl; keep = refl; told = refl }
 
 -- ## A goal whose terms are written
 
@@ -109,7 +109,7 @@ module _ (x : Goal) (ts : List Term) (held : terms_held (out-Goal x) ≡ ts) (ol
         let a = adds_taken r (writing (terms_held (out-Goal x))) w in
         record {
           world = v;
-          adds = record { prints_are = a.prints_are; typed = refl };
+          adds = record { events_are = a.events_are; typed = refl };
           holds = acts_on old store stack ready k saved g n w v run st.at st.at.inside.world act r (written_agrees g n w run st) refl refl
               (subst (λ o. After g st.at.inside.lives st.at.ways n o run) (is g r t st.at.inside.program (written_agrees g n w run st).bound) (comes_of x old g n w run st));
         }
@@ -189,10 +189,10 @@ module _ (es : Equations) (old : Engine) (store : ListBindings) (ready : IsReady
   solved_on is = record {
     ready = store_ready old store old.made k saved ready;
     left = refl;
-    limits = kept_limits old store old.made ready k saved;
+    limits = silent (kept_limits old store old.made ready k saved);
     leads = λ g n w run st. record {
       world = bound_in es old sound g n w run st;
-      adds = record { prints_are = (adds_nothing w).prints_are; typed = refl };
+      adds = record { events_are = refl; typed = refl };
       holds = stands_on old store old.made ready k saved g n w (bound_in es old sound g n w run st) run st.at st.at.inside.world (after es old sound g n w run st) (solved_agrees es old sound g n w run st (store_in store) found does) refl refl
           (subst (λ o. Went g st.at.inside.lives st.at.ways n (goes_on_if o (steps_of old) (after es old sound g n w run st) (bound_in es old sound g n w run st)) run) is (solved_comes es old sound g n w run st found does.agrees));
     };
@@ -201,7 +201,7 @@ module _ (es : Equations) (old : Engine) (store : ListBindings) (ready : IsReady
   pub solved_fails : found ≡ false → Leads (SolvesAt es old) (FailsAt solved_to)
   solved_fails is g n w run st = record {
     world = bound_in es old sound g n w run st;
-    adds = record { prints_are = (adds_nothing w).prints_are; typed = refl };
+    adds = record { events_are = refl; typed = refl };
     holds = fails_on old store old.made ready k saved g n w (bound_in es old sound g n w run st) run st.at st.at.inside.world
         (subst (λ o. Went g st.at.inside.lives st.at.ways n (goes_on_if o (steps_of old) (after es old sound g n w run st) (bound_in es old sound g n w run st)) run) is (solved_comes es old sound g n w run st found does.agrees));
   }
@@ -241,10 +241,10 @@ number_given m into made old store ready k saved hold same is g n w run st =
 
 -- ## What a call answers
 
-branches_from : (A B : Point) (old mid new : Engine) → mid.left ≡ old.left → SameLimits old mid → Leads A B → (found : Bool) → Branches B found mid new → Branches A found old new
+branches_from : (A B : Point) (old mid new : Engine) → mid.left ≡ old.left → Silent old mid → Leads A B → (found : Bool) → Branches B found mid new → Branches A found old new
 branches_from A B old between new left limits h true k = went_on_from A B old between new left limits h k
-branches_from A B old between new left limits h false k = ended_from A B Failing old between new left h k
+branches_from A B old between new left limits h false k = ended_from A B Failing old between new left limits h k
 
-pub branches_made : (A B : Point) (old mid new : Engine) → mid.left ≡ old.left → SameLimits old mid → Leads A B → (r : Answer Bool Full) → IfOk r (λ found. Branches B found mid new) → IfOk r (λ found. Branches A found old new)
+pub branches_made : (A B : Point) (old mid new : Engine) → mid.left ≡ old.left → Silent old mid → Leads A B → (r : Answer Bool Full) → IfOk r (λ found. Branches B found mid new) → IfOk r (λ found. Branches A found old new)
 branches_made A B old between new left limits h (Ok found) k = branches_from A B old between new left limits h found k
 branches_made A B old between new left limits h (Err e) k = tt

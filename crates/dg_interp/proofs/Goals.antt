@@ -13,7 +13,6 @@ use Rattle.dg_meaning.specs.Path.{Step, Registers, End, Moves, GoesOn}
 use Rattle.dg_meaning.specs.Moves.{printed, outcome, path_of}
 use Rattle.dg_meaning.specs.Transcript.{Run}
 use Rattle.dg_meaning.specs.inside.Keeps.{After}
-use Rattle.dg_meaning.proofs.Dropping.{prints_append}
 use Rattle.dg_meaning.proofs.Keeps.{passes_cut}
 use Rattle.dg_meaning.specs.Cells.{cells}
 use Rattle.dg_base.specs.Goals.{terms_held}
@@ -56,7 +55,7 @@ module _ (old : Engine) (choices : Vec Choice Global) (ready : IsReady old) (cut
       here = ready.here;
     };
     left = refl;
-    limits = record { heap = refl; trail = refl; aux = refl; keep = refl };
+    limits = record { heap = refl; trail = refl; aux = refl; keep = refl; calls = []; told = refl };
     leads = λ g n w run st.
         let r = behind Just old g n w run st in
         let v = taken_in Just old g n w run st in
@@ -84,14 +83,14 @@ module _ (old : Engine) (choices : Vec Choice Global) (ready : IsReady old) (cut
 
 -- a goal without terms that prints one thing
 pub prints_one : (x : Goal) (e : Print) (old : Engine) → terms_held (out-Goal x) ≡ [] → ((g : Game) (env : List Value) (t : ℕ) (steps : List Step) (r : Registers) (w : World) → outcome g (out-Goal x) env t steps r w ≡ Moves (GoesOn (path_of steps r) (printed e w))) →
-    (g : Game) (n : ℕ) (w : World) (run : Run) → TakesAt x old g n w run → Then (e ∷ []) w (λ v. StandsAt old g n v run)
+    (g : Game) (n : ℕ) (w : World) (run : Run) → TakesAt x old g n w run → Then (Prints e ∷ []) w (λ v. StandsAt old g n v run)
 prints_one x e old none is g n w run st =
     let r = behind x old g n w run st in
     let v = taken_in x old g n w run st in
     let heap : r.heap ≡ st.at.registers.heap = no_cells st.at.registers.heap _ (ap (cells g.program) none) in
     record {
       world = printed e v;
-      adds = record { prints_are = prints_append w.events (Prints e ∷ []); typed = refl };
+      adds = record { events_are = refl; typed = refl };
       holds = record {
         at = record {
           inside = inside_in _ st.at.inside.world st.at.inside;
@@ -106,10 +105,10 @@ prints_one x e old none is g n w run st =
       };
     }
 
-pub prints_word : (name : List ℕ) (old : Engine) (g : Game) (n : ℕ) (w : World) (run : Run) → TakesAt (Text name) old g n w run → Then (Piece name ∷ []) w (λ v. StandsAt old g n v run)
+pub prints_word : (name : List ℕ) (old : Engine) (g : Game) (n : ℕ) (w : World) (run : Run) → TakesAt (Text name) old g n w run → Then (Prints (Piece name) ∷ []) w (λ v. StandsAt old g n v run)
 prints_word name old = prints_one (Text name) (Piece name) old (ap terms_held (outs-Text name)) (λ g env t steps r w. ap (λ f. outcome g f env t steps r w) (outs-Text name))
 
-pub prints_gap : (kind : GapKind) (old : Engine) (g : Game) (n : ℕ) (w : World) (run : Run) → TakesAt (Gap kind) old g n w run → Then (GapOf kind ∷ []) w (λ v. StandsAt old g n v run)
+pub prints_gap : (kind : GapKind) (old : Engine) (g : Game) (n : ℕ) (w : World) (run : Run) → TakesAt (Gap kind) old g n w run → Then (Prints (GapOf kind) ∷ []) w (λ v. StandsAt old g n v run)
 prints_gap kind old = prints_one (Gap kind) (GapOf kind) old (ap terms_held (outs-Gap kind)) (λ g env t steps r w. ap (λ f. outcome g f env t steps r w) (outs-Gap kind))
 
 pub quits : (e : Engine) → Ends (TakesAt Quit e) (End Quit-Ending)

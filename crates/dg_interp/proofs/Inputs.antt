@@ -12,7 +12,6 @@ use Rattle.dg_base.specs.declared.program.Term.{Term}
 use Rattle.dg_base.specs.declared.run.Ending.{Ending}
 use Rattle.dg_base.specs.declared.run.Ending.TheVariants.{Failed, InputEnded}
 use Rattle.dg_base.specs.declared.run.RunFault.{RunFault}
-use Rattle.dg_base.proofs.WrittenLemmas.{broke_later}
 use Rattle.dg_meaning.specs.Letters.{copied}
 use Rattle.dg_meaning.specs.Values.{Value}
 use Rattle.dg_meaning.specs.Words.{behind_line, behind_first, first_line, letters_of, line_value, reading}
@@ -20,12 +19,12 @@ use Rattle.dg_base.specs.Units.{units_of}
 use Rattle.dg_meaning.specs.World.{Game, World, Print, Prints, GapOf, prints, worked}
 use Rattle.dg_meaning.specs.Path.{Failing, End}
 use Rattle.dg_meaning.specs.Moves.{printed, move_of, takes_line}
-use Rattle.dg_meaning.specs.Render.{render, growth}
+use Rattle.dg_meaning.specs.Render.{growth}
 use Rattle.dg_meaning.specs.inside.OneRun.{Grows}
 use Rattle.dg_meaning.specs.Peaks.{Area, Heap, Trail, greatest}
 use Rattle.dg_meaning.specs.inside.Keeps.{Finished, Went}
 use Rattle.dg_meaning.specs.Shows.{IsLeft}
-use Rattle.dg_meaning.specs.Transcript.{Run, text_of, start_world}
+use Rattle.dg_meaning.specs.Transcript.{Run, start_world}
 use Rattle.dg_meaning.proofs.Dropping.{prints_append}
 use Rattle.dg_unify.specs.Store.{told}
 use Rattle.dg_unify.specs.declared.bindings.Ref.{Ref}
@@ -45,9 +44,8 @@ use Rattle.dg_texts.specs.Printing.{Added}
 use Rattle.dg_interp.specs.inside.Running.{HasText, Writes, Gave, Awaits, Stretch, Reaches, HasEnded, MeetsLimit, HasPart, IsLimited, TakesMore, LosesInput, LosesOutput, Broken, GoalDone, DoesGoal, over, outcome_of}
 use Rattle.dg_texts.specs.Spelling.{IsShort, SpellsSome}
 use Rattle.dg_interp.specs.inside.Wording.{words_in, MakesAt, TakesLineAt, AwaitsInput}
-use Rattle.dg_interp.proofs.Places.{inside_in, limits_at, limits_on, adds_nothing}
-use Rattle.dg_texts.proofs.Texts.{render_grows}
-use Rattle.dg_interp.proofs.Runs.{stretched, writes_nothing, text_added, lost_one, loses_here, finished_so, ended_at, limited_at, no_more}
+use Rattle.dg_interp.proofs.Places.{inside_in, limits_at, same_limits, telling_limits, adds_nothing}
+use Rattle.dg_interp.proofs.Runs.{same_on, called, stretched, writes_nothing, text_added, lost_one, loses_here, finished_so, ended_at, limited_at, no_more}
 use Rattle.dg_interp.proofs.Rounds.{stretch_on}
 use Rattle.dg_interp.proofs.Wordings.{made_grows, made_later}
 use Rattle.dg_texts.proofs.TypedLetters.{line_short}
@@ -72,8 +70,8 @@ module _ (term : Term) (into : Ref) (old mid here : Engine) (some : 0 < length o
   left_is : old.left ≡ suc here.left
   left_is = taken.left ∙ ap suc (sym waits.left)
 
-  same_limits : SameLimits old here
-  same_limits = limits_on old mid here taken.limits waits.limits
+  limits_here : SameLimits old here
+  limits_here = same_on old mid here (same_limits taken.limits) (same_limits waits.limits)
 
   -- the value of the line in front of some bytes
   abbrev pub value_in : World → Value
@@ -107,7 +105,7 @@ module _ (term : Term) (into : Ref) (old mid here : Engine) (some : 0 < length o
     reaches = λ g w run start a st text.
         let t = comes_here g here.left w run (subst (λ n. StandsAt old g n w run) left_is st) in
         let none : w.typed ≡ [] = a.typed ∙ a.left in
-        finished_so (End InputEnded) InputEnded here.left here.left s k (left_told i i') w run start (told_none i.left i'.left over.0 over.1 w.typed none) text refl refl
+        finished_so (End InputEnded) InputEnded here.left here.left s k (left_told i i') w run start (told_none i.left i'.left over.0 over.1 w.typed none) text refl refl []
         (record { world = t.world; adds = t.adds; holds = none_taken g here.left w run t.world t.holds (t.adds.typed ∙ none) });
   }
     where
@@ -185,7 +183,7 @@ module _ (term : Term) (into : Ref) (old mid here : Engine) (some : 0 < length o
         let at = line_taken g n w run t.world t.holds w.typed t.adds.typed line.some in
         record {
           world = behind g n w run t.world t.holds w.typed;
-          prints_are = prints_append t.world.events (Prints (GapOf Line) ∷ []) ∙ ap (λ l. l ++ es) (t.adds.prints_are ∙ append-nil (prints w.events));
+          prints_are = prints_append t.world.events (Prints (GapOf Line) ∷ []) ∙ ap (λ l. prints l ++ es) t.adds.events_are;
           typed = a.typed ∙ ap (λ l. bytes ++ l) (sym line.behind);
           holds = at;
         }
@@ -224,7 +222,7 @@ module _ (term : Term) (into : Ref) (old mid here : Engine) (some : 0 < length o
           let first = went a_world.0 a_world.1 in
           record {
             ready = first.ready;
-            limits = limits_on old here new same_limits first.limits;
+            limits = same_on old here new limits_here (telling_limits first.limits);
             left = left_is ∙ ap suc (sym first.left);
             added = es;
             taken = bytes;
@@ -232,7 +230,7 @@ module _ (term : Term) (into : Ref) (old mid here : Engine) (some : 0 < length o
             leads = λ g n w run a st.
                 subst (λ l. Stretch es l w (λ v. StandsAt new g n v run)) (append-nil bytes)
                 (stretch_on es [] bytes [] w (λ v. MakesAt (value_in w) into here g n v run) (λ v. StandsAt new g n v run) (comes g n w run a st)
-                (λ v e at. stretched [] v (λ u. StandsAt new g n u run) ((went w a).leads g n v run at)));
+                (λ v e at. called (went w a).limits.calls v (λ u. StandsAt new g n u run) ((went w a).leads g n v run at)));
             writes = writes;
           }
 
@@ -245,7 +243,7 @@ module _ (term : Term) (into : Ref) (old mid here : Engine) (some : 0 < length o
             let t = comes_at g w run a st in
             let h = failed w a in
             let left = subst (IsLeft i'.left) (append_cancel_left bytes a.rest t.world.typed (sym a.typed ∙ t.typed)) a.left in
-            let x = finished_so Failing Failed here.left new.left s' k' (left_told i i') t.world run start (as_told i i' t.world.typed left) (text_here w t.world start t.prints_are text) (sym h.left) refl (h.ends g here.left t.world run t.holds) in
+            let x = finished_so Failing Failed here.left new.left s' k' (left_told i i') t.world run start (as_told i i' t.world.typed left) (text_here w t.world start t.prints_are text) (sym h.left) refl h.limits.calls (h.ends g here.left t.world run t.holds) in
             record { world = x.world; typed = x.typed; is = x.is; text = x.text };
       }
 
@@ -272,7 +270,7 @@ module _ (term : Term) (into : Ref) (old mid here : Engine) (some : 0 < length o
         added = es;
         taken = bytes;
         gave = gave;
-        passed = λ g w run a st. let t = comes g 0 w run a st in subst (λ n. n < greatest area run.world.meters) (limits_at old here same_limits area) (passes w a g 0 t.world run t.holds);
+        passed = λ g w run a st. let t = comes g 0 w run a st in subst (λ n. n < greatest area run.world.meters) (limits_at old here limits_here area) (passes w a g 0 t.world run t.holds);
         until = λ g w run a st.
             let t = comes g 0 w run a st in
             record { world = t.world; prints_are = t.prints_are; typed = t.typed; holds = happened g 0 w t.world run t.holds };

@@ -43,3 +43,4 @@ pub mod Findings
 pub mod Tryings
 pub mod RunnableLemmas
 pub mod SoundLemmas
+pub mod Telling

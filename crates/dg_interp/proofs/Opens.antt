@@ -28,7 +28,7 @@ use Rattle.dg_choices.specs.declared.frames.Left.TheVariants.{Rules, Lists, Ways
 use Rattle.dg_interp.specs.declared.engine.Engine.{Engine}
 use Rattle.dg_interp.specs.inside.Frames.{values_in, steps_behind, steps_at, kind_of, branches_of, AreChoices, AreFrames, IsLeft, IsFrame, StandOn, GoBackTo, IsOrdinary, TakesNewest}
 use Rattle.dg_unify.specs.inside.Engines.{Agrees}
-use Rattle.dg_interp.specs.inside.Engine.{store_in, KeepsPlaces, HasPlace, IsPlace, BeginsAt, steps_of, IsSound, IsReady, There, TakesAt, OpensAt, open_in, IsPushed, Leads, SameLimits}
+use Rattle.dg_interp.specs.inside.Engine.{store_in, KeepsPlaces, HasPlace, IsPlace, BeginsAt, steps_of, IsSound, IsReady, There, TakesAt, OpensAt, open_in, IsPushed, Leads, Silent}
 use Rattle.dg_interp.proofs.Links.{same_here, same_append, same_values, behind_new, at_same, frame_raise, frames_append, choices_same, stand_raise, stand_same, branches_same}
 use Rattle.dg_unify.proofs.StoreLemmas.{kept_same, all_hold}
 use Rattle.dg_interp.proofs.Stores.{values_kept, hold_front}
@@ -197,8 +197,8 @@ module _ (old : Engine) (left : Left) (place : Place) (store : ListBindings) (re
   pub opened_place : HasPlace opened place
   opened_place = record { back = record { mark = place; store = t }; saved = ready.sound.base.places.saved; is = place_now ready.sound.base.places.saved ready.sound.base.places.keeps; back_to = back_now }
 
-  pub opened_limits : SameLimits old opened
-  opened_limits = record { heap = k.heap_limit; trail = k.trail_limit; aux = refl; keep = refl }
+  pub opened_limits : Silent old opened
+  opened_limits = record { heap = k.heap_limit; trail = k.trail_limit; aux = refl; keep = refl; told = refl }
 
   pub opened_sound : old.newest + 1 + old.left < 2 ^ 64 → IsSound opened
   opened_sound room = record {

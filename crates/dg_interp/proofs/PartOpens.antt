@@ -190,7 +190,7 @@ module _ (goals : Bor (List Goal)) (old : Engine) (ready : IsReady old) (all : b
         here = is;
       };
       left = refl;
-      limits = record { heap = k.heap_limit; trail = k.trail_limit; aux = refl; keep = refl };
+      limits = record { heap = k.heap_limit; trail = k.trail_limit; aux = refl; keep = refl; calls = []; told = refl };
       leads = λ g n w run st.
           let r = behind x old g n w run st in
           let v = taken_in x old g n w run st in
@@ -199,7 +199,7 @@ module _ (goals : Bor (List Goal)) (old : Engine) (ready : IsReady old) (all : b
           let c = live r st.at.ways in
           record {
             world = begun (within_part r) 0 v;
-            adds = record { prints_are = a.prints_are; typed = refl };
+            adds = record { events_are = a.events_are; typed = refl };
             holds = record {
               at = record {
                 inside = record {

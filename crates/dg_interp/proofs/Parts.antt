@@ -28,7 +28,7 @@ use Rattle.dg_interp.specs.inside.Frames.{values_in, branches_of, cut_if, lives_
 use Rattle.dg_choices.specs.inside.Cutting.{cut_of, Cuts}
 use Rattle.dg_interp.specs.inside.Engine.{store_in, KeepsPlaces, Within, IsSound, StandsAt, TakesAt, Then, Leads, branches_left, WentOn, StopsAt, StopsWithin, StopsFurther, StopsOn, StopsTo, Stops, leaving, part_at, steps_of}
 use Rattle.dg_interp.proofs.Links.{cut_gone, cut_older, cut_fewer, rest_older}
-use Rattle.dg_interp.proofs.Places.{adds_nothing, adds_drops, leads_on, leads_nowhere, limits_on, limits_here, cut_base, cut_inside, ways_left, inside_in}
+use Rattle.dg_interp.proofs.Places.{silent, adds_nothing, adds_drops, leads_on, leads_nowhere, limits_on, limits_here, cut_base, cut_inside, ways_left, inside_in}
 use Rattle.dg_lasting.specs.declared.lasting.Lasting.{Lasting}
 use Rattle.dg_lasting.specs.Lasting.{InWorld, Closes}
 use Rattle.dg_interp.proofs.Turns.{reverse_pop}
@@ -173,7 +173,7 @@ module _ (old : Engine) (o : Choice) (choices : Vec Choice Global) (sound : IsSo
   popped_on none free = record {
     sound = record { base = popped_base old o choices sound popped; room = sound.room; picks = sound.picks };
     left = refl;
-    limits = record { heap = refl; trail = refl; aux = refl; keep = refl };
+    limits = record { heap = refl; trail = refl; aux = refl; keep = refl; told = refl };
     leads = λ g n w run st. record {
       world = w;
       adds = adds_nothing w;
@@ -186,7 +186,7 @@ module _ (old : Engine) (o : Choice) (choices : Vec Choice Global) (sound : IsSo
   cut_on none t rest waits cuts = record {
     sound = record { base = cut_base t old.program.now old.lasting old.store xs fs os (reverse rest.items) cuts old.newest (popped_base old o choices sound popped); room = sound.room; picks = sound.picks };
     left = refl;
-    limits = record { heap = refl; trail = refl; aux = refl; keep = refl };
+    limits = record { heap = refl; trail = refl; aux = refl; keep = refl; told = refl };
     leads = λ g n w run st. record {
       world = w;
       adds = adds_nothing w;
@@ -219,24 +219,24 @@ module _ (old : Engine) (o : Choice) (choices : Vec Choice Global) (sound : IsSo
         let q = st.went in
         let r = st.choice.registers in
         let v = begun (inside 0 r) 0 q.world in
-        let here : c.others ≡ enter 0 0 r (steps_of final) ∷ [] = popped_branches old o choices sound popped frames refs out store cut cut_refs closed back keeps g m ms c cs st.program st.keeps st.choice st.others
+        let here : c.others ≡ enter 0 0 r (steps_of final) ∷ [] = popped_branches old o choices sound popped frames refs out store old.told cut cut_refs closed back keeps g m ms c cs st.program st.keeps st.choice st.others
         ∙ ap (λ l. branches_of g (values_in (store_in store) refs.items) frames.items (length frames.items) l r) part.is in
         let same : way_to tag (with_way o.left c (ways_of os cs)) ≡ Some (record { tag = c.tag; others = c.others; height = c.height }, ways_of os cs) = ap (λ l. way_to tag (with_way l c (ways_of os cs))) part.is
         ∙ cond-true (eqb c.tag tag) (Some (record { tag = c.tag; others = c.others; height = c.height }, ways_of os cs)) (way_to tag (ways_of os cs)) (eq-eqb c.tag tag (st.choice.tag ∙ the_tag)) in
         let pairs : Some (q.way, q.outer) ≡ Some (record { tag = c.tag; others = c.others; height = c.height }, ways_of os cs) = sym q.is ∙ same in
         let pair : (q.way, q.outer) ≡ (record { tag = c.tag; others = c.others; height = c.height }, ways_of os cs) = cc in
         let count : length q.world.gathered ≡ open_at c.others c.height = q.gatherings ∙ ap (λ (x : WayOn × List WayOn). x.0.height) pair ∙ sym (ap (λ bs. open_at bs c.height) here) in
-        let world = popped_world old o choices sound popped frames refs out store cut cut_refs closed back keeps g m ms c cs st.program st.keeps st.choice st.others w q.world st.world q.drops count in
+        let world = popped_world old o choices sound popped frames refs out store old.told cut cut_refs closed back keeps g m ms c cs st.program st.keeps st.choice st.others w q.world st.world q.drops count in
         let outer : q.outer ≡ ways_of os cs = ap (λ (x : WayOn × List WayOn). x.1) pair in
         let others : q.way.others ≡ enter 0 0 r (steps_of final) ∷ [] = ap (λ (x : WayOn × List WayOn). x.0.others) pair ∙ here in
-        let inside0 = popped_within old o choices sound popped frames refs out store cut cut_refs closed back keeps g m ms c cs st.program st.keeps st.choice st.others v world in
-        let agrees : Agrees (store_in store) r = popped_agrees old o choices sound popped frames refs out store cut cut_refs closed back keeps g m ms c cs st.program st.keeps st.choice st.others in
+        let inside0 = popped_within old o choices sound popped frames refs out store old.told cut cut_refs closed back keeps g m ms c cs st.program st.keeps st.choice st.others v world in
+        let agrees : Agrees (store_in store) r = popped_agrees old o choices sound popped frames refs out store old.told cut cut_refs closed back keeps g m ms c cs st.program st.keeps st.choice st.others in
         let lives : cut_to tag (cut_if (cut_of o.left) (c ∷ lives_of os cs)) ≡ cut_to p.1 (lives_of os cs) = ap (λ l. cut_to tag (cut_if (cut_of l) (c ∷ lives_of os cs))) part.is
         ∙ cut_left tag part.cut c (lives_of os cs) (st.choice.tag ∙ the_tag) (subst (λ t. IsNoted t part.cut) the_tag (subst (λ l. IsNoted o.tag (cut_of l)) part.is stand.3.2)) ∙ ap (λ t. cut_to t (lives_of os cs)) (sym part.leaves) in
         let adds = adds_drops w q.world q.drops in
         record {
           world = v;
-          adds = record { prints_are = adds.prints_are; typed = adds.typed };
+          adds = record { events_are = adds.events_are; typed = adds.typed };
           holds = record {
             at = record {
               inside = cut_inside p.1 old.program.now out store refs.items frames.items os (reverse rest.items) cuts g v v world inside0;
@@ -253,14 +253,14 @@ module _ (old : Engine) (o : Choice) (choices : Vec Choice Global) (sound : IsSo
 
     pub part_reached : WentOn (StopsAt tag old) old final
     part_reached =
-        let mid = popped_sound old o choices sound popped frames refs out store cut cut_refs closed back keeps in
+        let mid = popped_sound old o choices sound popped frames refs out store old.told cut cut_refs closed back keeps in
         record {
           ready = record {
             sound = record { base = cut_base p.1 old.program.now out store refs.items frames.items os (reverse rest.items) cuts o.tag mid.base; room = mid.room; picks = mid.picks };
-            here = subst (IsLeft (length frames.items) (length refs.items)) part.is (popped_left old o choices sound popped frames refs out store cut cut_refs closed back keeps);
+            here = subst (IsLeft (length frames.items) (length refs.items)) part.is (popped_left old o choices sound popped frames refs out store old.told cut cut_refs closed back keeps);
           };
           left = refl;
-          limits = let l = popped_limits old o choices sound popped frames refs out store cut cut_refs closed back keeps in record { heap = l.heap; trail = l.trail; aux = l.aux; keep = l.keep };
+          limits = let l = popped_limits old o choices sound popped frames refs out store old.told cut cut_refs closed back keeps in record { heap = l.heap; trail = l.trail; aux = l.aux; keep = l.keep; calls = []; told = refl };
           leads = λ g n w run st. stopped_in (λ g n w run. Then [] w (λ v. StandsAt final g n v run)) gone_back g n w run st;
         }
 
@@ -269,6 +269,7 @@ module _ (old : Engine) (o : Choice) (choices : Vec Choice Global) (sound : IsSo
 pub nowhere_to_stop : (old : Engine) (choices : Vec Choice Global) (tag : ℕ) → length old.choices.items ≡ 0 → StopsOn tag None old (record old { choices = choices })
 nowhere_to_stop old choices tag empty = record {
   left = refl;
+  limits = record { heap = refl; trail = refl; aux = refl; keep = refl; calls = []; told = refl };
   ends = λ g n w run st. absurd (none (ways_of (reverse old.choices.items) st.inside.entries) (st.part_left.way, st.part_left.outer) (ap (λ l. ways_of l st.inside.entries) (no_choice old.choices.items empty)) st.part_left.is);
 } where
   none : (ws : List WayOn) (x : WayOn × List WayOn) → ws ≡ [] → way_to tag ws ≡ Some x → ⊥
@@ -302,6 +303,7 @@ module _ (old : Engine) where
   pub stop_lasting : old.stoppable ≡ None → Stops false old old
   stop_lasting is = record {
     left = refl;
+    limits = silent (limits_here old);
     ends = λ g n w run st.
         let v = taken_in Stop old g n w run st in
         record { world = v; adds = adds_taken (behind Stop old g n w run st) _ w; holds = subst (λ s. After g st.at.inside.lives st.at.ways n (Moves (stop s v)) run) (st.at.stop ∙ is) (stops_in g n w run st) };
@@ -309,4 +311,4 @@ module _ (old : Engine) where
 
 pub stop_made : (old new : Engine) (tag : ℕ) → old.stoppable ≡ Some tag → (b : Bool) → StopsTo tag b old new → Stops b old new
 stop_made old new tag is true h = went_on_from (TakesAt Stop old) (StopsAt tag old) old old new refl (limits_here old) (stop_taken old tag is) h
-stop_made old new tag is false h = ended_from (TakesAt Stop old) (StopsAt tag old) (End Stopped) old old new refl (stop_taken old tag is) h
+stop_made old new tag is false h = ended_from (TakesAt Stop old) (StopsAt tag old) (End Stopped) old old new refl (limits_here old) (stop_taken old tag is) h

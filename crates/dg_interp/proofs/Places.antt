@@ -7,14 +7,13 @@ use Rattle.std.specs.declared.vec.Vec.{Vec}
 use Rattle.std.specs.declared.alloc.Global.{Global}
 use Rattle.dg_base.specs.declared.program.CoreProgram.{CoreProgram}
 use Rattle.dg_base.specs.declared.run.Ending.TheVariants.{Done}
-use Rattle.dg_meaning.specs.World.{Game, World, Event, Print, Answered, Retried, HasFailed, prints, noted}
+use Rattle.dg_meaning.specs.World.{Game, World, Event, Answered, Retried, noted}
 use Rattle.dg_meaning.specs.Path.{Step, Answers, Cut, Registers, End, Branch, ChoiceKind, Plain, Rules, Shield, Gathers}
 use Rattle.dg_meaning.specs.Moves.{path_of, first_alone}
 use Rattle.dg_meaning.specs.Peaks.{Area, Heap, Trail, Aux, Keep}
 use Rattle.dg_meaning.specs.Transcript.{Run}
 use Rattle.dg_meaning.specs.inside.Context.{Live, cut_to, Drops}
 use Rattle.dg_meaning.specs.inside.Keeps.{Stands, Finished, tried_in}
-use Rattle.dg_meaning.proofs.Dropping.{prints_append}
 use Rattle.dg_meaning.proofs.Keeps.{passes_answer, passes_cut, passes_leave, passes_refuse, passes_back, done}
 use Rattle.dg_meaning.specs.Values.{Value}
 use Rattle.dg_unify.specs.Store.{Saved}
@@ -29,8 +28,10 @@ use Rattle.dg_choices.specs.declared.frames.Mark.TheVariants.{Nothing, AnswerOf,
 use Rattle.dg_choices.specs.declared.frames.Frame.{Frame}
 use Rattle.dg_choices.specs.declared.frames.Choice.{Choice}
 use Rattle.dg_interp.specs.declared.engine.Engine.{Engine}
+use Rattle.dg_watch.specs.declared.watch.CallEvent.{CallEvent}
+use Rattle.dg_watch.specs.declared.watch.CallEvent.TheVariants as call
 use Rattle.dg_interp.specs.inside.Frames.{values_in, mark_steps, frame_steps, steps_behind, steps_at, lives_of, ways_of, AreChoices, IsFrame, AreFrames, StandOn, GoBackTo, floor_of, all_left}
-use Rattle.dg_interp.specs.inside.Engine.{store_in, limit_in, KeepsPlaces, Within, On, There, Sound, IsReady, Point, StandsAt, FailsAt, Adds, Then, Leads, branches_left, SameLimits, WentOn, WentWrong, HasEndedSo, MarkPassed, Refused, FrameLeft, steps_of}
+use Rattle.dg_interp.specs.inside.Engine.{store_in, limit_in, KeepsPlaces, Within, On, There, Sound, IsReady, Point, StandsAt, FailsAt, with_all, events_of, event_of, Adds, Then, LeadsBy, Leads, branches_left, SameLimits, Silent, Tells, WentOn, WentWrong, HasEndedSo, MarkPassed, Refused, FrameLeft, steps_of}
 use Rattle.dg_choices.specs.inside.Cutting.{older_than, Cuts}
 use Rattle.dg_lasting.specs.declared.lasting.Lasting.{Lasting}
 use Rattle.dg_lasting.specs.Lasting.{row_of, InWorld}
@@ -40,17 +41,25 @@ use Rattle.dg_interp.proofs.Links.{same_take, same_values, behind_same, behind_f
 
 -- ## From world to world
 
-pub adds_nothing : (w : World) → Adds [] w w
-adds_nothing w = record { prints_are = sym (append-nil (prints w.events)); typed = refl }
+pub all_on : {A : Type 0} (xs ys zs : List A) → with_all (with_all xs ys) zs ≡ with_all xs (ys ++ zs)
+all_on xs [] zs = refl
+all_on xs (y ∷ ys) zs = all_on (xs ++ y ∷ []) ys zs
 
-pub adds_on : (w v u : World) (xs ys : List Print) → Adds xs w v → Adds ys v u → Adds (xs ++ ys) w u
+pub all_append : {A : Type 0} (xs ys : List A) → with_all xs ys ≡ xs ++ ys
+all_append xs [] = sym (append-nil xs)
+all_append xs (y ∷ ys) = all_append (xs ++ y ∷ []) ys ∙ append_assoc xs (y ∷ []) ys
+
+pub adds_nothing : (w : World) → Adds [] w w
+adds_nothing w = record { events_are = refl; typed = refl }
+
+pub adds_on : (w v u : World) (xs ys : List Event) → Adds xs w v → Adds ys v u → Adds (xs ++ ys) w u
 adds_on w v u xs ys a b = record {
-  prints_are = b.prints_are ∙ ap (λ l. l ++ ys) a.prints_are ∙ append_assoc (prints w.events) xs ys;
+  events_are = b.events_are ∙ ap (λ l. with_all l ys) a.events_are ∙ all_on w.events xs ys;
   typed = b.typed ∙ a.typed;
 }
 
 pub adds_drops : (w v : World) → Drops w v → Adds [] w v
-adds_drops w v d = record { prints_are = ap (λ (x : World). prints x.events) d.is ∙ sym (append-nil (prints w.events)); typed = ap (λ (x : World). x.typed) d.is }
+adds_drops w v d = record { events_are = ap (λ (x : World). x.events) d.is; typed = ap (λ (x : World). x.typed) d.is }
 
 pub open_still : (out : Lasting) (g : Game) (w : World) → InWorld out g w → length out.gathered.rows ≡ length w.gathered
 open_still out g w is = ap length is.1.0 ∙ length-map w.gathered row_of
@@ -86,33 +95,62 @@ abbrev pub there_in : {p : CoreProgram} {out : Lasting} {s : ListBindings} {rs :
 there_in v is at = record { inside = inside_in v is at.inside; ways = at.ways; ways_are = at.ways_are; registers = at.registers; agrees = at.agrees; tag = at.tag; stop = at.stop }
 
 -- a call is noted
-pub adds_noted : (w : World) (e : Event) → prints (e ∷ []) ≡ [] → Adds [] w (noted e w)
-adds_noted w e h = record { prints_are = prints_append w.events (e ∷ []) ∙ ap (λ l. prints w.events ++ l) h; typed = refl }
+pub adds_noted : (w : World) (e : Event) → Adds (e ∷ []) w (noted e w)
+adds_noted w e = record { events_are = refl; typed = refl }
 
-pub adds_failed : (q : ℕ) (w : World) → Adds [] w (noted (HasFailed q) w)
-adds_failed q w = adds_noted w (HasFailed q) refl
+-- what happens where a choice is tried again
+abbrev pub tried_events : ChoiceKind → List Branch → List Event
+tried_events k [] = []
+tried_events (Rules q) (b ∷ bs) = Retried q ∷ []
+tried_events Plain (b ∷ bs) = []
+tried_events Shield (b ∷ bs) = []
+tried_events Gathers (b ∷ bs) = []
 
--- a choice is tried again
-pub adds_tried : (k : ChoiceKind) (bs : List Branch) (w : World) → Adds [] w (tried_in k bs w)
+pub adds_tried : (k : ChoiceKind) (bs : List Branch) (w : World) → Adds (tried_events k bs) w (tried_in k bs w)
 adds_tried k [] w = adds_nothing w
-adds_tried (Rules q) (b ∷ bs) w = adds_noted w (Retried q) refl
+adds_tried (Rules q) (b ∷ bs) w = adds_noted w (Retried q)
 adds_tried Plain (b ∷ bs) w = adds_nothing w
 adds_tried Shield (b ∷ bs) w = adds_nothing w
 adds_tried Gathers (b ∷ bs) w = adds_nothing w
 
-pub then_on : (xs ys : List Print) (w : World) (P Q : World → Type 0) → Then xs w P → ((v : World) → P v → Then ys v Q) → Then (xs ++ ys) w Q
+pub then_on : (xs ys : List Event) (w : World) (P Q : World → Type 0) → Then xs w P → ((v : World) → P v → Then ys v Q) → Then (xs ++ ys) w Q
 then_on xs ys w P Q a f =
     let b = f a.world a.holds in
     record { world = b.world; adds = adds_on w a.world b.world xs ys a.adds b.adds; holds = b.holds }
 
+events_on : (xs ys : List CallEvent) → events_of (xs ++ ys) ≡ events_of xs ++ events_of ys
+events_on [] ys = refl
+events_on (x ∷ xs) ys = ap (λ l. event_of x ++ l) (events_on xs ys) ∙ sym (append_assoc (event_of x) (events_of xs) (events_of ys))
+
+pub leads_by : (xs ys : List CallEvent) (A B C : Point) → LeadsBy xs A B → LeadsBy ys B C → LeadsBy (xs ++ ys) A C
+leads_by xs ys A B C a b g n w run h =
+    subst (λ l. Then l w (λ v. C g n v run)) (sym (events_on xs ys)) (then_on (events_of xs) (events_of ys) w (λ v. B g n v run) (λ v. C g n v run) (a g n w run h) (λ v k. b g n v run k))
+
+pub leads_then : (ys : List CallEvent) (A B C : Point) → Leads A B → LeadsBy ys B C → LeadsBy ys A C
+leads_then ys A B C a b = leads_by [] ys A B C a b
+
+pub leads_to : (xs : List CallEvent) (A B C : Point) → LeadsBy xs A B → Leads B C → LeadsBy xs A C
+leads_to xs A B C a b = subst (λ cs. LeadsBy cs A C) (append-nil xs) (leads_by xs [] A B C a b)
+
 pub leads_on : (A B C : Point) → Leads A B → Leads B C → Leads A C
-leads_on A B C a b g n w run h = then_on [] [] w (λ v. B g n v run) (λ v. C g n v run) (a g n w run h) (λ v k. b g n v run k)
+leads_on A B C a b = leads_by [] [] A B C a b
 
 pub leads_nowhere : (A : Point) → Leads A A
 leads_nowhere A g n w run h = record { world = w; adds = adds_nothing w; holds = h }
 
-pub limits_here : (e : Engine) → SameLimits e e
-limits_here e = record { heap = refl; trail = refl; aux = refl; keep = refl }
+abbrev pub limits_here : (e : Engine) → Silent e e
+limits_here e = record { heap = refl; trail = refl; aux = refl; keep = refl; told = refl }
+
+-- the limits that stay
+abbrev pub same_limits : {old new : Engine} → Silent old new → SameLimits old new
+same_limits h = record { heap = h.heap; trail = h.trail; aux = h.aux; keep = h.keep }
+
+abbrev pub telling_limits : {old new : Engine} → Tells old new → SameLimits old new
+telling_limits h = record { heap = h.heap; trail = h.trail; aux = h.aux; keep = h.keep }
+
+-- nothing is told
+abbrev pub silent : {old new : Engine} → Silent old new → Tells old new
+silent h = record { heap = h.heap; trail = h.trail; aux = h.aux; keep = h.keep; calls = []; told = h.told }
 
 pub limits_at : (old new : Engine) → SameLimits old new → (area : Area) → limit_in area new ≡ limit_in area old
 limits_at old new same Heap = same.heap
@@ -120,8 +158,28 @@ limits_at old new same Trail = same.trail
 limits_at old new same Aux = same.aux
 limits_at old new same Keep = same.keep
 
-pub limits_on : (a b c : Engine) → SameLimits a b → SameLimits b c → SameLimits a c
-limits_on a b c h k = record { heap = k.heap ∙ h.heap; trail = k.trail ∙ h.trail; aux = k.aux ∙ h.aux; keep = k.keep ∙ h.keep }
+abbrev pub limits_on : (a b c : Engine) → Silent a b → Silent b c → Silent a c
+limits_on a b c h k = record { heap = k.heap ∙ h.heap; trail = k.trail ∙ h.trail; aux = k.aux ∙ h.aux; keep = k.keep ∙ h.keep; told = k.told ∙ h.told }
+
+abbrev pub silent_on : (a b c : Engine) → Silent a b → Tells b c → Tells a c
+silent_on a b c h k = record {
+  heap = k.heap ∙ h.heap;
+  trail = k.trail ∙ h.trail;
+  aux = k.aux ∙ h.aux;
+  keep = k.keep ∙ h.keep;
+  calls = k.calls;
+  told = k.told ∙ ap (λ l. with_all l k.calls) h.told;
+}
+
+abbrev pub tells_on : (a b c : Engine) → Tells a b → Tells b c → Tells a c
+tells_on a b c h k = record {
+  heap = k.heap ∙ h.heap;
+  trail = k.trail ∙ h.trail;
+  aux = k.aux ∙ h.aux;
+  keep = k.keep ∙ h.keep;
+  calls = h.calls ++ k.calls;
+  told = k.told ∙ ap (λ l. with_all l k.calls) h.told ∙ all_on a.told.items h.calls k.calls;
+}
 
 -- ## What a cut leaves
 
@@ -223,7 +281,7 @@ module _ (old : Engine) (ready : IsReady old) (none : old.here.goals.now ≡ [])
     went_on = record {
       ready = off_ready;
       left = refl;
-      limits = record { heap = refl; trail = refl; aux = refl; keep = refl };
+      limits = record { heap = refl; trail = refl; aux = refl; keep = refl; calls = []; told = refl };
       leads = same_place old (marked_off old) refl refl refl refl refl refl (off ∙ sym (steps_done values fs old.here Nothing none is)) (λ g ms cs h. h);
     };
     goals = none;
@@ -232,17 +290,20 @@ module _ (old : Engine) (ready : IsReady old) (none : old.here.goals.now ≡ [])
     fewer = omega arith;
   }
 
-  pub answer_passed : (query : Query) → old.here.mark ≡ AnswerOf query → query.many ≡ true → MarkPassed old (marked_off old)
-  answer_passed query is many = record {
+  pub answer_passed : (query : Query) (told : Vec CallEvent Global) → old.here.mark ≡ AnswerOf query → query.many ≡ true → told.items ≡ old.told.items ++ call.Answered query.pred ∷ [] → MarkPassed old (record (marked_off old) { told = told })
+  answer_passed query told is many tells = record {
     went_on = record {
-      ready = off_ready;
+      ready = record {
+        sound = record { base = ready.sound.base; room = ready.sound.room; picks = ready.sound.picks };
+        here = record { runnable = ready.here.runnable; older = ready.here.older; env = ready.here.env };
+      };
       left = refl;
-      limits = record { heap = refl; trail = refl; aux = refl; keep = refl };
+      limits = record { heap = refl; trail = refl; aux = refl; keep = refl; calls = call.Answered query.pred ∷ []; told = tells };
       leads = λ g n w run st.
           let was : steps_of old ≡ Answers query.pred ∷ rest = steps_done values fs old.here (AnswerOf query) none is ∙ ap (λ m. Answers query.pred ∷ first_alone m old.here.tag rest) many in
           record {
             world = noted (Answered query.pred) w;
-            adds = adds_noted w (Answered query.pred) refl;
+            adds = adds_noted w (Answered query.pred);
             holds = record {
               at = there_in _ st.at.inside.world st.at;
               stands = subst (λ s. Stands g st.at.inside.lives st.at.ways (path_of s st.at.registers) n (noted (Answered query.pred) w) run) (sym off)
@@ -261,7 +322,7 @@ module _ (old : Engine) (ready : IsReady old) (none : old.here.goals.now ≡ [])
     wrong = record {
       sound = off_ready.sound;
       left = refl;
-      limits = record { heap = refl; trail = refl; aux = refl; keep = refl };
+      limits = record { heap = refl; trail = refl; aux = refl; keep = refl; calls = []; told = refl };
       leads = λ g n w run st. record {
         world = w;
         adds = adds_nothing w;
@@ -294,15 +355,15 @@ module _ (old : Engine) (ready : IsReady old) (none : old.here.goals.now ≡ [])
     wrong = record {
       sound = h.sound;
       left = h.left;
-      limits = record { heap = h.limits.heap; trail = h.limits.trail; aux = h.limits.aux; keep = h.limits.keep };
-      leads = leads_on (StandsAt old) (KeepsAt (marked_off old)) (FailsAt new) (keep_leads t is) h.leads;
+      limits = record { heap = h.limits.heap; trail = h.limits.trail; aux = h.limits.aux; keep = h.limits.keep; calls = h.limits.calls; told = h.limits.told };
+      leads = leads_then h.limits.calls (StandsAt old) (KeepsAt (marked_off old)) (FailsAt new) (keep_leads t is) h.leads;
     };
     fewer = less;
   }
 
-  module _ (t : ℕ) (choices : Vec Choice Global) (part : Option ℕ) (cuts : Cuts t old.choices.items choices.items) where
+  module _ (t : ℕ) (choices : Vec Choice Global) (part : Option ℕ) (told : Vec CallEvent Global) (cuts : Cuts t old.choices.items choices.items) where
     abbrev new : Engine
-    new = record (marked_off old) { choices = choices; stoppable = part }
+    new = record (marked_off old) { choices = choices; stoppable = part; told = told }
 
     cut_ready : IsReady new
     cut_ready = record {
@@ -330,11 +391,11 @@ module _ (old : Engine) (ready : IsReady old) (none : old.here.goals.now ≡ [])
       stands = subst (λ s. Stands g (cut_to t at.inside.lives) at.ways (path_of s r) n v run) (sym off) stands;
     }
 
-    cut_passes : ((g : Game) (n : ℕ) (w : World) (run : Run) → StandsAt old g n w run → Then [] w (λ v. StandsAt new g n v run)) → MarkPassed old new
-    cut_passes leads = record { went_on = record { ready = cut_ready; left = refl; limits = record { heap = refl; trail = refl; aux = refl; keep = refl }; leads = leads }; goals = none; mark = refl; behind = refl; fewer = cut_less }
+    cut_passes : (calls : List CallEvent) → told.items ≡ with_all old.told.items calls → LeadsBy calls (StandsAt old) (StandsAt new) → MarkPassed old new
+    cut_passes calls is leads = record { went_on = record { ready = cut_ready; left = refl; limits = record { heap = refl; trail = refl; aux = refl; keep = refl; calls = calls; told = is }; leads = leads }; goals = none; mark = refl; behind = refl; fewer = cut_less }
 
-    pub part_left : old.here.mark ≡ LeavePart t part → MarkPassed old new
-    part_left is = cut_passes
+    pub part_left : told ≡ old.told → old.here.mark ≡ LeavePart t part → MarkPassed old new
+    part_left same is = cut_passes [] (ap (λ (l : Vec CallEvent Global). l.items) same)
         (λ g n w run st.
         let r = st.at.registers in
         let a = st.at.agrees in
@@ -345,12 +406,12 @@ module _ (old : Engine) (ready : IsReady old) (none : old.here.goals.now ≡ [])
               (passes_leave g st.at.inside.lives st.at.ways t part rest r n w run (subst (λ s. Stands g st.at.inside.lives st.at.ways (path_of s r) n w run) (steps_done values fs old.here (LeavePart t part) none is) st.stands));
         })
 
-    pub refused : old.here.mark ≡ RefuseTo t → Refused old new
-    refused is = record {
+    pub refused : told ≡ old.told → old.here.mark ≡ RefuseTo t → Refused old new
+    refused same is = record {
       wrong = record {
         sound = cut_ready.sound;
         left = refl;
-        limits = record { heap = refl; trail = refl; aux = refl; keep = refl };
+        limits = record { heap = refl; trail = refl; aux = refl; keep = refl; calls = []; told = ap (λ (l : Vec CallEvent Global). l.items) same };
         leads = λ g n w run st. record {
           world = w;
           adds = adds_nothing w;
@@ -364,25 +425,26 @@ module _ (old : Engine) (ready : IsReady old) (none : old.here.goals.now ≡ [])
     }
 
   pub tag_passed : (t : ℕ) (choices : Vec Choice Global) → Cuts t old.choices.items choices.items → old.here.mark ≡ CutTo t → MarkPassed old (record (marked_off old) { choices = choices })
-  tag_passed t choices cuts is = cut_passes t choices old.stoppable cuts
+  tag_passed t choices cuts is = cut_passes t choices old.stoppable old.told cuts [] refl
       (λ g n w run st. record {
         world = w;
         adds = adds_nothing w;
-        holds = cut_at t choices old.stoppable cuts g n w w run st.at.inside.world st.at st.at.registers st.at.agrees st.at.tag st.at.stop
+        holds = cut_at t choices old.stoppable old.told cuts g n w w run st.at.inside.world st.at st.at.registers st.at.agrees st.at.tag st.at.stop
             (passes_cut g st.at.inside.lives st.at.ways t rest st.at.registers n w run (subst (λ s. Stands g st.at.inside.lives st.at.ways (path_of s st.at.registers) n w run) (steps_done values fs old.here (CutTo t) none is) st.stands));
       })
 
-  pub cut_passed : (query : Query) (choices : Vec Choice Global) → old.here.mark ≡ AnswerOf query → query.many ≡ false → Cuts old.here.tag old.choices.items choices.items → MarkPassed old (record (marked_off old) { choices = choices })
-  cut_passed query choices is many cuts =
+  pub cut_passed : (query : Query) (choices : Vec Choice Global) (told : Vec CallEvent Global) → old.here.mark ≡ AnswerOf query → query.many ≡ false → Cuts old.here.tag old.choices.items choices.items → told.items ≡ old.told.items ++ call.Answered query.pred ∷ [] →
+      MarkPassed old (record (marked_off old) { choices = choices; told = told })
+  cut_passed query choices told is many cuts tells =
       let t = old.here.tag in
-      cut_passes t choices old.stoppable cuts
+      cut_passes t choices old.stoppable told cuts (call.Answered query.pred ∷ []) tells
       (λ g n w run st.
       let was : steps_of old ≡ Answers query.pred ∷ Cut t ∷ rest = steps_done values fs old.here (AnswerOf query) none is ∙ ap (λ m. Answers query.pred ∷ first_alone m t rest) many in
       let v = noted (Answered query.pred) w in
       record {
         world = v;
-        adds = adds_noted w (Answered query.pred) refl;
-        holds = cut_at t choices old.stoppable cuts g n w v run st.at.inside.world st.at st.at.registers st.at.agrees st.at.tag st.at.stop
+        adds = adds_noted w (Answered query.pred);
+        holds = cut_at t choices old.stoppable told cuts g n w v run st.at.inside.world st.at st.at.registers st.at.agrees st.at.tag st.at.stop
             (passes_cut g st.at.inside.lives st.at.ways t rest st.at.registers n v run
             (passes_answer g st.at.inside.lives st.at.ways query.pred (Cut t ∷ rest) st.at.registers n w run (subst (λ s. Stands g st.at.inside.lives st.at.ways (path_of s st.at.registers) n w run) was st.stands)));
       })
@@ -454,7 +516,7 @@ module _ (old : Engine) (frames : Vec Frame Global) (f : Frame) (needed : ℕ) (
         here = record { runnable = frame.runnable; older = subst (λ (l : List Frame). f.behind ≤ length l) (sym kept) (omega (arith, need, count)); env = frame.env };
       };
       left = refl;
-      limits = record { heap = refl; trail = refl; aux = refl; keep = refl };
+      limits = record { heap = refl; trail = refl; aux = refl; keep = refl; calls = []; told = refl };
       leads = same_place old left_at refl refl refl refl refl refl same choices_kept;
     };
     older = omega (arith, frame.older);
@@ -464,31 +526,31 @@ module _ (old : Engine) (frames : Vec Frame Global) (f : Frame) (needed : ℕ) (
 -- ## On and on
 
 pub went_nowhere : (e : Engine) → IsReady e → WentOn (StandsAt e) e e
-went_nowhere e ready = record { ready = ready; left = refl; limits = limits_here e; leads = leads_nowhere (StandsAt e) }
+went_nowhere e ready = record { ready = ready; left = refl; limits = silent (limits_here e); leads = leads_nowhere (StandsAt e) }
 
 pub went_further : (From : Point) (a b c : Engine) → WentOn From a b → WentOn (StandsAt b) b c → WentOn From a c
 went_further From a b c h k = record {
   ready = k.ready;
   left = k.left ∙ h.left;
-  limits = limits_on a b c h.limits k.limits;
-  leads = leads_on From (StandsAt b) (StandsAt c) h.leads k.leads;
+  limits = tells_on a b c h.limits k.limits;
+  leads = leads_by h.limits.calls k.limits.calls From (StandsAt b) (StandsAt c) h.leads k.leads;
 }
 
 pub went_wrong : (From : Point) (a b c : Engine) → WentOn From a b → WentWrong (StandsAt b) b c → WentWrong From a c
 went_wrong From a b c h k = record {
   sound = k.sound;
   left = k.left ∙ h.left;
-  limits = limits_on a b c h.limits k.limits;
-  leads = leads_on From (StandsAt b) (FailsAt c) h.leads k.leads;
+  limits = tells_on a b c h.limits k.limits;
+  leads = leads_by h.limits.calls k.limits.calls From (StandsAt b) (FailsAt c) h.leads k.leads;
 }
 
 -- no frame is behind
 pub all_done : (From : Point) (old e : Engine) → WentOn From old e → e.here.goals.now ≡ [] → e.here.mark ≡ Nothing → e.here.behind ≡ 0 → HasEndedSo From (End Done) old e
 all_done From old e h none off end = record {
   left = h.left;
-  ends = λ g n w run st.
-      then_on [] [] w (λ v. StandsAt e g n v run) (λ v. Finished n v (End Done) run) (h.leads g n w run st)
-      (λ v k.
+  limits = h.limits;
+  ends = leads_to h.limits.calls From (StandsAt e) (λ g n v run. Finished n v (End Done) run) h.leads
+      (λ g n v run k.
       let values = values_in (store_in e.store) e.refs.items in
       let steps : steps_of e ≡ [] = steps_done values e.frames.items e.here Nothing none off ∙ ap (steps_behind values e.frames.items) end ∙ behind_end values e.frames.items in
       let stands = subst (λ s. Stands g k.at.inside.lives k.at.ways (path_of s k.at.registers) n v run) steps k.stands in

@@ -2,7 +2,6 @@
 use Rattle.std.proofs.Common.{◌≡◌, ℕ, zero, suc, ◌+◌, ◌-◌, ◌^◌, ◌<◌, ◌≤◌, List, [], ◌∷◌, ◌++◌, Bool, true, false, Option, None, Some, refl, sym, ap, ◌∙◌, subst, arith, length, length-append, map, take, Bor}
 use Rattle.std.specs.Prelude.{slice_get, reverse}
 use Rattle.std.specs.List.{All, zip}
-use Rattle.std.proofs.lemmas.List.{append-nil}
 use Rattle.std.specs.declared.vec.Vec.{Vec}
 use Rattle.std.specs.declared.alloc.Global.{Global}
 use Rattle.dg_base.specs.declared.program.Goal.{Goal, out-Goal}
@@ -17,7 +16,7 @@ use Rattle.dg_meaning.specs.Copies.{values_of}
 use Rattle.dg_meaning.specs.Substitutions.{walk}
 use Rattle.dg_meaning.specs.inside.Substitutions.{IsSubstitution, Extends}
 use Rattle.dg_meaning.specs.Unify.{Unified, solve}
-use Rattle.dg_meaning.specs.World.{Game, World, prints, worked}
+use Rattle.dg_meaning.specs.World.{Game, World, worked}
 use Rattle.dg_meaning.specs.Cells.{node_cells, cells, writing}
 use Rattle.dg_meaning.specs.Path.{Step, Registers, Outcome, Acts, Fails, Offers, Plain}
 use Rattle.dg_meaning.specs.Moves.{begun, path_of, enter_if, looked_up, outcome, outcome_of, ask_body, ask_closure, closure_vars, closure_head, closure_steps, closure_branch, head_equations, entered_with, matched, entering_with, older_bound, new_vars, goals_at, first_alone}
@@ -38,7 +37,7 @@ use Rattle.dg_interp.specs.declared.engine.Engine.{Engine}
 use Rattle.dg_interp.specs.inside.Bodies.{IsBody, HasNoBody, parameters, matched_body, EntersBody, BodyFull}
 use Rattle.dg_interp.specs.inside.Frames.{stretch, values_in, frame_steps, mark_steps, steps_behind, AreChoices, AreFrames, StandOn, GoBackTo}
 use Rattle.dg_terms.specs.Terms.{Overflows, BothMade}
-use Rattle.dg_interp.specs.inside.Engine.{store_in, KeepsPlaces, Point, IsSound, IsReady, TakesAt, FailsAt, FullAt, Adds, Leads, SameLimits, WentOn, steps_of}
+use Rattle.dg_interp.specs.inside.Engine.{store_in, KeepsPlaces, Point, IsSound, IsReady, TakesAt, FailsAt, FullAt, Adds, Leads, Silent, WentOn, steps_of}
 use Rattle.dg_interp.specs.inside.Querying.{QueriesAt, mark_of}
 use Rattle.dg_interp.proofs.Begins.{began_peaks}
 use Rattle.dg_interp.proofs.Links.{SameBy, same_here, same_append, behind_new, at_same, frame_raise, frames_append, choices_same, stand_raise, stand_same}
@@ -278,8 +277,8 @@ module _ (value : Ref) (many : Bool) (old : Engine) (ready : IsReady old) where
       abbrev pub entering : Engine
       entering = record old { store = store2; refs = refs2 }
 
-      pub entering_limits : SameLimits old entering
-      entering_limits = record { heap = k2.heap_limit; trail = k2.trail_limit; aux = refl; keep = refl }
+      pub entering_limits : Silent old entering
+      entering_limits = record { heap = k2.heap_limit; trail = k2.trail_limit; aux = refl; keep = refl; told = refl }
 
       back_now : GoBackTo ys s2.heap_limit s2.trail_limit os ready.sound.base.places.saved
       back_now = grown_back old store2 refs2 made ready k2 saved2 enters.appended.is enters.appended.hold
@@ -291,7 +290,7 @@ module _ (value : Ref) (many : Bool) (old : Engine) (ready : IsReady old) where
       choices_now g ms cs h = grown_choices old store2 refs2 made ready k2 saved2 enters.appended.is enters.appended.hold g ms cs h
 
       adds_begun : (r : Registers) (work : ℕ) (w : World) → Adds [] w (begun r work w)
-      adds_begun r work w = record { prints_are = sym (append-nil (prints w.events)); typed = refl }
+      adds_begun r work w = record { events_are = refl; typed = refl }
 
       -- the argument isn't the parameter's
       pub enters_not : found ≡ false → Leads from (FailsAt entering)
@@ -379,7 +378,7 @@ module _ (value : Ref) (many : Bool) (old : Engine) (ready : IsReady old) where
             };
           };
           left = refl;
-          limits = record { heap = k2.heap_limit; trail = k2.trail_limit; aux = refl; keep = refl };
+          limits = record { heap = k2.heap_limit; trail = k2.trail_limit; aux = refl; keep = refl; calls = []; told = refl };
           leads = λ g n w run st.
               let r = st.at.registers in
               let met : (u_of g r).agrees ≡ true = sym (body_found g parts body args s r st.at.agrees sub s2 xs ys found enters) ∙ agreed in
@@ -445,7 +444,7 @@ module _ (a : Term) (b : Option Term) (many : Bool) (old : Engine) (store : List
       let on : List Step → Value → List Value → Outcome = λ steps u us. outcome_of steps r (ask_closure g (walk r.bound u) us many steps r t) in
       record {
         world = t;
-        adds = record { prints_are = all.prints_are; typed = refl };
+        adds = record { events_are = all.events_are; typed = refl };
         holds = record {
           at = record {
             inside = inside_kept _ _ saved st.at.inside.world st.at.inside;

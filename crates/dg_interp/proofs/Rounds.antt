@@ -17,8 +17,11 @@ use Rattle.dg_lasting.specs.declared.lack.Lack.{Lack}
 use Rattle.dg_lasting.specs.Lacks.{area_of}
 use Rattle.dg_spacing.specs.declared.spacer.Spacer.{Spacer}
 use Rattle.dg_interp.specs.declared.engine.Engine.{Engine}
+use Rattle.dg_watch.specs.declared.watch.CallEvent.{CallEvent}
+use Rattle.std.specs.declared.vec.Vec.{Vec}
+use Rattle.std.specs.declared.alloc.Global.{Global}
 use Rattle.dg_base.specs.Written.{SinkView}
-use Rattle.dg_interp.specs.inside.Engine.{PassesLimit, limit_in, IsReady, StandsAt, LacksIn, LackAt, HasEndedSo, AtGoal, GoesToGoal}
+use Rattle.dg_interp.specs.inside.Engine.{PassesLimit, limit_in, IsReady, StandsAt, LacksIn, LackAt, HasEndedSo, AtGoal, GoesToGoal, Forgets}
 use Rattle.dg_base.specs.Streams.{SourceView}
 use Rattle.dg_meaning.specs.Shows.{IsLeft}
 use Rattle.std.proofs.lemmas.List.{append-nil, append_cancel_left}
@@ -26,8 +29,8 @@ use Rattle.dg_meaning.specs.World.{Print}
 use Rattle.dg_meaning.specs.Engines.{told_behind, left_told}
 use Rattle.dg_meaning.proofs.Engines.{as_told}
 use Rattle.dg_interp.specs.inside.Running.{Gave, Awaits, Stretch, HasText, Reaches, GoesOn, HasEnded, MeetsLimit, Ended, HasPart, IsLimited, TakesMore, LosesInput, LosesOutput, Broken, GoalDone, Does, ending_at, limit_of}
-use Rattle.dg_interp.proofs.Places.{limits_at, adds_nothing, limits_on, limits_here}
-use Rattle.dg_interp.proofs.Runs.{gave_nothing, gave_on, stretched, ended_at, writes_nothing, writes_on, finished_so, no_more}
+use Rattle.dg_interp.proofs.Places.{limits_at, adds_nothing, telling_limits}
+use Rattle.dg_interp.proofs.Runs.{same_on, same_here, called, gave_nothing, gave_on, stretched, ended_at, writes_nothing, writes_on, finished_so, no_more}
 
 -- ## From stretch to stretch
 
@@ -67,7 +70,7 @@ module _ (old mid new : Engine) (s s' : Spacer) (k k' : SinkView) (i i' : Source
     record {
       ready = a.went_on.ready;
       goal = a.goal;
-      limits = limits_on old mid new h.limits a.went_on.limits;
+      limits = same_on old mid new h.limits (telling_limits a.went_on.limits);
       goals = 1;
       left = omega (arith, h.left, a.went_on.left);
       added = h.added ++ [];
@@ -77,7 +80,7 @@ module _ (old mid new : Engine) (s s' : Spacer) (k k' : SinkView) (i i' : Source
           let one : 1 + n ≡ suc n = omega arith in
           subst (λ l. Stretch (h.added ++ []) l w (λ v. StandsAt new g n v run)) (append-nil h.taken)
           (stretch_on h.added [] h.taken [] w (λ v. StandsAt mid g n v run) (λ v. StandsAt new g n v run) (h.leads g n w run awaits (subst (λ i. StandsAt old g i w run) one st))
-          (λ v e at. stretched [] v (λ u. StandsAt new g n u run) (a.went_on.leads g n v run at)));
+          (λ v e at. called a.went_on.limits.calls v (λ u. StandsAt new g n u run) (a.went_on.leads g n v run at)));
       writes = writes_on s s' s' k k' k' h.added [] h.writes (writes_nothing s' k');
     },
     h.left ∙ ap suc (sym a.went_on.left),
@@ -98,7 +101,7 @@ module _ (old mid new : Engine) (s s' : Spacer) (k k' : SinkView) (i i' : Source
   next_ended result e is a =
       behind_goal (HasEnded e new.left s' k' (left_told i i'))
       (λ g w v run start taken left st text.
-      let x = finished_so result e mid.left new.left s' k' (left_told i i') v run start (as_told i i' v.typed left) text (sym a.left) is (a.ends g mid.left v run st) in
+      let x = finished_so result e mid.left new.left s' k' (left_told i i') v run start (as_told i i' v.typed left) text (sym a.left) is a.limits.calls (a.ends g mid.left v run st) in
       record { world = x.world; typed = x.typed; is = x.is; text = x.text })
 
   pub next_ok : (ending : Option Ending) → GoesToGoal (StandsAt mid) ending mid new → Does ending old new s s' k k' i i'
@@ -139,13 +142,46 @@ module _ (old mid new : Engine) (s s' : Spacer) (k k' : SinkView) (i i' : Source
     here None = next_lost
     here (Some area) = tt
 
+-- ## What was told is forgotten
+
+forgotten_stands : (told : Vec CallEvent Global) (e : Engine) (g : Game) (n : ℕ) (w : World) (run : Run) → StandsAt e g n w run → StandsAt (record e { told = told }) g n w run
+forgotten_stands told e g n w run st = record { at = st.at; stands = st.stands }
+
+module _ (old mid : Engine) (s s' : Spacer) (k k' : SinkView) (i i' : SourceView) (told : Vec CallEvent Global) where
+  forgotten_does : (ending : Option Ending) → Does ending old mid s s' k k' i i' → Does ending old (record mid { told = told }) s s' k k' i i'
+  forgotten_does None (h, one) = (
+    record {
+      ready = record { sound = record { base = h.ready.sound.base; room = h.ready.sound.room; picks = h.ready.sound.picks }; here = h.ready.here };
+      goal = h.goal;
+      limits = record { heap = h.limits.heap; trail = h.limits.trail; aux = h.limits.aux; keep = h.limits.keep };
+      goals = h.goals;
+      left = h.left;
+      added = h.added;
+      taken = h.taken;
+      gave = h.gave;
+      leads = λ g n w run a st.
+          let t = h.leads g n w run a st in
+          record { world = t.world; prints_are = t.prints_are; typed = t.typed; holds = forgotten_stands told mid g n t.world run t.holds };
+      writes = h.writes;
+    },
+    one,
+  )
+  forgotten_does (Some HeapLimit) h = h
+  forgotten_does (Some TrailLimit) h = h
+  forgotten_does (Some AuxLimit) h = h
+  forgotten_does (Some KeepLimit) h = h
+  forgotten_does (Some _) h = h
+
+  pub forgets_does : (new : Engine) → Forgets mid new → new.told ≡ told → (ending : Option Ending) → Does ending old mid s s' k k' i i' → Does ending old new s s' k k' i i'
+  forgets_does new f is ending h = subst (λ e. Does ending old e s s' k k' i i') (sym (f.same ∙ ap (λ t. record mid { told = t }) is)) (forgotten_does ending h)
+
 -- ## On and on
 
 pub goes_nowhere : (e : Engine) (s : Spacer) (k : SinkView) (i : SourceView) → IsReady e → 0 < length e.here.goals.now → GoesOn e e s s k k i i
 goes_nowhere e s k i ready goal = record {
   ready = ready;
   goal = goal;
-  limits = limits_here e;
+  limits = same_here e;
   goals = 0;
   left = omega arith;
   added = [];
@@ -178,7 +214,7 @@ module _ (a b : Engine) (s s' s'' : Spacer) (k k' k'' : SinkView) (i i' i'' : So
   goes_further c j = record {
     ready = j.ready;
     goal = j.goal;
-    limits = limits_on a b c h.limits j.limits;
+    limits = same_on a b c h.limits j.limits;
     goals = h.goals + j.goals;
     left = omega (arith, h.left, j.left);
     added = h.added ++ j.added;

@@ -1,5 +1,5 @@
 -- How goals add up to a run.
-use Rattle.std.proofs.Common.{◌≡◌, ℕ, suc, ◌<◌, List, [], ◌∷◌, ◌++◌, Bool, true, false, Option, Some, None, refl, sym, ap, ◌∙◌, subst, arith, length, append_assoc, Ok, Err}
+use Rattle.std.proofs.Common.{◌≡◌, ℕ, suc, ◌<◌, map, List, [], ◌∷◌, ◌++◌, Bool, true, false, Option, Some, None, refl, sym, ap, ◌∙◌, subst, arith, length, append_assoc, Ok, Err}
 use Rattle.std.specs.Prelude.{Result, IfOk, IfErr}
 use Rattle.std.proofs.lemmas.List.{append-nil, append_cancel_left}
 use Rattle.dg_base.specs.declared.program.Goal.{Goal, out-Goal}
@@ -11,7 +11,7 @@ use Rattle.dg_base.specs.declared.program.Term.{Term}
 use Rattle.dg_base.specs.declared.run.Ending.{Ending}
 use Rattle.dg_base.specs.declared.run.Ending.TheVariants.{Failed, StepLimit, Stopped, Quit as Quit-Ending}
 use Rattle.dg_base.specs.declared.run.RunFault.{RunFault}
-use Rattle.dg_meaning.specs.World.{Game, World, Event, Print, Piece, GapOf, prints}
+use Rattle.dg_meaning.specs.World.{Game, World, Event, Print, Piece, GapOf, Prints, prints}
 use Rattle.dg_meaning.specs.Path.{Result as SearchResult, Failing, End}
 use Rattle.dg_meaning.specs.Moves.{path_of, goals_at}
 use Rattle.dg_meaning.specs.Render.{nothing_met, met_from, render, render_from, growth}
@@ -27,6 +27,8 @@ use Rattle.dg_unify.specs.declared.bindings.Full.{Full}
 use Rattle.dg_unify.specs.declared.bindings.Full.TheVariants as full
 use Rattle.dg_spacing.specs.declared.spacer.Spacer.{Spacer}
 use Rattle.dg_interp.specs.declared.engine.Engine.{Engine}
+use Rattle.dg_watch.specs.declared.watch.CallEvent.{CallEvent}
+use Rattle.dg_watch.specs.declared.watch.CallEvent.TheVariants as call
 use Rattle.dg_base.specs.Written.{SinkView, Wrote, BrokeOff}
 use Rattle.dg_spacing.specs.Spacer.{StandsFor}
 use Rattle.dg_texts.proofs.Texts.{render_append, render_grows}
@@ -34,14 +36,14 @@ use Rattle.dg_texts.specs.Printing.{Added, as_prints, growth_of, AddsAll}
 use Rattle.dg_interp.specs.inside.Frames.{mark_steps, steps_behind, values_in}
 use Rattle.dg_lasting.specs.declared.lack.Lack.{Lack}
 use Rattle.dg_lasting.specs.Lacks.{lack_of, area_of, as_stored}
-use Rattle.dg_interp.specs.inside.Engine.{store_in, limit_in, Point, LacksIn, LackAt, PassesLimit, IsAct, pieces_at, WrotePrinted, StandsAt, TakesAt, Then, FullAt, Taken, WentOn, HasEndedSo, Branches, Stops}
+use Rattle.dg_interp.specs.inside.Engine.{store_in, limit_in, Point, LacksIn, LackAt, PassesLimit, IsAct, pieces_at, WrotePrinted, StandsAt, TakesAt, events_of, Adds, SameLimits, Then, FullAt, Taken, WentOn, HasEndedSo, Branches, Stops}
 use Rattle.dg_base.specs.Streams.{SourceView}
 use Rattle.dg_meaning.specs.Shows.{IsLeft}
 use Rattle.dg_meaning.specs.Engines.{left_told}
 use Rattle.dg_meaning.proofs.Engines.{as_told}
 use Rattle.dg_interp.specs.inside.Running.{HasText, Writes, Gave, Awaits, Stretch, Reaches, HasEnded, IsNoFurther, MeetsLimit, Ended, HasPart, LosesOutput, Broken, GoalDone, DoesGoal, ending_at, over, outcome_of}
 use Rattle.dg_base.proofs.WrittenLemmas.{wrote_on, broke_first, broke_later}
-use Rattle.dg_interp.proofs.Places.{limits_at, adds_nothing, adds_on, adds_drops, limits_on}
+use Rattle.dg_interp.proofs.Places.{limits_at, adds_nothing, adds_on, adds_drops, all_append, same_limits, telling_limits}
 use Rattle.dg_interp.proofs.Goals.{prints_word, prints_gap, quits}
 
 -- ## Text
@@ -84,9 +86,33 @@ gave_on a b c ended xs ys h k = record {
 pub left_here : (i : SourceView) (w : World) → Awaits i false [] w → IsLeft i.left w.typed
 left_here i w a = subst (IsLeft i.left) (sym a.typed) a.left
 
+-- what was printed where these things happened
+pub adds_prints : (es : List Event) (w v : World) → Adds es w v → prints v.events ≡ prints w.events ++ prints es
+adds_prints es w v a = ap prints (a.events_are ∙ all_append w.events es) ∙ prints_append w.events es
+
+pub calls_print_nothing : (cs : List CallEvent) → prints (events_of cs) ≡ []
+calls_print_nothing [] = refl
+calls_print_nothing (call.Asked pred ∷ cs) = calls_print_nothing cs
+calls_print_nothing (call.Answered pred ∷ cs) = calls_print_nothing cs
+calls_print_nothing (call.Retried pred ∷ cs) = calls_print_nothing cs
+calls_print_nothing (call.Failed pred ∷ cs) = calls_print_nothing cs
+calls_print_nothing (call.Printed ∷ cs) = calls_print_nothing cs
+
 -- a stretch that reads nothing
-pub stretched : (es : List Print) (w : World) (P : World → Type 0) → Then es w P → Stretch es [] w P
-stretched es w P t = record { world = t.world; prints_are = t.adds.prints_are; typed = sym t.adds.typed; holds = t.holds }
+pub stretched : (es : List Event) (w : World) (P : World → Type 0) → Then es w P → Stretch (prints es) [] w P
+stretched es w P t = record { world = t.world; prints_are = adds_prints es w t.world t.adds; typed = sym t.adds.typed; holds = t.holds }
+
+-- a stretch of calls
+pub called : (cs : List CallEvent) (w : World) (P : World → Type 0) → Then (events_of cs) w P → Stretch [] [] w P
+called cs w P t = subst (λ l. Stretch l [] w P) (calls_print_nothing cs) (stretched (events_of cs) w P t)
+
+-- ## Limits
+
+pub same_on : (a b c : Engine) → SameLimits a b → SameLimits b c → SameLimits a c
+same_on a b c h k = record { heap = k.heap ∙ h.heap; trail = k.trail ∙ h.trail; aux = k.aux ∙ h.aux; keep = k.keep ∙ h.keep }
+
+pub same_here : (e : Engine) → SameLimits e e
+same_here e = record { heap = refl; trail = refl; aux = refl; keep = refl }
 
 pub reads_nothing : (e : Engine) (s : Spacer) (k : SinkView) (i : SourceView) (P : World → Run → SinkView → Type 0) → ((g : Game) (w : World) (run : Run) (start : SinkView) → IsLeft i.left w.typed → StandsAt e g e.left w run → HasText s start k (prints w.events) → P w run start) → Reaches e s k i i P
 reads_nothing e s k i P f = record {
@@ -98,15 +124,17 @@ reads_nothing e s k i P f = record {
 
 -- ## Endings
 
-pub finished_so : (r : SearchResult) (e : Ending) (n m : ℕ) (s : Spacer) (k : SinkView) (i : Option (List ℕ)) (w : World) (run : Run) (start : SinkView) → IsLeft i w.typed → HasText s start k (prints w.events) → n ≡ m → e ≡ ending_of r → Then [] w (λ v. Finished n v r run) → HasEnded e m s k i w run start
-finished_so r e n m s k i w run start left text same is t =
+pub finished_so : (r : SearchResult) (e : Ending) (n m : ℕ) (s : Spacer) (k : SinkView) (i : Option (List ℕ)) (w : World) (run : Run) (start : SinkView) → IsLeft i w.typed → HasText s start k (prints w.events) → n ≡ m → e ≡ ending_of r → (cs : List CallEvent) → Then (events_of cs) w (λ v. Finished n v r run) →
+    HasEnded e m s k i w run start
+finished_so r e n m s k i w run start left text same is cs t =
     let f = t.holds in
-    let adds = adds_on w t.world f.world [] [] t.adds (adds_drops t.world f.world f.drops) in
+    let adds = adds_on w t.world f.world (events_of cs) [] t.adds (adds_drops t.world f.world f.drops) in
+    let printed = adds_prints (events_of cs ++ []) w f.world adds ∙ ap (λ l. prints w.events ++ l) (ap prints (append-nil (events_of cs)) ∙ calls_print_nothing cs) in
     record {
       world = f.world;
       typed = subst (IsLeft i) (sym adds.typed) left;
       is = f.is ∙ ap (λ x. record { left = n; world = f.world; ending = x }) (sym is) ∙ ap (λ i. record { left = i; world = f.world; ending = e }) same;
-      text = text_same s start k (prints w.events) (prints f.world.events) adds.prints_are text;
+      text = text_same s start k (prints w.events) (prints f.world.events) printed text;
     }
 
 -- a goal at hand where no goal is left
@@ -134,7 +162,7 @@ pub run_limited : (e : Engine) (s : Spacer) (k : SinkView) (i : SourceView) → 
 run_limited e s k i some none =
     reads_nothing e s k i (HasEnded StepLimit e.left s k (left_told i i))
     (λ g w run start left st text.
-    finished_so (End StepLimit) StepLimit 0 e.left s k (left_told i i) w run start (as_told i i w.typed left) text (sym none) refl (record { world = w; adds = adds_nothing w; holds = limited_at e g w run some (subst (λ n. StandsAt e g n w run) none st) }))
+    finished_so (End StepLimit) StepLimit 0 e.left s k (left_told i i) w run start (as_told i i w.typed left) text (sym none) refl [] (record { world = w; adds = adds_nothing w; holds = limited_at e g w run some (subst (λ n. StandsAt e g n w run) none st) }))
 
 -- ## Limits
 
@@ -181,18 +209,18 @@ module _ (x : Goal) (old mid : Engine) (s : Spacer) (k : SinkView) (i : SourceVi
   pub goal_done : (new : Engine) → WentOn (TakesAt x mid) mid new → GoalDone old new s s k k i i
   goal_done new h = record {
     ready = h.ready;
-    limits = limits_on old mid new taken.limits h.limits;
+    limits = same_on old mid new (same_limits taken.limits) (telling_limits h.limits);
     left = taken.left ∙ ap suc (sym h.left);
     added = [];
     taken = [];
     gave = gave_nothing i;
-    leads = λ g n w run a st. stretched [] w (λ v. StandsAt new g n v run) (h.leads g n w run (taken.takes g n w run st));
+    leads = λ g n w run a st. called h.limits.calls w (λ v. StandsAt new g n v run) (h.leads g n w run (taken.takes g n w run st));
     writes = writes_nothing s k;
   }
 
   pub goal_ended : (new : Engine) (result : SearchResult) (e : Ending) → e ≡ ending_of result → HasEndedSo (TakesAt x mid) result mid new → Reaches old s k i i (HasEnded e new.left s k (left_told i i))
   goal_ended new result e is h =
-      reads_nothing old s k i (HasEnded e new.left s k (left_told i i)) (λ g w run start left st text. finished_so result e mid.left new.left s k (left_told i i) w run start (as_told i i w.typed left) text (sym h.left) is (h.ends g mid.left w run (takes_here g w run st)))
+      reads_nothing old s k i (HasEnded e new.left s k (left_told i i)) (λ g w run start left st text. finished_so result e mid.left new.left s k (left_told i i) w run start (as_told i i w.typed left) text (sym h.left) is h.limits.calls (h.ends g mid.left w run (takes_here g w run st)))
 
   -- memory ran out before anything was written
   pub goal_lost : Reaches old s k i i (HasPart s k i.left)
@@ -208,7 +236,7 @@ module _ (x : Goal) (old mid : Engine) (s : Spacer) (k : SinkView) (i : SourceVi
     added = [];
     taken = [];
     gave = gave_nothing i;
-    passed = λ g w run a st. subst (λ n. n < greatest area run.world.meters) (limits_at old mid taken.limits area) (h g 0 w run (taken.takes g 0 w run st));
+    passed = λ g w run a st. subst (λ n. n < greatest area run.world.meters) (limits_at old mid (same_limits taken.limits) area) (h g 0 w run (taken.takes g 0 w run st));
     until = λ g w run a st. stretched [] w (λ v. Grows v run.world) (record { world = w; adds = adds_nothing w; holds = stands_happened g st.at.inside.lives st.at.ways _ 1 w run st.stands });
     since = λ g w run a st. no_more old [] i [] g w run a some st;
     writes = writes_nothing s k;
@@ -256,7 +284,7 @@ loses_here old s k k' i i' added bytes some left gave comes broke = record {
 }
 
 -- what was printed has happened where a run comes to it
-pub happens : (mid : Engine) (es : List Print) (g : Game) (n : ℕ) (w : World) (run : Run) → Then es w (λ v. StandsAt mid g n v run) → Stretch es [] w (λ v. Grows v run.world)
+pub happens : (mid : Engine) (es : List Event) (g : Game) (n : ℕ) (w : World) (run : Run) → Then es w (λ v. StandsAt mid g n v run) → Stretch (prints es) [] w (λ v. Grows v run.world)
 happens mid es g n w run t = stretched es w (λ v. Grows v run.world) (record { world = t.world; adds = t.adds; holds = stands_happened g t.holds.at.inside.lives t.holds.at.ways _ n t.world run t.holds.stands })
 
 -- the sink failed within one thing
@@ -265,30 +293,30 @@ lost_one s k k' e broke start es text = subst (BrokeOff start k') (sym (render_g
 
 -- ## One thing that is printed
 
-module _ (x : Goal) (e : Print) (old mid : Engine) (s s' : Spacer) (k k' : SinkView) (i : SourceView) (taken : Taken x old mid) (prints_it : (g : Game) (n : ℕ) (w : World) (run : Run) → TakesAt x mid g n w run → Then (e ∷ []) w (λ v. StandsAt mid g n v run)) where
-  one_then : (g : Game) (n : ℕ) (w : World) (run : Run) → StandsAt old g (suc n) w run → Then (e ∷ []) w (λ v. StandsAt mid g n v run)
+module _ (x : Goal) (e : Print) (old mid : Engine) (s s' : Spacer) (k k' : SinkView) (i : SourceView) (taken : Taken x old mid) (prints_it : (g : Game) (n : ℕ) (w : World) (run : Run) → TakesAt x mid g n w run → Then (Prints e ∷ []) w (λ v. StandsAt mid g n v run)) where
+  one_then : (g : Game) (n : ℕ) (w : World) (run : Run) → StandsAt old g (suc n) w run → Then (Prints e ∷ []) w (λ v. StandsAt mid g n v run)
   one_then g n w run st = prints_it g n w run (taken.takes g n w run st)
 
   pub one_done : ((es : List Print) → StandsFor s es → Added e es k k' s') → GoalDone old mid s s' k k' i i
   one_done added = record {
     ready = taken.ready;
-    limits = taken.limits;
+    limits = same_limits taken.limits;
     left = taken.left;
     added = e ∷ [];
     taken = [];
     gave = gave_nothing i;
-    leads = λ g n w run a st. stretched (e ∷ []) w (λ v. StandsAt mid g n v run) (one_then g n w run st);
+    leads = λ g n w run a st. stretched (Prints e ∷ []) w (λ v. StandsAt mid g n v run) (one_then g n w run st);
     writes = λ start es text. text_added s s' start k k' es e text added;
   }
 
   pub one_lost : 0 < length old.here.goals.now → ((es : List Print) → StandsFor s es → BrokeOff k k' (growth es e)) → LosesOutput old s k k' i i
-  one_lost some broke = loses_here old s k k' i i (e ∷ []) [] some (omega (arith, taken.left)) (gave_nothing i) (λ g w run a st. happens mid (e ∷ []) g 0 w run (one_then g 0 w run st)) (lost_one s k k' e broke)
+  one_lost some broke = loses_here old s k k' i i (e ∷ []) [] some (omega (arith, taken.left)) (gave_nothing i) (λ g w run a st. happens mid (Prints e ∷ []) g 0 w run (one_then g 0 w run st)) (lost_one s k k' e broke)
 
-pub word_prints : (x : Goal) (name bytes : List ℕ) (e : Engine) → x ≡ Text name → bytes ≡ name → (g : Game) (n : ℕ) (w : World) (run : Run) → TakesAt x e g n w run → Then (Piece bytes ∷ []) w (λ v. StandsAt e g n v run)
+pub word_prints : (x : Goal) (name bytes : List ℕ) (e : Engine) → x ≡ Text name → bytes ≡ name → (g : Game) (n : ℕ) (w : World) (run : Run) → TakesAt x e g n w run → Then (Prints (Piece bytes) ∷ []) w (λ v. StandsAt e g n v run)
 word_prints x name bytes e is same g n w run st = prints_word bytes e g n w run (subst (λ y. TakesAt y e g n w run) (is ∙ ap Text (sym same)) st)
 
-pub gap_prints : (x : Goal) (kind : GapKind) (p : Print) (e : Engine) → x ≡ Gap kind → p ≡ GapOf kind → (g : Game) (n : ℕ) (w : World) (run : Run) → TakesAt x e g n w run → Then (p ∷ []) w (λ v. StandsAt e g n v run)
-gap_prints x kind p e is same g n w run st = subst (λ q. Then (q ∷ []) w (λ v. StandsAt e g n v run)) (sym same) (prints_gap kind e g n w run (subst (λ y. TakesAt y e g n w run) is st))
+pub gap_prints : (x : Goal) (kind : GapKind) (p : Print) (e : Engine) → x ≡ Gap kind → p ≡ GapOf kind → (g : Game) (n : ℕ) (w : World) (run : Run) → TakesAt x e g n w run → Then (Prints p ∷ []) w (λ v. StandsAt e g n v run)
+gap_prints x kind p e is same g n w run st = subst (λ q. Then (Prints q ∷ []) w (λ v. StandsAt e g n v run)) (sym same) (prints_gap kind e g n w run (subst (λ y. TakesAt y e g n w run) is st))
 
 -- ## A printed value
 
@@ -301,31 +329,38 @@ module _ (x : Goal) (term : Term) (value : Ref) (old mid new : Engine) (s s' : S
   abbrev ps : List (List ℕ)
   ps = pieces_at new value
 
-  printed_then : (g : Game) (n : ℕ) (w : World) (run : Run) → StandsAt old g (suc n) w run → Then (as_prints ps) w (λ v. StandsAt new g n v run)
+  abbrev happened : List Event
+  happened = map (λ piece. Prints (Piece piece)) ps
+
+  happened_prints : (ps : List (List ℕ)) → prints (map (λ piece. Prints (Piece piece)) ps) ≡ as_prints ps
+  happened_prints [] = refl
+  happened_prints (p ∷ ps) = ap (λ l. Piece p ∷ l) (happened_prints ps)
+
+  printed_then : (g : Game) (n : ℕ) (w : World) (run : Run) → StandsAt old g (suc n) w run → Then happened w (λ v. StandsAt new g n v run)
   printed_then g n w run st = wrote.leads g n w run (subst (λ y. TakesAt y mid g n w run) is (taken.takes g n w run st))
 
   pub value_done : AddsAll ps s s' k k' → GoalDone old new s s' k k' i i
   value_done added = record {
     ready = wrote.ready;
-    limits = limits_on old mid new taken.limits wrote.limits;
+    limits = same_on old mid new (same_limits taken.limits) (same_limits wrote.limits);
     left = taken.left ∙ ap suc (sym wrote.left);
     added = as_prints ps;
     taken = [];
     gave = gave_nothing i;
-    leads = λ g n w run a st. stretched (as_prints ps) w (λ v. StandsAt new g n v run) (printed_then g n w run st);
+    leads = λ g n w run a st. subst (λ l. Stretch l [] w (λ v. StandsAt new g n v run)) (happened_prints ps) (stretched happened w (λ v. StandsAt new g n v run) (printed_then g n w run st));
     writes = λ start es text. text_grown ps s s' start k k' es text added;
   }
 
   pub value_lost : 0 < length old.here.goals.now → ((es : List Print) → StandsFor s es → BrokeOff k k' (growth_of es ps)) → LosesOutput old s k k' i i
   value_lost some broke =
-      loses_here old s k k' i i (as_prints ps) [] some (omega (arith, taken.left)) (gave_nothing i) (λ g w run a st. happens new (as_prints ps) g 0 w run (printed_then g 0 w run st))
+      loses_here old s k k' i i (as_prints ps) [] some (omega (arith, taken.left)) (gave_nothing i) (λ g w run a st. subst (λ l. Stretch l [] w (λ v. Grows v run.world)) (happened_prints ps) (happens new happened g 0 w run (printed_then g 0 w run st)))
       (λ start es text. subst (BrokeOff start k') (sym (render_append es (as_prints ps))) (broke_later start k k' (render es) (growth_of es ps) text.wrote (broke es text.stands)))
 
 pub goal_quits : (x : Goal) (old mid : Engine) (s : Spacer) (k : SinkView) (i : SourceView) → Taken x old mid → x ≡ Quit → Reaches old s k i i (HasEnded Quit-Ending mid.left s k (left_told i i))
 goal_quits x old mid s k i taken is =
     reads_nothing old s k i (HasEnded Quit-Ending mid.left s k (left_told i i))
     (λ g w run start left st text.
-    finished_so (End Quit-Ending) Quit-Ending mid.left mid.left s k (left_told i i) w run start (as_told i i w.typed left) text refl refl
+    finished_so (End Quit-Ending) Quit-Ending mid.left mid.left s k (left_told i i) w run start (as_told i i w.typed left) text refl refl []
     (quits mid g mid.left w run (subst (λ y. TakesAt y mid g mid.left w run) is (taken.takes g mid.left w run (subst (λ n. StandsAt old g n w run) taken.left st)))))
 
 pub goal_stops : (x : Goal) (old mid new : Engine) (s : Spacer) (k : SinkView) (i : SourceView) → 0 < length old.here.goals.now → Taken x old mid → x ≡ Stop → Stops true mid new → GoalDone old new s s k k i i

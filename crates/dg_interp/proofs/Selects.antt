@@ -87,12 +87,12 @@ module _ (site : ℕ) (mode : Mode) (lists : List (List Goal)) (old : Engine) (o
   select_goes = record {
     ready = picked_ready;
     left = refl;
-    limits = record { heap = refl; trail = refl; aux = ap (λ (o : Gathered). o.aux) one.gathered; keep = ap (λ (o : FactsWorld). o.area.keep) one.world };
+    limits = record { heap = refl; trail = refl; aux = ap (λ (o : Gathered). o.aux) one.gathered; keep = ap (λ (o : FactsWorld). o.area.keep) one.world; calls = []; told = refl };
     leads = λ g n w run st.
         let a = adds_taken (r g n w run st) (writing (terms_held (out-Goal x))) w in
         record {
           world = selected site (chosen g n w run st) (v g n w run st);
-          adds = record { prints_are = a.prints_are; typed = refl };
+          adds = record { events_are = a.events_are; typed = refl };
           holds = record {
             at = record {
               inside = record {

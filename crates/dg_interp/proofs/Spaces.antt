@@ -1,27 +1,22 @@
 -- What a goal that prints spaces comes to.
 use Rattle.std.proofs.Common.{◌≡◌, ◌<◌, ℕ, suc, List, [], ◌∷◌, ◌++◌, Option, Some, None, refl, sym, ap, ◌∙◌, subst, arith, length}
-use Rattle.std.proofs.lemmas.List.{append-nil}
 use Rattle.std.specs.declared.vec.Vec.{Vec}
 use Rattle.std.specs.declared.alloc.Global.{Global}
 use Rattle.dg_base.specs.declared.program.Goal.{Goal, out-Goal}
 use Rattle.dg_base.specs.declared.program.Goal.TheVariants.{GapN, outs-GapN}
 use Rattle.dg_base.specs.declared.program.Term.{Term}
 use Rattle.dg_base.specs.declared.program.CoreProgram.{CoreProgram}
-use Rattle.dg_base.specs.declared.run.RunFault.TheVariants.{Write}
 use Rattle.dg_base.specs.Goals.{terms_held}
 use Rattle.dg_base.specs.Written.{SinkView, BrokeOff}
-use Rattle.dg_base.proofs.WrittenLemmas.{broke_later}
 use Rattle.dg_meaning.specs.Values.{Num, Value, Node, value_of}
 use Rattle.dg_meaning.specs.Substitutions.{walk}
-use Rattle.dg_meaning.specs.World.{Game, World, Print, Prints, SpacesOf, prints, worked}
+use Rattle.dg_meaning.specs.World.{Game, World, Print, Prints, SpacesOf, worked}
 use Rattle.dg_meaning.specs.Cells.{cells}
 use Rattle.dg_meaning.specs.Path.{Step, Act, Goes, Fails, Moves}
 use Rattle.dg_meaning.specs.Moves.{looked_up, outcome, move_of, path_of, printed, spaces}
-use Rattle.dg_meaning.specs.Render.{render, growth}
-use Rattle.dg_meaning.specs.Transcript.{Run, text_of}
+use Rattle.dg_meaning.specs.Render.{growth}
+use Rattle.dg_meaning.specs.Transcript.{Run}
 use Rattle.dg_meaning.specs.inside.Keeps.{Stands}
-use Rattle.dg_meaning.proofs.Dropping.{prints_append}
-use Rattle.dg_meaning.proofs.Keeps.{stands_happened}
 use Rattle.dg_unify.specs.Store.{Saved, Kept, Made, told, or_nil}
 use Rattle.dg_unify.specs.declared.bindings.Ref.{Ref}
 use Rattle.dg_unify.specs.declared.list.ListBindings.{ListBindings}
@@ -35,10 +30,9 @@ use Rattle.dg_interp.specs.inside.Giving.{ActsAt, PrintsOne, TellsSpaces}
 use Rattle.dg_texts.specs.Printing.{Added}
 use Rattle.dg_interp.specs.inside.Running.{GoalDone, LosesOutput}
 use Rattle.dg_interp.proofs.Takes.{store_sound, store_ready}
-use Rattle.dg_interp.proofs.Places.{inside_in, limits_on}
+use Rattle.dg_interp.proofs.Places.{silent, same_limits, inside_in}
 use Rattle.dg_base.specs.Streams.{SourceView}
-use Rattle.dg_texts.proofs.Texts.{render_grows}
-use Rattle.dg_interp.proofs.Runs.{gave_nothing, stretched, text_added, happens, lost_one, loses_here}
+use Rattle.dg_interp.proofs.Runs.{same_on, gave_nothing, stretched, text_added, happens, lost_one, loses_here}
 use Rattle.dg_interp.proofs.Giving.{with_store, steps_kept, kept_limits, written_acts}
 
 pub spaces_held : (term : Term) → terms_held (out-Goal (GapN term)) ≡ term ∷ []
@@ -78,7 +72,7 @@ module _ (term : Term) (old : Engine) (store : ListBindings) (stack : Vec Ref Gl
   spaces_fail is = record {
     sound = store_sound old store stack k saved ready.sound;
     left = refl;
-    limits = kept_limits old store stack ready k saved;
+    limits = silent (kept_limits old store stack ready k saved);
     leads = λ g n w run st.
         let t = acts None is g n w run st in
         record { world = t.world; adds = t.adds; holds = record { inside = t.holds.at.inside; failed = t.holds.went } };
@@ -95,7 +89,7 @@ module _ (term : Term) (old : Engine) (store : ListBindings) (stack : Vec Ref Gl
         record {
           world = printed (SpacesOf count) t.world;
           adds = record {
-            prints_are = prints_append t.world.events (Prints (SpacesOf count) ∷ []) ∙ ap (λ l. l ++ SpacesOf count ∷ []) (t.adds.prints_are ∙ append-nil (prints w.events));
+            events_are = ap (λ l. l ++ Prints (SpacesOf count) ∷ []) t.adds.events_are;
             typed = t.adds.typed;
           };
           holds = record {
@@ -112,20 +106,20 @@ module _ (term : Term) (old : Engine) (store : ListBindings) (stack : Vec Ref Gl
 -- ## Printing them
 
 module _ (x : Goal) (e : Print) (old mid new : Engine) (s s' : Spacer) (k k' : SinkView) (i : SourceView) (taken : Taken x old mid) (wrote : PrintsOne e x mid new) where
-  then_one : (g : Game) (n : ℕ) (w : World) (run : Run) → StandsAt old g (suc n) w run → Then (e ∷ []) w (λ v. StandsAt new g n v run)
+  then_one : (g : Game) (n : ℕ) (w : World) (run : Run) → StandsAt old g (suc n) w run → Then (Prints e ∷ []) w (λ v. StandsAt new g n v run)
   then_one g n w run st = wrote.leads g n w run (taken.takes g n w run st)
 
   pub told_done : ((es : List Print) → StandsFor s es → Added e es k k' s') → GoalDone old new s s' k k' i i
   told_done added = record {
     ready = wrote.ready;
-    limits = limits_on old mid new taken.limits wrote.limits;
+    limits = same_on old mid new (same_limits taken.limits) (same_limits wrote.limits);
     left = taken.left ∙ ap suc (sym wrote.left);
     added = e ∷ [];
     taken = [];
     gave = gave_nothing i;
-    leads = λ g n w run a st. stretched (e ∷ []) w (λ v. StandsAt new g n v run) (then_one g n w run st);
+    leads = λ g n w run a st. stretched (Prints e ∷ []) w (λ v. StandsAt new g n v run) (then_one g n w run st);
     writes = λ start es text. text_added s s' start k k' es e text added;
   }
 
   pub told_lost : 0 < length old.here.goals.now → ((es : List Print) → StandsFor s es → BrokeOff k k' (growth es e)) → LosesOutput old s k k' i i
-  told_lost some broke = loses_here old s k k' i i (e ∷ []) [] some (omega (arith, taken.left)) (gave_nothing i) (λ g w run a st. happens new (e ∷ []) g 0 w run (then_one g 0 w run st)) (lost_one s k k' e broke)
+  told_lost some broke = loses_here old s k k' i i (e ∷ []) [] some (omega (arith, taken.left)) (gave_nothing i) (λ g w run a st. happens new (Prints e ∷ []) g 0 w run (then_one g 0 w run st)) (lost_one s k k' e broke)

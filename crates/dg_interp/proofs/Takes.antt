@@ -1,13 +1,12 @@
 -- What the taking of a goal comes to.
 use Rattle.std.proofs.Common.{◌≡◌, ℕ, List, [], refl, sym, arith}
 use Rattle.std.specs.Prelude.{reverse}
-use Rattle.std.proofs.lemmas.List.{append-nil}
 use Rattle.std.specs.declared.vec.Vec.{Vec}
 use Rattle.std.specs.declared.alloc.Global.{Global}
 use Rattle.dg_base.specs.declared.program.Goal.{Goal, out-Goal}
 use Rattle.dg_base.specs.Goals.{terms_held}
 use Rattle.dg_meaning.specs.Values.{Value}
-use Rattle.dg_meaning.specs.World.{Game, World, prints, worked}
+use Rattle.dg_meaning.specs.World.{Game, World, worked}
 use Rattle.dg_meaning.specs.Cells.{cells, writing}
 use Rattle.dg_meaning.specs.Path.{Registers}
 use Rattle.dg_meaning.specs.Moves.{begun, behind_terms, outcome}
@@ -50,7 +49,7 @@ module _ (x : Goal) (e : Engine) (g : Game) (n : ℕ) (w : World) (run : Run) (s
   taken_grows = grows_on taken_in _ run.world (outcome_grows g (out-Goal x) values e.here.tag (steps_of e) behind taken_in) (has_happened g st.at.inside.lives st.at.ways n (outcome g (out-Goal x) values e.here.tag (steps_of e) behind taken_in) run comes_of)
 
 pub adds_taken : (r : Registers) (work : ℕ) (w : World) → Adds [] w (begun r work (worked 1 w))
-adds_taken r work w = record { prints_are = sym (append-nil (prints w.events)); typed = refl }
+adds_taken r work w = record { events_are = refl; typed = refl }
 
 -- the heap is full where its terms are written
 pub terms_full : (x : Goal) (old : Engine) (e : Full) → ((g : Game) → old.program.now ≡ g.program → Overflows (cells g.program (terms_held (out-Goal x))) (store_in old.store) e) → FullAt (TakesAt x old) (store_in old.store) e

@@ -42,11 +42,11 @@ use Rattle.dg_lasting.specs.Lasting.{row_of, InWorld, MayPick, Closes, picks_in}
 use Rattle.dg_interp.specs.inside.Frames.{values_in, steps_at, whole_of, IsLeft}
 use Rattle.dg_interp.specs.inside.Giving.{SolvesAt, UnifiesAt, GivesAt}
 use Rattle.dg_interp.specs.inside.Gathering.{TakesOutAt}
-use Rattle.dg_interp.specs.inside.Engine.{Point, store_in, steps_of, KeepsPlaces, open_in, IsSound, IsReady, FailsAt, FullAt, BeginsAt, Leads, SameLimits, WentWrong, Tries}
+use Rattle.dg_interp.specs.inside.Engine.{Point, store_in, steps_of, KeepsPlaces, open_in, IsSound, IsReady, FailsAt, FullAt, BeginsAt, Leads, Silent, WentWrong, Tries}
 use Rattle.dg_unify.proofs.StoreLemmas.{kept_told}
 use Rattle.dg_interp.proofs.Stores.{values_kept, hold_front}
 use Rattle.dg_interp.proofs.Links.{same_here, at_same}
-use Rattle.dg_interp.proofs.Places.{adds_nothing, open_still}
+use Rattle.dg_interp.proofs.Places.{silent, adds_nothing, open_still}
 use Rattle.dg_interp.proofs.Takes.{store_sound, store_ready}
 use Rattle.dg_interp.proofs.Giving.{steps_kept, kept_limits, solved_on, solved_fails, solved_full}
 
@@ -61,7 +61,7 @@ module _ (es : Equations) (old : Engine) (store : ListBindings) (ready : IsReady
   met_so false does = record {
     sound = store_sound old store old.made k saved ready.sound;
     left = refl;
-    limits = kept_limits old store old.made ready k saved;
+    limits = silent (kept_limits old store old.made ready k saved);
     leads = solved_fails es old store ready old.store.sound.fits.sound k saved false does refl;
   }
 
@@ -113,8 +113,8 @@ module _ (old : Engine) (whole : Whole) (into : Env) (frame : Frame) (sound : Is
   pub out_ready : IsReady e1
   out_ready = let now = store_sound old store1 old.made k1 saved1 sound in record { sound = record { base = now.base; room = now.room; picks = now.picks }; here = left.0 }
 
-  pub out_limits : SameLimits old e1
-  out_limits = record { heap = k1.heap_limit; trail = k1.trail_limit; aux = refl; keep = refl }
+  pub out_limits : Silent old e1
+  out_limits = record { heap = k1.heap_limit; trail = k1.trail_limit; aux = refl; keep = refl; told = refl }
 
   same_steps : steps_of e1 ≡ steps_at (values_in s old.refs.items) old.frames.items frame
   same_steps = at_same (length old.refs.items) (values_in s old.refs.items) (values_in s1 old.refs.items) old.frames.items old.frames.items (length old.frames.items) frame left.0
@@ -183,7 +183,7 @@ module _ (whole : Whole) (into : Ref) (old : Engine) (ready : IsReady old) where
       no_rows e = let n : 0 ≡ suc (length (map row_of st.others)) = ap length e in omega (arith, n)
 
   pub none_wrong : old.lasting.gathered.rows ≡ [] → WentWrong (TakesOutAt whole into old) old old
-  none_wrong none = record { sound = ready.sound; left = refl; limits = record { heap = refl; trail = refl; aux = refl; keep = refl }; leads = not_none none }
+  none_wrong none = record { sound = ready.sound; left = refl; limits = record { heap = refl; trail = refl; aux = refl; keep = refl; calls = []; told = refl }; leads = not_none none }
 
   module _ (cells : List Cell) (at_first : slice_get old.lasting.gathered.rows 0 ≡ Some cells) where
     rows_here : (g : Game) (n : ℕ) (w : World) (run : Run) (st : TakesOutAt whole into old g n w run) → cells ≡ flat_map cells_of st.newest.values
@@ -250,8 +250,8 @@ module _ (into : Ref) (old : Engine) (ready : IsReady old) (hold : Holds (store_
     pub list_ready : IsReady listed_engine
     list_ready = let now = store_ready old store2 stack k2 saved2 ready in record { sound = record { base = now.sound.base; room = now.sound.room; picks = subst (λ (o : Lasting). MayPick old.left (picks_in o)) (sym closed.is) ready.sound.picks }; here = now.here }
 
-    pub list_limits : SameLimits old listed_engine
-    list_limits = record { heap = k2.heap_limit; trail = k2.trail_limit; aux = ap (λ (o : Lasting). o.gathered.aux) closed.is; keep = ap (λ (o : Lasting). o.world.area.keep) closed.is }
+    pub list_limits : Silent old listed_engine
+    list_limits = record { heap = k2.heap_limit; trail = k2.trail_limit; aux = ap (λ (o : Lasting). o.gathered.aux) closed.is; keep = ap (λ (o : Lasting). o.world.area.keep) closed.is; told = refl }
 
     pub list_taken : Leads from (UnifiesAt into list listed_engine)
     list_taken g n w run st =
@@ -268,7 +268,7 @@ module _ (into : Ref) (old : Engine) (ready : IsReady old) (hold : Holds (store_
         ap (λ x. on x (copy_of (list_of vs) q) (steps_of old)) (sym (kept_told ls ls2 into k2 hold)) ∙ ap (λ y. on (told ls2 into) y (steps_of old)) is_list ∙ ap (on (told ls2 into) (told ls2 list)) (sym (steps_kept old store2 stack ready k2 saved2)) in
         record {
           world = v;
-          adds = record { prints_are = (adds_nothing w).prints_are; typed = refl };
+          adds = record { events_are = refl; typed = refl };
           holds = record {
             at = record {
               inside = record {
@@ -308,8 +308,8 @@ module _ (into : Ref) (old : Engine) (ready : IsReady old) (cells : List Cell) (
   pub sum_ready : IsReady summed_engine
   sum_ready = record { sound = record { base = ready.sound.base; room = ready.sound.room; picks = subst (λ (o : Lasting). MayPick old.left (picks_in o)) (sym closed.is) ready.sound.picks }; here = ready.here }
 
-  pub sum_limits : SameLimits old summed_engine
-  sum_limits = record { heap = refl; trail = refl; aux = ap (λ (o : Lasting). o.gathered.aux) closed.is; keep = ap (λ (o : Lasting). o.world.area.keep) closed.is }
+  pub sum_limits : Silent old summed_engine
+  sum_limits = record { heap = refl; trail = refl; aux = ap (λ (o : Lasting). o.gathered.aux) closed.is; keep = ap (λ (o : Lasting). o.world.area.keep) closed.is; told = refl }
 
   pub sum_taken : Leads (TakesOutAt InSum into old) (GivesAt n into summed_engine)
   sum_taken g k w run st =
@@ -319,7 +319,7 @@ module _ (into : Ref) (old : Engine) (ready : IsReady old) (cells : List Cell) (
       let same : n ≡ total vs = sums vs (rows_here InSum into old ready cells at_first g k w run st) (formed_here InSum into old ready cells at_first g k w run st) in
       record {
         world = v;
-        adds = record { prints_are = (adds_nothing w).prints_are; typed = refl };
+        adds = record { events_are = refl; typed = refl };
         holds = record {
           at = record {
             inside = record {

@@ -26,7 +26,7 @@ use Rattle.dg_interp.specs.declared.engine.Engine.{Engine}
 use Rattle.dg_lasting.specs.Lasting.{InWorld}
 use Rattle.dg_terms.specs.Terms.{ThreeMade}
 use Rattle.dg_interp.specs.inside.Frames.{values_in}
-use Rattle.dg_interp.specs.inside.Engine.{store_in, KeepsPlaces, steps_of, There, IsReady, SameLimits, TakesAt, Leads, Then}
+use Rattle.dg_interp.specs.inside.Engine.{store_in, KeepsPlaces, steps_of, There, IsReady, Silent, TakesAt, Leads, Then}
 use Rattle.dg_interp.specs.inside.Giving.{GivesAt}
 use Rattle.dg_terms.specs.Throwing.{Throws}
 use Rattle.dg_interp.proofs.Takes.{behind, taken_in, comes_of, adds_taken, store_ready}
@@ -53,8 +53,8 @@ module _ (a b c : Term) (old : Engine) (store : ListBindings) (stack : Vec Ref G
       let r = store_ready old store stack k saved ready in
       record { sound = record { base = r.sound.base; room = r.sound.room; picks = r.sound.picks }; here = r.here }
 
-  pub thrown_limits : SameLimits old thrown_to
-  thrown_limits = record { heap = k.heap_limit; trail = k.trail_limit; aux = refl; keep = refl }
+  pub thrown_limits : Silent old thrown_to
+  thrown_limits = record { heap = k.heap_limit; trail = k.trail_limit; aux = refl; keep = refl; told = refl }
 
   abbrev meant : Game → ℕ → Option ℕ
   meant g drawn = of_numbers (thrown (die g.dice drawn)) (walk s.state.subst (told s ra)) (walk s.state.subst (told s rb))
@@ -112,7 +112,7 @@ module _ (a b c : Term) (old : Engine) (store : ListBindings) (stack : Vec Ref G
         let is = st.at.inside.world in
         record {
           world = v;
-          adds = record { prints_are = q.prints_are; typed = refl };
+          adds = record { events_are = q.events_are; typed = refl };
           holds = record {
             at = there v (is.0, is.1, h.0, is.3);
             went = subst (λ o. Went g st.at.inside.lives st.at.ways m (move_of (steps_of thrown_to) r (gives_number o (told s rc) r v)) run) (sym h.1)
@@ -124,7 +124,7 @@ module _ (a b c : Term) (old : Engine) (store : ListBindings) (stack : Vec Ref G
         let is = st.at.inside.world in
         record {
           world = drew 1 v;
-          adds = record { prints_are = q.prints_are; typed = refl };
+          adds = record { events_are = q.events_are; typed = refl };
           holds = record {
             at = there (drew 1 v) (is.0, is.1, h.0, is.3);
             went = subst (λ o. Went g st.at.inside.lives st.at.ways m (move_of (steps_of thrown_to) r (gives_number o (told s rc) r (drew 1 v))) run) (sym h.1)

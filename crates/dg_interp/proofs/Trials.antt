@@ -1,10 +1,10 @@
 -- Objects that are tried, one after another.
-use Rattle.std.proofs.Common.{◌≡◌, ℕ, suc, ◌+◌, ◌-◌, ◌<◌, ◌≤◌, inl, inr, List, [], ◌∷◌, Bool, true, false, Option, refl, sym, ap, ◌∙◌, arith, length}
+use Rattle.std.proofs.Common.{◌≡◌, ℕ, ◌-◌, inl, inr, List, [], ◌∷◌, Bool, true, false, Option, refl, sym, ap, ◌∙◌}
 use Rattle.std.specs.Prelude.{nat_lt}
 use Rattle.std.proofs.lemmas.Bool.{cases_lt, lt-ltb, le-ltb}
 use Rattle.dg_meaning.specs.Values.{Value}
 use Rattle.dg_meaning.specs.Path.{Step, Registers, Plain}
-use Rattle.dg_meaning.specs.Moves.{numbers, object_branches}
+use Rattle.dg_meaning.specs.Moves.{object_branches}
 use Rattle.dg_meaning.specs.inside.Context.{stays}
 use Rattle.dg_meaning.specs.inside.Keeps.{open_at}
 use Rattle.dg_interp.specs.inside.Frames.{has_some}

@@ -14,7 +14,7 @@ use Rattle.dg_meaning.specs.Facts.{kinds_of}
 use Rattle.dg_meaning.specs.Letters.{copied}
 use Rattle.dg_meaning.specs.Unify.{Equations}
 use Rattle.dg_meaning.specs.Values.{Object, Value, leaf}
-use Rattle.dg_meaning.specs.World.{Game, World, prints, worked}
+use Rattle.dg_meaning.specs.World.{Game, World, worked}
 use Rattle.dg_meaning.specs.Path.{Step, Registers, Unifies, Branch, Clash, Finds, Plain, Moves, Move, Offers}
 use Rattle.dg_meaning.specs.Moves.{begun, path_of, move_of, inside, choice_cells, first_alone, goals_at, numbers, object_branches, behind_copy, copy_of, finds, finds_if_set, outcome_of, begins as the_begins}
 use Rattle.dg_meaning.specs.inside.OneRun.{Grows}
@@ -46,14 +46,14 @@ use Rattle.dg_meaning.specs.inside.Finding.{may_find}
 use Rattle.dg_interp.specs.inside.Trying.{trial_branches}
 use Rattle.dg_interp.specs.inside.Giving.{SolvesAt}
 use Rattle.dg_interp.specs.inside.Finding.{made_values, TriesObjectsAt, FindsAt}
-use Rattle.dg_interp.specs.inside.Engine.{Point, store_in, KeepsPlaces, steps_of, HasPlace, IsSound, IsReady, IsPushed, FailsAt, FullAt, BeginsAt, OpensAt, Leads, SameLimits, WentWrong, kept_if, open_in}
+use Rattle.dg_interp.specs.inside.Engine.{Point, store_in, KeepsPlaces, steps_of, HasPlace, IsSound, IsReady, IsPushed, FailsAt, FullAt, BeginsAt, OpensAt, Leads, Silent, WentWrong, kept_if, open_in}
 use Rattle.dg_lasting.proofs.Finds.{numbers_counted, counted_first, same_copy, behind_simple}
 use Rattle.dg_interp.proofs.Trials.{counted_some, trials_all}
 use Rattle.dg_unify.proofs.StoreLemmas.{kept_same}
 use Rattle.dg_interp.proofs.Stores.{values_kept, values_count, hold_front, appended_stretch}
 use Rattle.dg_interp.proofs.Links.{SameBy, same_here, behind_same, at_same, frame_raise}
 use Rattle.dg_interp.proofs.Grown.{grown_longer, grown_values, grown_base, grown_choices}
-use Rattle.dg_interp.proofs.Places.{adds_nothing, inside_in, open_still, limits_here}
+use Rattle.dg_interp.proofs.Places.{silent, adds_nothing, inside_in, open_still, limits_here}
 use Rattle.dg_interp.proofs.Queries.{marked}
 use Rattle.dg_interp.proofs.Begun.{begun_values, begun_sound, begun_there}
 use Rattle.dg_interp.proofs.Opens.{chosen, pushed_behind, pushed_there}
@@ -98,7 +98,7 @@ module _ (place : Option ℕ) (object : ℕ) (args : Env) (old : Engine) (ready 
   finds_none none = record {
     sound = ready.sound;
     left = refl;
-    limits = limits_here old;
+    limits = silent (limits_here old);
     leads = λ g n w run st. record {
       world = w;
       adds = adds_nothing w;
@@ -133,7 +133,7 @@ module _ (place : Option ℕ) (object : ℕ) (args : Env) (old : Engine) (ready 
         let u = worked (work_of vals v) w in
         record {
           world = u;
-          adds = record { prints_are = (adds_nothing w).prints_are; typed = refl };
+          adds = record { events_are = refl; typed = refl };
           holds = acts_on old store old.made ready k saved g n w u run st.at st.at.inside.world (λ x y. Unifies x pairs y) r (same_agrees s t r same st.at.agrees) refl refl
               (subst (λ a. Went g st.at.inside.lives st.at.ways n (move_of (steps_of old) r a) run)
               (ap (λ o. finds_if_set vals object r o w) (is g w st.at.inside.program st.at.inside.world) ∙ finds_so vals object v r w many ∙ ap (λ es. Unifies r es u) (sym pairs_are)) st.went);
@@ -159,7 +159,7 @@ module _ (old : Engine) (trial : Trial) (args : Env) (place : Place) (sound : Is
   not_found never = record {
     sound = sound;
     left = refl;
-    limits = limits_here old;
+    limits = silent (limits_here old);
     leads = λ g n w run st.
         let r = st.at.registers in
         let vals = values_in (store_in old.store) old.refs.items args in
@@ -171,7 +171,7 @@ module _ (old : Engine) (trial : Trial) (args : Env) (place : Place) (sound : Is
         let v = begun (inside 0 r) 0 w in
         record {
           world = v;
-          adds = record { prints_are = sym (append-nil (prints w.events)); typed = refl };
+          adds = record { events_are = refl; typed = refl };
           holds = record {
             inside = inside_in v st.at.inside.world st.at.inside;
             failed = subst (λ l. Tried g Plain r.next_tag (open_in old) st.at.ways st.at.inside.lives l n w run) one st.tried;
@@ -278,8 +278,8 @@ module _ (old : Engine) (trial : Trial) (args : Env) (b : Bool) (heap : ℕ) (pl
       here = record { runnable = subst AreRunnable (sym none) (all_none _); older = omega arith; env = omega arith };
     }
 
-    pub trying_limits : SameLimits old trying
-    trying_limits = record { heap = k1.heap_limit; trail = k1.trail_limit; aux = refl; keep = refl }
+    pub trying_limits : Silent old trying
+    trying_limits = record { heap = k1.heap_limit; trail = k1.trail_limit; aux = refl; keep = refl; told = refl }
 
     same_values : SameBy (length ys) (values_in s0 ys) (values_in s1 ys)
     same_values = begun_values old (Things others args) b place store1 old.refs old.made choices sound others_left tt same_b has k1 saved1 [] no_refs none_held kept
@@ -312,7 +312,7 @@ module _ (old : Engine) (trial : Trial) (args : Env) (b : Bool) (heap : ℕ) (pl
         ap (λ t. on (first_alone trial.many t steps) vals) st.at.tag ∙ ap (λ l. on l vals) (sym steps_now) ∙ ap (on (steps_of trying)) (sym (same_values args left.0)) in
         record {
           world = v;
-          adds = record { prints_are = sym (append-nil (prints w.events)); typed = refl };
+          adds = record { events_are = refl; typed = refl };
           holds = record {
             at = begun_there old (Things others args) b place store1 old.refs old.made choices sound others_left tt same_b has k1 saved1 [] no_refs none_held kept (Things trial args) refl g n w run st here v (behind r) st.at.inside.world (agrees_now r st.at.agrees) (ap (λ i. i + 1) st.at.tag) refl;
             went = subst (λ m. Went g (pushed (live g r st.at.ways) st.at.inside.lives) st.at.ways n m run) now (trial_begins g n w run st);
@@ -362,8 +362,8 @@ module _ (old : Engine) (refs1 : Vec Ref Global) (made : List Ref) (ready : IsRe
     abbrev pushed_to : Engine
     pushed_to = record grown { frames = next.frames }
 
-    pub next_limits : SameLimits old next
-    next_limits = subst (SameLimits old) (sym push.same) (record { heap = refl; trail = refl; aux = refl; keep = refl })
+    pub next_limits : Silent old next
+    next_limits = subst (Silent old) (sym push.same) (record { heap = refl; trail = refl; aux = refl; keep = refl; told = refl })
 
     pub next_left : next.left ≡ old.left
     next_left = ap (λ (e : Engine). e.left) push.same

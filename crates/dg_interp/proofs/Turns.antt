@@ -30,6 +30,7 @@ use Rattle.dg_choices.specs.declared.frames.Mark.TheVariants.{Nothing}
 use Rattle.dg_choices.specs.declared.frames.Frame.{Frame}
 use Rattle.dg_choices.specs.declared.frames.Choice.{Choice}
 use Rattle.dg_interp.specs.declared.engine.Engine.{Engine}
+use Rattle.dg_watch.specs.declared.watch.CallEvent.{CallEvent}
 use Rattle.dg_interp.specs.inside.Frames.{values_in, frame_steps, steps_behind, steps_at, AreChoices, lives_of, ways_of, StandOn, GoBackTo}
 use Rattle.dg_unify.specs.inside.Engines.{Agrees}
 use Rattle.dg_lasting.specs.declared.lasting.Lasting.{Lasting}
@@ -82,7 +83,7 @@ module _ (old : Engine) (x : Goal) (goals : Bor (List Goal)) (left : ℕ) (ready
           here = record { runnable = runnable_rest x goals.now runnable; older = ready.here.older; env = ready.here.env };
         };
         left = less;
-        limits = record { heap = refl; trail = refl; aux = refl; keep = refl };
+        limits = record { heap = refl; trail = refl; aux = refl; keep = refl; told = refl };
         room = omega (arith, ready.sound.room);
         picks = may_fewer (left + 1) old.left (picks_in old.lasting) (omega (arith, less)) ready.sound.picks;
         runnable = runnable_goal x goals.now runnable;
@@ -103,9 +104,9 @@ entry_runnable pred = runnable_from (Ask pred [] false) (AskForm pred [] false) 
 abbrev pub empty : ℕ → ℕ → Store
 empty heap trail = store_of true (record { slots = []; log = []; vars = 0; since = 0; heap = 0; trail = 0; heap_limit = heap; trail_limit = trail })
 
-module _ (program : Bor CoreProgram) (entry : Bor (List Goal)) (store : ListBindings) (refs : Vec Ref Global) (frames : Vec Frame Global) (choices : Vec Choice Global) (made : Vec Ref Global) (limits : Limits) (left heap trail : ℕ) (steps_are : limits.steps ≡ left) (heap_is : limits.heap ≡ heap) (trail_is : limits.trail ≡ trail) (lasting : Lasting) (dice : List ℕ) (fits : left < 2 ^ 64) (out : StartsLasting program.now limits dice lasting) (runnable : IsRunnable program.now) (sound : IsSoundProgram program.now) (is : entry.now ≡ Ask program.now.entry [] false ∷ []) (means : store_in store ≡ empty heap trail) (no_refs : refs.items ≡ []) (no_frames : frames.items ≡ []) (no_choices : choices.items ≡ []) where
+module _ (program : Bor CoreProgram) (entry : Bor (List Goal)) (store : ListBindings) (refs : Vec Ref Global) (frames : Vec Frame Global) (choices : Vec Choice Global) (made : Vec Ref Global) (told : Vec CallEvent Global) (limits : Limits) (left heap trail : ℕ) (steps_are : limits.steps ≡ left) (heap_is : limits.heap ≡ heap) (trail_is : limits.trail ≡ trail) (lasting : Lasting) (dice : List ℕ) (fits : left < 2 ^ 64) (out : StartsLasting program.now limits dice lasting) (runnable : IsRunnable program.now) (sound : IsSoundProgram program.now) (is : entry.now ≡ Ask program.now.entry [] false ∷ []) (means : store_in store ≡ empty heap trail) (no_refs : refs.items ≡ []) (no_frames : frames.items ≡ []) (no_choices : choices.items ≡ []) where
   abbrev e : Engine
-  e = record { program = program; lasting = lasting; store = store; refs = refs; frames = frames; choices = choices; made = made; here = record { goals = entry; env = record { from = 0; len = 0 }; tag = 0; mark = Nothing; behind = 0 }; newest = 0; stoppable = None; left = left }
+  e = record { program = program; lasting = lasting; store = store; refs = refs; frames = frames; choices = choices; made = made; here = record { goals = entry; env = record { from = 0; len = 0 }; tag = 0; mark = Nothing; behind = 0 }; newest = 0; stoppable = None; told = told; left = left }
 
   none : reverse choices.items ≡ []
   none = ap reverse no_choices

@@ -1,6 +1,5 @@
 -- What the goals come to that write terms and make no choice.
-use Rattle.std.proofs.Common.{◌≡◌, ℕ, List, [], ◌∷◌, ◌++◌, Bool, true, false, refl, sym, ap, ◌∙◌, subst, arith, length, map, append_assoc}
-use Rattle.std.proofs.lemmas.List.{append-nil}
+use Rattle.std.proofs.Common.{◌≡◌, ℕ, List, [], ◌∷◌, Bool, true, false, refl, sym, ap, ◌∙◌, subst, arith, length, map}
 use Rattle.std.specs.declared.vec.Vec.{Vec}
 use Rattle.std.specs.declared.alloc.Global.{Global}
 use Rattle.dg_base.specs.declared.program.Goal.{Goal, out-Goal}
@@ -10,7 +9,7 @@ use Rattle.dg_base.specs.declared.program.TestKind.{TestKind}
 use Rattle.dg_base.specs.declared.program.CoreProgram.{CoreProgram}
 use Rattle.dg_base.specs.Goals.{terms_held}
 use Rattle.dg_meaning.specs.Values.{Value, value_of}
-use Rattle.dg_meaning.specs.World.{Game, World, Piece, Prints, prints, worked}
+use Rattle.dg_meaning.specs.World.{Game, World, Piece, Prints, worked}
 use Rattle.dg_meaning.specs.Cells.{cells, writing}
 use Rattle.dg_meaning.specs.TypeTests.{passes}
 use Rattle.dg_meaning.specs.Path.{Registers, Outcome, Moves}
@@ -27,12 +26,11 @@ use Rattle.dg_choices.specs.declared.frames.Env.{Env}
 use Rattle.dg_interp.specs.declared.engine.Engine.{Engine}
 use Rattle.dg_terms.specs.Terms.{Overflows}
 use Rattle.dg_interp.specs.inside.Frames.{stretch, values_in}
-use Rattle.dg_interp.specs.inside.Engine.{store_in, KeepsPlaces, steps_of, IsReady, TakesAt, StandsAt, FailsAt, FullAt, Adds, Then, Leads, SameLimits, WentOn, pieces_at, WrotePrinted}
+use Rattle.dg_interp.specs.inside.Engine.{store_in, KeepsPlaces, steps_of, IsReady, TakesAt, StandsAt, FailsAt, FullAt, Adds, Then, Leads, Silent, WentOn, pieces_at, WrotePrinted}
 use Rattle.dg_lasting.specs.declared.lasting.Lasting.{Lasting}
 use Rattle.dg_lasting.specs.Lasting.{InWorld}
-use Rattle.dg_meaning.proofs.Dropping.{prints_append}
 use Rattle.dg_unify.specs.inside.Engines.{Agrees}
-use Rattle.dg_interp.proofs.Places.{inside_kept, adds_nothing}
+use Rattle.dg_interp.proofs.Places.{silent, inside_kept, adds_nothing}
 use Rattle.dg_unify.proofs.StoreLemmas.{holds_some}
 use Rattle.dg_interp.proofs.Links.{same_here, at_same}
 use Rattle.dg_interp.proofs.Stores.{values_kept, hold_front}
@@ -46,8 +44,8 @@ module _ (x : Goal) (old : Engine) (store : ListBindings) (made : Vec Ref Global
   steps_same = at_same (length old.refs.items) (values_in (store_in old.store) old.refs.items) (values_in (store_in store) old.refs.items) old.frames.items old.frames.items (length old.frames.items) old.here ready.here
       (values_kept (length old.refs.items) (store_in old.store) (store_in store) old.refs.items old.refs.items k (hold_front (store_in old.store) old.refs.items ready.sound.base.hold) refl) ready.sound.base.frames (same_here (length old.frames.items) old.frames.items)
 
-  pub grown_limits : SameLimits old grown
-  grown_limits = record { heap = k.heap_limit; trail = k.trail_limit; aux = refl; keep = refl }
+  pub grown_limits : Silent old grown
+  grown_limits = record { heap = k.heap_limit; trail = k.trail_limit; aux = refl; keep = refl; told = refl }
 
   pub stands_behind : (g : Game) (n : ℕ) (w v : World) (run : Run) → InWorld old.lasting g v → (st : TakesAt x old g n w run) (r : Registers) → Agrees (store_in store) r → r.next_tag ≡ st.at.registers.next_tag → r.stoppable ≡ st.at.registers.stoppable → Stands g st.at.inside.lives st.at.ways (path_of (steps_of old) r) n v run → StandsAt grown g n v run
   stands_behind g n w v run none_open st r agrees tag part stands = record {
@@ -101,13 +99,13 @@ module _ (x : Goal) (old : Engine) (store : ListBindings) (made : Vec Ref Global
   looked g n w run st = worked (work g n w run st) (taken_in x old g n w run st)
 
   adds_looked : (g : Game) (n : ℕ) (w : World) (run : Run) (st : TakesAt x old g n w run) → Adds [] w (looked g n w run st)
-  adds_looked g n w run st = let a = adds_taken (behind x old g n w run st) (writing (terms_held (out-Goal x))) w in record { prints_are = a.prints_are; typed = refl }
+  adds_looked g n w run st = let a = adds_taken (behind x old g n w run st) (writing (terms_held (out-Goal x))) w in record { events_are = a.events_are; typed = refl }
 
   pub passed_on : passed ≡ true → WentOn (TakesAt x old) old (grown x old store made ready k saved)
   passed_on is = record {
     ready = store_ready old store made k saved ready;
     left = refl;
-    limits = grown_limits x old store made ready k saved;
+    limits = silent (grown_limits x old store made ready k saved);
     leads = λ g n w run st. record {
       world = looked g n w run st;
       adds = adds_looked g n w run st;
@@ -173,15 +171,11 @@ print_held term = ap terms_held (outs-Print term)
 pub print_full : (term : Term) (old : Engine) (e : Full) → ((program : CoreProgram) → old.program.now ≡ program → Overflows (cells program (term ∷ [])) (store_in old.store) e) → FullAt (TakesAt (Print term) old) (store_in old.store) e
 print_full term old = term_full (Print term) term (print_held term) old
 
-adds_printed : (ps : List (List ℕ)) (w : World) → Adds (map Piece ps) w (all_printed ps w)
+adds_printed : (ps : List (List ℕ)) (w : World) → Adds (map (λ p. Prints (Piece p)) ps) w (all_printed ps w)
 adds_printed [] w = adds_nothing w
 adds_printed (p ∷ ps) w =
-    let v = printed (Piece p) w in
-    let a = adds_printed ps v in
-    record {
-      prints_are = a.prints_are ∙ ap (λ l. l ++ map Piece ps) (prints_append w.events (Prints (Piece p) ∷ [])) ∙ append_assoc (prints w.events) (Piece p ∷ []) (map Piece ps);
-      typed = a.typed;
-    }
+    let a = adds_printed ps (printed (Piece p) w) in
+    record { events_are = a.events_are; typed = a.typed }
 
 world_printed : (out : Lasting) (g : Game) (ps : List (List ℕ)) (w : World) → InWorld out g w → InWorld out g (all_printed ps w)
 world_printed out g [] w is = is
@@ -209,20 +203,19 @@ module _ (term : Term) (old : Engine) (store : ListBindings) (made : Vec Ref Glo
       ∙ ap (λ S. pieces g.program (resolved S (told s value))) (agrees_behind y term (print_held term) old store value written g n w run st).bound
       ∙ ap (λ p. pieces p (resolved s.state.subst (told s value))) (sym st.at.inside.program)
 
-  prints_next : (g : Game) (n : ℕ) (w : World) (run : Run) → TakesAt y old g n w run → Then (map Piece (pieces_at new value)) w (λ v. StandsAt new g n v run)
+  prints_next : (g : Game) (n : ℕ) (w : World) (run : Run) → TakesAt y old g n w run → Then (map (λ piece. Prints (Piece piece)) (pieces_at new value)) w (λ v. StandsAt new g n v run)
   prints_next g n w run st =
       let r = behind y old g n w run st in
       let v = taken_in y old g n w run st in
       let before = worked (whole_looks r (value_of g.program values term)) v in
       let ps = pieces_at new value in
-      let a = adds_taken r (writing (terms_held (out-Goal y))) w in
       let b = adds_printed ps before in
       let stands : Stands g st.at.inside.lives st.at.ways (path_of (steps_of old) r) n (all_printed ps before) run =
       subst (λ l. Stands g st.at.inside.lives st.at.ways (path_of (steps_of old) r) n (all_printed l before) run) (same_pieces g n w run st)
       (subst (λ f. After g st.at.inside.lives st.at.ways n (outcome g f values old.here.tag (steps_of old) r v) run) (outs-Print term) (comes_of y old g n w run st)) in
       record {
         world = all_printed ps before;
-        adds = record { prints_are = b.prints_are ∙ ap (λ l. l ++ map Piece ps) (a.prints_are ∙ append-nil (prints w.events)); typed = b.typed };
+        adds = record { events_are = b.events_are; typed = b.typed };
         holds = stands_behind y old store made ready k saved g n w (all_printed ps before) run (world_printed old.lasting g ps before st.at.inside.world) st r (agrees_behind y term (print_held term) old store value written g n w run st) refl refl stands;
       }
 

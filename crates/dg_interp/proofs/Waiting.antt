@@ -3,7 +3,7 @@ use Rattle.std.proofs.Common.{◌≡◌, ℕ, List, sym, ap, subst}
 use Rattle.std.specs.Prelude.{map, reverse}
 use Rattle.std.specs.List.{All}
 use Rattle.dg_base.specs.declared.program.Term.{Term}
-use Rattle.dg_meaning.specs.World.{Game, World, Piece}
+use Rattle.dg_meaning.specs.World.{Prints, Game, World, Piece}
 use Rattle.dg_meaning.specs.Pieces.{pieces}
 use Rattle.dg_meaning.specs.Substitutions.{resolved}
 use Rattle.dg_meaning.specs.Moves.{path_of}
@@ -66,13 +66,14 @@ module _ (mid : Engine) (store : ListBindings) (same : store_in store ≡ store_
       trail = subst (λ t. t.trail_limit ≡ (store_in old.store).trail_limit) (sym same) h.limits.trail;
       aux = h.limits.aux;
       keep = h.limits.keep;
+      told = h.limits.told;
     };
     holds = subst (λ t. Holds t value) (sym same) h.holds;
     leads = λ g n w run st.
         let t = h.leads g n w run st in
         record {
           world = t.world;
-          adds = subst (λ u. Adds (map Piece (pieces mid.program.now (resolved u.state.subst (told u value)))) w t.world) (sym same) t.adds;
+          adds = subst (λ u. Adds (map (λ piece. Prints (Piece piece)) (pieces mid.program.now (resolved u.state.subst (told u value)))) w t.world) (sym same) t.adds;
           holds = stands_here g n t.world run t.holds;
         };
   }

@@ -34,7 +34,7 @@ use Rattle.dg_base.specs.Streams.{SourceView}
 use Rattle.dg_interp.specs.inside.Running.{limit_of as ending_of_lack, Gave, LeftBehind, Awaits, Stretch, HasText, Reaches, HasEnded, MeetsLimit, IsNoFurther, Ended, HasPart, IsLimited, TakesMore, LosesInput, LosesOutput, Broken}
 use Rattle.dg_meaning.specs.Engines.{game, left_told, HasShown, HasLostInput, HasLostOutput}
 use Rattle.dg_meaning.specs.inside.Engines.{ForTyped, HasLostMemory}
-use Rattle.dg_base.proofs.WrittenLemmas.{wrote_nothing, wrote_on, broke_first, broke_later}
+use Rattle.dg_base.proofs.WrittenLemmas.{wrote_nothing, wrote_on, broke_later}
 
 -- ## Of two parts of a list the longer
 

@@ -9,7 +9,7 @@ ghost use Rattle.dg_choices.specs.declared.frames.Left.TheVariants.{Rules, Lists
 ghost use Rattle.dg_unify.specs.declared.bindings.Full.TheVariants.{OutOfMemory as WantOfMemory};
 ghost use Rattle.dg_choices.specs.declared.frames.Left.{Left as TheLeft};
 ghost use Rattle.dg_interp.specs.inside.Frames.{IsFrame, BeginsWith, IsOrdinary, IsLeft, stays_with, left_in, floor_of, stretch as the_stretch, values_in, EndsBy, cells_if};
-ghost use Rattle.dg_interp.specs.inside.Engine.{Starts, IsSound, IsReady, StandsAt, FailsAt, TakesAt, BeginsAt, OpensAt, IsPushed, HasPlace, Passes, Settles, FrameLeft, GoesToGoal, GoesBack, Retries, Taken, Branches, WentOn, Tries, FullAt, LackAt, store_in, open_in, pieces_at, WrotePrinted, StaysBut, branches_left, KeepsPlaces, kept_if};
+ghost use Rattle.dg_interp.specs.inside.Engine.{Forgets, Starts, IsSound, IsReady, StandsAt, FailsAt, TakesAt, BeginsAt, OpensAt, IsPushed, HasPlace, Passes, Settles, FrameLeft, GoesToGoal, GoesBack, Retries, Taken, Branches, WentOn, Tries, FullAt, LackAt, store_in, open_in, pieces_at, WrotePrinted, StaysBut, branches_left, KeepsPlaces, kept_if};
 ghost use Rattle.dg_base.specs.declared.program.CoreProgram.{CoreProgram as Program};
 ghost use Rattle.dg_base.specs.declared.run.Limits.{Limits as TheLimits};
 ghost use Rattle.dg_meaning.specs.Cells.{cells};
@@ -31,6 +31,7 @@ mod passing;
 mod querying;
 mod selecting;
 mod stopping;
+mod telling;
 mod throwing;
 mod trying;
 mod wording;
@@ -42,7 +43,9 @@ use dg_spacing::Spacer;
 use dg_terms::{choice_cells, new_variables, pass, unify_all, write_term, write_terms};
 use dg_texts::print_value;
 use dg_unify::{Bindings, Full, ListBindings, Mark as Place, Ref, View};
+use dg_watch::CallEvent;
 use std::alloc::{AllocError, Global};
+use telling::{tell_again, tell_retries};
 
 /// Where a run stands.
 #[derive(Drop)]
@@ -54,6 +57,7 @@ pub struct Engine<'p> {
     frames: Vec<Frame<'p>>,
     choices: Vec<Choice<'p>>,
     made: Vec<Ref>,
+    told: Vec<CallEvent>,
     here: Frame<'p>,
     newest: u64,
     stoppable: Option<u64>,
@@ -215,6 +219,7 @@ impl<'p> Engine<'p> {
             frames: Vec::new(alloc),
             choices: Vec::new(alloc),
             made: Vec::new(alloc),
+            told: Vec::new(alloc),
             here: Frame {
                 goals: entry,
                 env: Env { from: 0, len: 0 },
@@ -271,6 +276,9 @@ impl<'p> Engine<'p> {
         match mark {
             Mark::Nothing => Ok(true),
             Mark::AnswerOf(query) => {
+                if let Err(_) = self.told.push(CallEvent::Answered(query.pred)) {
+                    return Err(Lack::OutOfMemory);
+                }
                 answered(&mut self.choices, query, self.here.tag);
                 Ok(true)
             }
@@ -327,6 +335,13 @@ impl<'p> Engine<'p> {
             self.leave_frame();
         }
         Ok(Settled::Goal)
+    }
+
+    /// Forgets what was told.
+    pub fn forget(&mut self)
+        ensures { Forgets self.old self.new }
+    {
+        self.told.clear();
     }
 
     /// The frame at hand.
@@ -421,11 +436,18 @@ impl<'p> Engine<'p> {
         ensures left { self.new.left ≡ self.old.left }
     {
         let first = self.first_of(args);
-        let rules = pass(first, rules);
-        if rules.is_empty() {
+        let left = pass(first, rules);
+        let passed = rules.len().saturating_sub(left.len().max(1));
+        if let Err(_) = tell_retries(&mut self.told, query.pred, passed) {
+            return Err(Full::OutOfMemory);
+        }
+        if left.is_empty() {
+            if let Err(_) = self.told.push(CallEvent::Failed(query.pred)) {
+                return Err(Full::OutOfMemory);
+            }
             return Ok(false);
         }
-        self.enter_rule(query, args, first, rules, place)
+        self.enter_rule(query, args, first, left, place)
     }
 
     /// Begins a frame, in front of other branches, with which the choice stays or not.
@@ -548,6 +570,9 @@ impl<'p> Engine<'p> {
                 self.store.undo(choice.place);
                 self.newest = choice.tag;
                 self.stoppable = choice.stoppable;
+                if let Err(_) = tell_again(&mut self.told, choice.left) {
+                    return Err(Full::OutOfMemory);
+                }
                 match self.begin(choice.left, choice.place) {
                     Ok(begun) => Ok(Some(begun)),
                     Err(e) => Err(e),
@@ -646,8 +671,14 @@ impl<'p> Engine<'p> {
         ) {
             Err(e) => Err(e),
             Ok(args) => {
+                if let Err(_) = self.told.push(CallEvent::Asked(query.pred)) {
+                    return Err(Full::OutOfMemory);
+                }
                 let rules = rules_of(self.program, query.pred);
                 if rules.is_empty() {
+                    if let Err(_) = self.told.push(CallEvent::Failed(query.pred)) {
+                        return Err(Full::OutOfMemory);
+                    }
                     return self.back();
                 }
                 if let Err(_) = self.frames.push(self.here) {

@@ -8,5 +8,6 @@ mod interpreter;
 mod laws;
 mod run;
 
+pub use dg_watch::CallEvent;
 pub use interpreter::interpret;
 pub use laws::programs_are_runnable;

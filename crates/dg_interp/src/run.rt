@@ -196,7 +196,10 @@ fn turn<S: Source, K: Sink>(
         Err(fault) => Err(fault),
         Ok(Some(ending)) => Ok(Some(ending)),
         Ok(None) => match engine.next_goal() {
-            Ok(ending) => Ok(ending),
+            Ok(ending) => {
+                engine.forget();
+                Ok(ending)
+            }
             Err(lack) => match limit(lack) {
                 Ok(ending) => Ok(Some(ending)),
                 Err(fault) => Err(fault),

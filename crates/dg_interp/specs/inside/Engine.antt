@@ -4,13 +4,14 @@ use Rattle.std.specs.List.{All}
 use Rattle.dg_base.specs.declared.program.Goal.{Goal, Goal-F}
 use Rattle.dg_base.specs.declared.program.Goal.TheVariants.{Print as PrintGoal, Stop as StopGoal}
 use Rattle.dg_base.specs.declared.program.Goal.TheOpen.{Text, Print as PrintForm, Gap, GapN, Now, Quit, Stop, Input, Collect, Accumulate}
+use Rattle.dg_base.specs.declared.program.Rule.{Rule}
 use Rattle.dg_base.specs.declared.program.Term.{Term}
 use Rattle.dg_base.specs.declared.program.CoreProgram.{CoreProgram}
 use Rattle.dg_base.specs.Sound.{IsSound as IsSoundProgram}
 use Rattle.dg_base.specs.declared.run.Ending.{Ending}
 use Rattle.dg_base.specs.declared.run.Limits.{Limits}
 use Rattle.dg_base.specs.declared.run.Ending.TheVariants.{Done as Done-Ending, Failed as Failed-Ending, Stopped}
-use Rattle.dg_meaning.specs.World.{Game, World, Print, Piece, prints}
+use Rattle.dg_meaning.specs.World.{Game, World, Piece, Event, Prints, Asked, Answered, Retried, HasFailed}
 use Rattle.dg_meaning.specs.Facts.{kinds_of, kept_size, start_facts}
 use Rattle.dg_meaning.specs.Substitutions.{resolved}
 use Rattle.dg_meaning.specs.Pieces.{pieces}
@@ -32,10 +33,12 @@ use Rattle.dg_unify.specs.declared.bindings.Mark.{Mark as Place}
 use Rattle.dg_unify.specs.declared.list.ListBindings.{ListBindings}
 use Rattle.dg_choices.specs.declared.frames.Mark.TheVariants.{Nothing}
 use Rattle.dg_choices.specs.declared.frames.Left.{Left}
-use Rattle.dg_choices.specs.declared.frames.Left.TheVariants.{Behind}
+use Rattle.dg_choices.specs.declared.frames.Left.TheVariants.{Rules, Behind}
 use Rattle.dg_choices.specs.declared.frames.Frame.{Frame}
 use Rattle.dg_choices.specs.declared.frames.Choice.{Choice}
 use Rattle.dg_interp.specs.declared.engine.Engine.{Engine}
+use Rattle.dg_watch.specs.declared.watch.CallEvent.{CallEvent}
+use Rattle.dg_watch.specs.declared.watch.CallEvent.TheVariants as call
 use Rattle.dg_lasting.specs.declared.lack.Lack.{Lack}
 use Rattle.dg_lasting.specs.declared.lasting.Lasting.{Lasting}
 use Rattle.dg_lasting.specs.Lacks.{area_of}
@@ -135,13 +138,18 @@ pub record FailsAt (e : Engine) (g : Game) (n : ℕ) (w : World) (run : Run) : T
   pub inside : Inside e g w
   pub failed : Failed g inside.lives n w run
 
--- From one world to another these things were printed, and nothing was read.
-pub record Adds (es : List Print) (old new : World) : Type 0 where
-  pub prints_are : prints new.events ≡ prints old.events ++ es
+-- Some things with others behind them, one after another.
+abbrev pub with_all : {A : Type 0} → List A → List A → List A
+with_all xs [] = xs
+with_all xs (y ∷ ys) = with_all (xs ++ y ∷ []) ys
+
+-- From one world to another these things happened, and nothing was read.
+pub record Adds (es : List Event) (old new : World) : Type 0 where
+  pub events_are : new.events ≡ with_all old.events es
   pub typed : new.typed ≡ old.typed
 
--- After these things were printed, this holds.
-pub record Then (es : List Print) (w : World) (P : World → Type 0) : Type 0 where
+-- After these things happened, this holds.
+pub record Then (es : List Event) (w : World) (P : World → Type 0) : Type 0 where
   pub world : World
   pub adds : Adds es w world
   pub holds : P world
@@ -164,9 +172,26 @@ pub record Starts (program : CoreProgram) (limits : Limits) (dice : List ℕ) (e
   pub limits_are : (area : Area) → limit_in area e ≡ limit_of area limits
   pub stands : (g : Game) (n : ℕ) (typed : List ℕ) → g.program ≡ program → g.dice ≡ dice → StandsAt e g n (start_world g typed) (run g typed n)
 
--- A run that comes from one point comes from the other, and nothing was printed.
+-- What a call is among the things that happen.
+abbrev pub event_of : CallEvent → List Event
+event_of (call.Asked pred) = Asked pred ∷ []
+event_of (call.Answered pred) = Answered pred ∷ []
+event_of (call.Retried pred) = Retried pred ∷ []
+event_of (call.Failed pred) = HasFailed pred ∷ []
+event_of call.Printed = []
+
+-- What calls are.
+abbrev pub events_of : List CallEvent → List Event
+events_of [] = []
+events_of (c ∷ cs) = event_of c ++ events_of cs
+
+-- A run that comes from one point comes from the other once these calls have happened.
+abbrev pub LeadsBy : List CallEvent → Point → Point → Type 0
+LeadsBy calls From To = (g : Game) (n : ℕ) (w : World) (run : Run) → From g n w run → Then (events_of calls) w (λ v. To g n v run)
+
+-- A run that comes from one point comes from the other, and nothing happens.
 abbrev pub Leads : Point → Point → Type 0
-Leads From To = (g : Game) (n : ℕ) (w : World) (run : Run) → From g n w run → Then [] w (λ v. To g n v run)
+Leads From To = LeadsBy [] From To
 
 -- A run that comes from there has ended so.
 abbrev pub Ends : Point → Result → Type 0
@@ -198,6 +223,23 @@ pub record SameLimits (old new : Engine) : Type 0 where
   pub aux : new.lasting.gathered.aux ≡ old.lasting.gathered.aux
   pub keep : new.lasting.world.area.keep ≡ old.lasting.world.area.keep
 
+-- The limits are the same, and nothing was told.
+pub record Silent (old new : Engine) : Type 0 where
+  pub heap : (store_in new.store).heap_limit ≡ (store_in old.store).heap_limit
+  pub trail : (store_in new.store).trail_limit ≡ (store_in old.store).trail_limit
+  pub aux : new.lasting.gathered.aux ≡ old.lasting.gathered.aux
+  pub keep : new.lasting.world.area.keep ≡ old.lasting.world.area.keep
+  pub told : new.told.items ≡ old.told.items
+
+-- The limits are the same, and these calls were told.
+pub record Tells (old new : Engine) : Type 0 where
+  pub heap : (store_in new.store).heap_limit ≡ (store_in old.store).heap_limit
+  pub trail : (store_in new.store).trail_limit ≡ (store_in old.store).trail_limit
+  pub aux : new.lasting.gathered.aux ≡ old.lasting.gathered.aux
+  pub keep : new.lasting.world.area.keep ≡ old.lasting.world.area.keep
+  pub calls : List CallEvent
+  pub told : new.told.items ≡ with_all old.told.items calls
+
 -- How many choices it has, and branches that they have left.
 abbrev pub branches_left : Engine → ℕ
 branches_left e = all_left (reverse e.choices.items)
@@ -206,20 +248,21 @@ branches_left e = all_left (reverse e.choices.items)
 pub record WentOn (From : Point) (old new : Engine) : Type 0 where
   pub ready : IsReady new
   pub left : new.left ≡ old.left
-  pub limits : SameLimits old new
-  pub leads : Leads From (StandsAt new)
+  pub limits : Tells old new
+  pub leads : LeadsBy limits.calls From (StandsAt new)
 
 -- The run has failed inside the choices of the engine.
 pub record WentWrong (From : Point) (old new : Engine) : Type 0 where
   pub sound : IsSound new
   pub left : new.left ≡ old.left
-  pub limits : SameLimits old new
-  pub leads : Leads From (FailsAt new)
+  pub limits : Tells old new
+  pub leads : LeadsBy limits.calls From (FailsAt new)
 
 -- The run has ended so.
 pub record HasEndedSo (From : Point) (result : Result) (old new : Engine) : Type 0 where
   pub left : new.left ≡ old.left
-  pub ends : Ends From result
+  pub limits : Tells old new
+  pub ends : LeadsBy limits.calls From (λ g n v run. Finished n v result run)
 
 -- The goals at hand are done, and so is the mark behind them.
 pub record MarkPassed (old new : Engine) : Type 0 where
@@ -299,7 +342,7 @@ IsOnStore x = Unit {0}
 pub record Taken (x : Goal) (old new : Engine) : Type 0 where
   pub ready : IsReady new
   pub left : old.left ≡ suc new.left
-  pub limits : SameLimits old new
+  pub limits : Silent old new
   pub room : new.newest + 1 + new.left < 2 ^ 64
   pub picks : MayPick (new.left + 1) (picks_in new.lasting)
   pub runnable : IsRunnableGoal x
@@ -321,12 +364,27 @@ pub record StaysBut (old new : Engine) : Type 0 where
 pub record WrotePrinted (term : Term) (value : Ref) (old new : Engine) : Type 0 where
   pub ready : IsReady new
   pub left : new.left ≡ old.left
-  pub limits : SameLimits old new
+  pub limits : Silent old new
   pub holds : Holds (store_in new.store) value
   pub leads : (g : Game) (n : ℕ) (w : World) (run : Run) → TakesAt (PrintGoal term) old g n w run →
-      Then (map Piece (pieces_at new value)) w (λ v. StandsAt new g n v run)
+      Then (map (λ piece. Prints (Piece piece)) (pieces_at new value)) w (λ v. StandsAt new g n v run)
+
+-- What was told is forgotten.
+pub record Forgets (old new : Engine) : Type 0 where
+  pub told : new.told.items ≡ []
+  pub same : new ≡ record old { told = new.told }
 
 -- ## Branches
+
+-- That a query goes on to the first of some rules, where there is one.
+abbrev pub again_rules : ℕ → List Rule → List CallEvent
+again_rules pred [] = []
+again_rules pred (rule ∷ rules) = call.Retried pred ∷ []
+
+-- What is told where a choice with these branches left is tried again.
+abbrev pub again : Left → List CallEvent
+again (Rules query args rules) = again_rules query.pred rules.now
+again other = []
 
 -- From there a branch has begun, or the run has failed.
 abbrev pub Branches : Point → Bool → Engine → Engine → Type 0
@@ -407,14 +465,14 @@ pub record StopsAt (s : ℕ) (e : Engine) (g : Game) (n : ℕ) (w : World) (run 
 pub record StopsWithin (s : ℕ) (old new : Engine) : Type 0 where
   pub sound : IsSound new
   pub left : new.left ≡ old.left
-  pub limits : SameLimits old new
+  pub limits : Silent old new
   pub leads : Leads (StopsAt s old) (StopsAt s new)
 
 -- The same, with a choice fewer.
 pub record StopsFurther (s : ℕ) (old new : Engine) : Type 0 where
   pub sound : IsSound new
   pub left : new.left ≡ old.left
-  pub limits : SameLimits old new
+  pub limits : Silent old new
   pub leads : Leads (StopsAt s old) (StopsAt s new)
   pub fewer : branches_left new < branches_left old
 

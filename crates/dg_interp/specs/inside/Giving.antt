@@ -4,7 +4,7 @@ use Rattle.dg_base.specs.declared.program.Goal.{Goal}
 use Rattle.dg_base.specs.declared.program.Goal.TheVariants.{GapN}
 use Rattle.dg_base.specs.declared.program.Term.{Term}
 use Rattle.dg_meaning.specs.Unify.{Equations}
-use Rattle.dg_meaning.specs.World.{Game, World, Print, SpacesOf}
+use Rattle.dg_meaning.specs.World.{Game, World, Print, Prints, SpacesOf}
 use Rattle.dg_meaning.specs.Path.{Registers, Act, Unifies}
 use Rattle.dg_meaning.specs.Moves.{move_of, gives_number}
 use Rattle.dg_meaning.specs.Transcript.{Run}
@@ -12,7 +12,7 @@ use Rattle.dg_meaning.specs.inside.Keeps.{Went}
 use Rattle.dg_unify.specs.Store.{told}
 use Rattle.dg_unify.specs.declared.bindings.Ref.{Ref}
 use Rattle.dg_interp.specs.declared.engine.Engine.{Engine}
-use Rattle.dg_interp.specs.inside.Engine.{Point, There, steps_of, store_in, IsReady, SameLimits, TakesAt, StandsAt, Then, WentWrong}
+use Rattle.dg_interp.specs.inside.Engine.{Point, There, steps_of, store_in, IsReady, Silent, TakesAt, StandsAt, Then, WentWrong}
 
 -- The run comes from an act, of which the terms are written, where the engine is.
 pub record ActsAt (act : Registers → World → Act) (e : Engine) (g : Game) (n : ℕ) (w : World) (run : Run) : Type 0 where
@@ -35,8 +35,8 @@ GivesAt n into e = ActsAt (λ r w. gives_number n (told (store_in e.store) into)
 pub record PrintsOne (e : Print) (x : Goal) (old new : Engine) : Type 0 where
   pub ready : IsReady new
   pub left : new.left ≡ old.left
-  pub limits : SameLimits old new
-  pub leads : (g : Game) (n : ℕ) (w : World) (run : Run) → TakesAt x old g n w run → Then (e ∷ []) w (λ v. StandsAt new g n v run)
+  pub limits : Silent old new
+  pub leads : (g : Game) (n : ℕ) (w : World) (run : Run) → TakesAt x old g n w run → Then (Prints e ∷ []) w (λ v. StandsAt new g n v run)
 
 -- So many spaces are to be printed by a goal, or what it names is no number.
 abbrev pub TellsSpaces : Term → Option ℕ → Engine → Engine → Type 0

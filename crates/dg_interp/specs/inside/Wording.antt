@@ -7,7 +7,7 @@ use Rattle.dg_meaning.specs.Moves.{gives, takes_line}
 use Rattle.dg_unify.specs.Store.{told, Holds}
 use Rattle.dg_unify.specs.declared.bindings.Ref.{Ref}
 use Rattle.dg_interp.specs.declared.engine.Engine.{Engine}
-use Rattle.dg_interp.specs.inside.Engine.{Point, Leads, store_in, IsReady, SameLimits, TakesAt}
+use Rattle.dg_interp.specs.inside.Engine.{Point, Leads, store_in, IsReady, Silent, TakesAt}
 use Rattle.dg_interp.specs.inside.Giving.{ActsAt}
 use Rattle.dg_meaning.specs.Engines.{game}
 
@@ -27,7 +27,7 @@ TakesLineAt into e = ActsAt (λ r w. takes_line (game e.program.now []) w.typed 
 pub record AwaitsInput (term : Term) (into : Ref) (old new : Engine) : Type 0 where
   pub ready : IsReady new
   pub left : new.left ≡ old.left
-  pub limits : SameLimits old new
+  pub limits : Silent old new
   pub holds : Holds (store_in new.store) into
   pub program : new.program ≡ old.program
   pub leads : Leads (TakesAt (Input term) old) (TakesLineAt into new)

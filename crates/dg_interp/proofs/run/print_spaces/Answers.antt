@@ -4,7 +4,7 @@ use Rattle.dg_base.specs.declared.program.Goal.TheVariants.{GapN}
 use Rattle.dg_meaning.specs.World.{SpacesOf}
 use Rattle.dg_interp.specs.inside.Engine.{store_in, FailsAt, TakesAt, Branches}
 use Rattle.dg_interp.specs.inside.Giving.{TellsSpaces}
-use Rattle.dg_interp.proofs.Branches.{full_made, back_made}
+use Rattle.dg_interp.proofs.Branches.{full_made_by, back_by}
 use Rattle.dg_interp.proofs.Runs.{lack_from, stored_done, stored_lacks, goal_does, goal_breaks}
 use Rattle.dg_interp.proofs.Spaces.{told_done, told_lost}
 use Rattle.dg_interp.proofs.run.print_spaces.Goals as goal
@@ -24,10 +24,10 @@ returns-in-Ok-None-clause-ok g c = λ old source some taken.
     goal_does (GapN c.args.term.now) old mid c.args.spacer.now _ source some taken c.back.new.self (c.back.ensures.left ∙ c.spaces.ensures.left) c.stored.result c.outcome-in-Ok-None.result c.outcome-in-Ok-None.ensures
     (rw c.stored.ensures
     (stored_done (λ found. Branches (TakesAt (GapN c.args.term.now) mid) found mid c.back.new.self) c.back.result
-    (back_made (TakesAt (GapN c.args.term.now) mid) (FailsAt e) mid e c.back.new.self wrong.left wrong.limits wrong.leads c.back.result c.back.ensures.back)))
+    (back_by (TakesAt (GapN c.args.term.now) mid) (FailsAt e) mid e c.back.new.self wrong.left wrong.limits wrong.leads c.back.result c.back.ensures.back)))
     (rw c.stored.ensures
     (stored_lacks (TakesAt (GapN c.args.term.now) mid) mid c.back.result
-    (full_made (TakesAt (GapN c.args.term.now) mid) (FailsAt e) (store_in mid.store) (store_in e.store) c.back.result wrong.limits.heap wrong.limits.trail wrong.leads c.back.ensures.full)))
+    (full_made_by wrong.limits.calls (TakesAt (GapN c.args.term.now) mid) (FailsAt e) (store_in mid.store) (store_in e.store) c.back.result wrong.limits.heap wrong.limits.trail wrong.leads c.back.ensures.full)))
 
 pub returns-in-Ok-None-clause-err : goal.returns-in-Ok-None-clause-err
 returns-in-Ok-None-clause-err g c = λ old source some taken. goal_breaks (GapN c.args.term.now) old c.args.engine.now c.args.spacer.now _ source some taken c.stored.result c.outcome-in-Ok-None.result c.outcome-in-Ok-None.ensures

@@ -14,7 +14,7 @@ returns-then-is_empty-clause-full c =
 pub returns-then-is_empty-clause-done : goal.returns-then-is_empty-clause-done
 returns-then-is_empty-clause-done c =
     let old = c.args.self.now in
-    back_made (TakesAt (Either c.args.lists.now) old) (FailsAt old) old old c.back.new.self refl (record { heap = refl; trail = refl; aux = refl; keep = refl }) (either_fails c.args.lists.now old (no_lists c.args.lists.now (search rules))) c.back.result c.back.ensures.back
+    back_made (TakesAt (Either c.args.lists.now) old) (FailsAt old) old old c.back.new.self refl (record { heap = refl; trail = refl; aux = refl; keep = refl; told = refl }) (either_fails c.args.lists.now old (no_lists c.args.lists.now (search rules))) c.back.result c.back.ensures.back
 
 pub open-requires-clause-left : goal.open-requires-clause-left
 open-requires-clause-left c =

@@ -16,4 +16,4 @@ returns-clause-full c =
 pub returns-clause-done : goal.returns-clause-done
 returns-clause-done c =
     let old = c.args.self.now in
-    branches_made (TakesAt Forever old) (OpensAt _ old) old old c.open.new.self refl (record { heap = refl; trail = refl; aux = refl; keep = refl }) (forever_opens c.args.again old c.requires.again) c.open.result c.open.ensures.opened
+    branches_made (TakesAt Forever old) (OpensAt _ old) old old c.open.new.self refl (record { heap = refl; trail = refl; aux = refl; keep = refl; told = refl }) (forever_opens c.args.again old c.requires.again) c.open.result c.open.ensures.opened

@@ -18,4 +18,4 @@ returns-clause-full c =
 pub returns-clause-done : goal.returns-clause-done
 returns-clause-done c =
     let old = c.args.self.now in
-    branches_made (TakesAt (Not c.args.goals.now) old) (OpensAt _ old) old old c.open.new.self refl (record { heap = refl; trail = refl; aux = refl; keep = refl }) (not_opens c.args.goals old) c.open.result c.open.ensures.opened
+    branches_made (TakesAt (Not c.args.goals.now) old) (OpensAt _ old) old old c.open.new.self refl (record { heap = refl; trail = refl; aux = refl; keep = refl; told = refl }) (not_opens c.args.goals old) c.open.result c.open.ensures.opened

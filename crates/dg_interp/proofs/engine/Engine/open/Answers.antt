@@ -1,6 +1,6 @@
 use Rattle.std.proofs.Common.{refl, ◌+◌}
 use Rattle.dg_interp.specs.inside.Engine.{store_in, OpensAt, BeginsAt, FailsAt}
-use Rattle.dg_interp.proofs.Branches.{went_on_from, went_wrong_from, full_from, full_made, back_made}
+use Rattle.dg_interp.proofs.Branches.{went_on_from, went_wrong_from, full_from, full_made_by, back_by}
 use Rattle.dg_interp.proofs.Opens.{opened_place, opened_limits, opened_sound, opens_begins}
 use Rattle.dg_interp.proofs.engine.Engine.open.Goals as goal
 
@@ -33,7 +33,7 @@ returns-in-Ok-false-clause-full c =
     let k = c.mark-place.ensures.kept in
     let wrong = went_wrong_from (OpensAt c.args.left old) (BeginsAt c.args.left c.mark-place.result e) old e c.begin.new.self refl (opened_limits old c.args.left c.mark-place.result c.mark-place.new.self c.requires.ready k c.mark-place.ensures.same c.mark-place.ensures.saved)
     (opens_begins old c.args.left c.mark-place.result c.mark-place.new.self c.requires.ready k c.mark-place.ensures.same c.mark-place.ensures.saved c.requires.ordinary c.requires.left) (rw c.in-Ok-false.field-0-test at c.in-Ok-false.ensures.tried) in
-    full_made (OpensAt c.args.left old) (FailsAt c.begin.new.self) (store_in old.store) (store_in c.begin.new.self.store) c.back.result wrong.limits.heap wrong.limits.trail wrong.leads c.back.ensures.full
+    full_made_by wrong.limits.calls (OpensAt c.args.left old) (FailsAt c.begin.new.self) (store_in old.store) (store_in c.begin.new.self.store) c.back.result wrong.limits.heap wrong.limits.trail wrong.leads c.back.ensures.full
 
 pub returns-in-Ok-false-clause-opened : goal.returns-in-Ok-false-clause-opened
 returns-in-Ok-false-clause-opened c =
@@ -42,4 +42,4 @@ returns-in-Ok-false-clause-opened c =
     let k = c.mark-place.ensures.kept in
     let wrong = went_wrong_from (OpensAt c.args.left old) (BeginsAt c.args.left c.mark-place.result e) old e c.begin.new.self refl (opened_limits old c.args.left c.mark-place.result c.mark-place.new.self c.requires.ready k c.mark-place.ensures.same c.mark-place.ensures.saved)
     (opens_begins old c.args.left c.mark-place.result c.mark-place.new.self c.requires.ready k c.mark-place.ensures.same c.mark-place.ensures.saved c.requires.ordinary c.requires.left) (rw c.in-Ok-false.field-0-test at c.in-Ok-false.ensures.tried) in
-    back_made (OpensAt c.args.left old) (FailsAt c.begin.new.self) old c.begin.new.self c.back.new.self wrong.left wrong.limits wrong.leads c.back.result c.back.ensures.back
+    back_by (OpensAt c.args.left old) (FailsAt c.begin.new.self) old c.begin.new.self c.back.new.self wrong.left wrong.limits wrong.leads c.back.result c.back.ensures.back

@@ -27,6 +27,6 @@ returns-in-Ok-clause-done c =
     let old = c.args.self.now in
     let made = one_among c.args.term.now old (store_in c.write_term.new.store) c.in-Ok.value c.stretch-env.result.now (c.stretch-env.ensures ∙ ap (λ (l : List Ref). stretch l old.here.env) c.deref.ensures.value) c.in-Ok.ensures.written in
     let mid = record old { store = c.write_term.new.store; made = c.clear.new.self } in
-    branches_made (TakesAt (Query c.args.term.now None c.args.many) old) (QueriesAt c.in-Ok.value c.args.many mid) old mid c.ask_value.new.self refl (record { heap = c.write_term.ensures.kept.heap_limit; trail = c.write_term.ensures.kept.trail_limit; aux = refl; keep = refl })
+    branches_made (TakesAt (Query c.args.term.now None c.args.many) old) (QueriesAt c.in-Ok.value c.args.many mid) old mid c.ask_value.new.self refl (record { heap = c.write_term.ensures.kept.heap_limit; trail = c.write_term.ensures.kept.trail_limit; aux = refl; keep = refl; told = refl })
     (asks c.args.term.now None c.args.many old c.write_term.new.store c.clear.new.self c.in-Ok.value c.requires.ready c.write_term.ensures.kept c.write_term.ensures.saved (one_agrees c.args.term.now c.args.many old c.write_term.new.store c.in-Ok.value made)
     (λ program e. told_is (store_in c.write_term.new.store) c.in-Ok.value _ (made program e).value) (λ program e. ap (map (told (store_in c.write_term.new.store))) c.clear.ensures.items)) c.ask_value.result c.ask_value.ensures.asked

@@ -31,6 +31,6 @@ returns-else-is_err-clause-done c =
     let made = two_among c.args.term.now c.args.arg.now old t c.in-Ok.value c.in-Ok.arg c.stretch-env.result.now (c.stretch-env.ensures ∙ ap (λ (l : List Ref). stretch l old.here.env) c.deref.ensures.value) c.in-Ok.ensures.written in
     let items : c.push.new.self.items ≡ c.in-Ok.arg ∷ [] = search rules in
     let mid = record old { store = c.write_both.new.store; made = c.push.new.self } in
-    branches_made (TakesAt (Query c.args.term.now (Some c.args.arg.now) c.args.many) old) (QueriesAt c.in-Ok.value c.args.many mid) old mid c.ask_value.new.self refl (record { heap = c.write_both.ensures.kept.heap_limit; trail = c.write_both.ensures.kept.trail_limit; aux = refl; keep = refl })
+    branches_made (TakesAt (Query c.args.term.now (Some c.args.arg.now) c.args.many) old) (QueriesAt c.in-Ok.value c.args.many mid) old mid c.ask_value.new.self refl (record { heap = c.write_both.ensures.kept.heap_limit; trail = c.write_both.ensures.kept.trail_limit; aux = refl; keep = refl; told = refl })
     (asks c.args.term.now (Some c.args.arg.now) c.args.many old c.write_both.new.store c.push.new.self c.in-Ok.value c.requires.ready c.write_both.ensures.kept c.write_both.ensures.saved (both_agree c.args.term.now c.args.arg.now c.args.many old c.write_both.new.store c.in-Ok.value c.in-Ok.arg made)
     (λ program e. (made program e).left_is) (λ program e. ap (map (told t)) items ∙ ap (λ (v : Value). v ∷ []) (made program e).right_is)) c.ask_value.result c.ask_value.ensures.asked

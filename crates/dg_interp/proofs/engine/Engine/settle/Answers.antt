@@ -1,7 +1,7 @@
 use Rattle.std.proofs.Common.{arith, ◌≤◌, ◌∙◌}
 use Rattle.dg_interp.specs.inside.Engine.{StandsAt, branches_left}
 use Rattle.dg_interp.proofs.Places.{went_nowhere, went_further, went_wrong, all_done}
-use Rattle.dg_interp.proofs.Gathered.{lacks_from}
+use Rattle.dg_interp.proofs.Gathered.{lacks_by}
 use Rattle.dg_interp.proofs.engine.Engine.settle.Goals as goal
 
 pub loop-self-init : goal.loop-self-init
@@ -10,7 +10,7 @@ loop-self-init c = record { went_on = went_nowhere c.args.self.now c.requires.re
 pub returns-in-Err-clause-lacks : goal.returns-in-Err-clause-lacks
 returns-in-Err-clause-lacks c =
     let w = c.loop-self.invariant.went_on in
-    lacks_from (StandsAt c.args.self.now) (StandsAt c.loop-self.self) c.args.self.now c.loop-self.self w.limits w.leads c.in-Err.lack c.in-Err.ensures.lacks
+    lacks_by (StandsAt c.args.self.now) (StandsAt c.loop-self.self) c.args.self.now c.loop-self.self w.limits w.leads c.in-Err.lack c.in-Err.ensures.lacks
 
 pub returns-in-Err-clause-left : goal.returns-in-Err-clause-left
 returns-in-Err-clause-left c = c.pass_mark.ensures.left ∙ c.loop-self.invariant.went_on.left

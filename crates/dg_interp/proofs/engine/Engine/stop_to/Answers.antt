@@ -14,7 +14,7 @@ stop_newest-requires c = record { sound = c.choices.invariant.sound }
 pub returns-in-None : goal.returns-in-None
 returns-in-None c =
     let w = c.choices.invariant in
-    ended_from (StopsAt c.args.tag c.args.self.now) (StopsAt c.args.tag c.choices.self) (End Stopped) c.args.self.now c.choices.self c.stop_newest.new.self w.left w.leads c.in-None.ensures
+    ended_from (StopsAt c.args.tag c.args.self.now) (StopsAt c.args.tag c.choices.self) (End Stopped) c.args.self.now c.choices.self c.stop_newest.new.self w.left w.limits w.leads c.in-None.ensures
 
 pub returns-in-Some-true : goal.returns-in-Some-true
 returns-in-Some-true c =

@@ -6,7 +6,7 @@ use Rattle.dg_interp.specs.inside.Giving.{UnifiesAt, GivesAt}
 use Rattle.dg_interp.specs.inside.Gathering.{TakesOutAt}
 use Rattle.dg_interp.specs.inside.Engine.{store_in, FailsAt, Leads}
 use Rattle.dg_interp.proofs.Takes.{store_ready}
-use Rattle.dg_interp.proofs.Places.{leads_on, limits_on}
+use Rattle.dg_interp.proofs.Places.{silent, leads_on, limits_on}
 use Rattle.dg_interp.proofs.Giving.{kept_limits, none_given, number_given}
 use Rattle.dg_interp.proofs.Branches.{tries_made, full_made}
 use Rattle.dg_interp.proofs.TakingOut.{none_wrong, some_first, sum_ready, sum_limits, sum_taken}
@@ -27,7 +27,7 @@ returns-in-None-clause-tried c =
     record {
       sound = (sum_ready c.args.into old c.requires.ready c.in-Some.cells.now c.in-Some.ensures c.close_to.new.self closed c.sum-total.result c.sum-total.ensures).sound;
       left = refl;
-      limits = sum_limits c.args.into old c.requires.ready c.in-Some.cells.now c.in-Some.ensures c.close_to.new.self closed c.sum-total.result c.sum-total.ensures;
+      limits = silent (sum_limits c.args.into old c.requires.ready c.in-Some.cells.now c.in-Some.ensures c.close_to.new.self closed c.sum-total.result c.sum-total.ensures);
       leads = leads_on (TakesOutAt InSum c.args.into old) (GivesAt None c.args.into e) (FailsAt e) (subst (λ n. Leads (TakesOutAt InSum c.args.into old) (GivesAt n c.args.into e)) c.in-None.is taken) (none_given c.args.into e);
     }
 
