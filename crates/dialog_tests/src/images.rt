@@ -67,7 +67,7 @@ fn played(
     requires other_short { body_bytes other.now < 8000 }
 {
     let parts = parts_of(alloc, main, other)?;
-    let mut player = Player::load(alloc, build(alloc, parts)?)?;
+    let mut player = Player::load(alloc, build(alloc, parts)?.story)?;
     let mut source = SureSource::new(b"Xyzzy\n".as_slice().to_vec(alloc)?);
     let mut sink = SureSink::new(alloc, 100)?;
     let end = player.run(100, &mut source, &[0], &mut sink)?;

@@ -73,7 +73,7 @@ fn printed(
     requires next_short { body_bytes next.now < 8000 }
 {
     let parts = parts_of(alloc, main, next)?;
-    let mut player = Player::load(alloc, build(alloc, parts)?)?;
+    let mut player = Player::load(alloc, build(alloc, parts)?.story)?;
     let mut source = SureSource::new(Vec::new(alloc));
     let mut sink = SureSink::new(alloc, 100)?;
     let end = player.run(10_000, &mut source, &[0], &mut sink)?;
