@@ -1,41 +1,18 @@
--- What a watch is told, one stretch behind another.
-use Rattle.std.proofs.Common.{◌≡◌, ℕ, zero, suc, ◌+◌, ◌-◌, ◌≤◌, List, [], ◌∷◌, ◌++◌, Option, Some, None, refl, sym, ap, ◌∙◌, subst, arith, length, take, drop, append_assoc, length-drop}
+-- What is told, one stretch behind another.
+use Rattle.std.proofs.Common.{◌≡◌, ℕ, zero, suc, ◌+◌, ◌-◌, ◌≤◌, List, [], ◌∷◌, ◌++◌, refl, sym, ap, ◌∙◌, subst, arith, length, take, drop, append_assoc, length-drop}
+use Rattle.std.specs.Prelude.{Result, Ok, Err}
 use Rattle.std.proofs.lemmas.List.{append-nil, take-append-drop}
 use Rattle.dg_base.specs.Causes.{Rose}
 use Rattle.dg_base.proofs.WrittenLemmas.{rest_at}
 use Rattle.dg_watch.specs.Told.{Told, Took, took}
-use Rattle.dg_watch.specs.Watching.{Test, Watching, TestBehind, FailsTest, WasTold, Refused, Given, Lost}
-
-test_none : (t : Test) → TestBehind t [] t
-test_none None = tt
-test_none (Some t) = λ more. refl
-
-test_on : (t u v : Test) (xs ys : List Told) → TestBehind t xs u → TestBehind u ys v → TestBehind t (xs ++ ys) v
-test_on None u v xs ys h k = tt
-test_on (Some t) None v xs ys h k = absurd h
-test_on (Some t) (Some u) None xs ys h k = absurd k
-test_on (Some t) (Some u) (Some v) xs ys h k = λ more. k more ∙ h (ys ++ more) ∙ ap t (sym (append_assoc xs ys more))
-
-fails_behind : (t u : Test) (xs ys : List Told) → TestBehind t xs u → FailsTest u ys → FailsTest t (xs ++ ys)
-fails_behind None u xs ys h f = tt
-fails_behind (Some t) None xs ys h f = absurd h
-fails_behind (Some t) (Some u) xs ys h f = sym (h ys) ∙ f
+use Rattle.dg_watch.specs.Watching.{Watching, beside, Refused, IsTold, Puts, Given, Lost}
 
 module _ {W : Type 0} (v : Watching W) where
-  pub told_nothing : (a : W) → WasTold v [] a a
-  told_nothing a = record { stands = λ before h. subst (v.stands a) (sym (append-nil before)) h; tests = test_none (v.test a) }
-
-  pub told_on : (a b c : W) (xs ys : List Told) → WasTold v xs a b → WasTold v ys b c → WasTold v (xs ++ ys) a c
-  told_on a b c xs ys h k = record {
-    stands = λ before s. subst (v.stands c) (append_assoc before xs ys) (k.stands (before ++ xs) (h.stands before s));
-    tests = test_on (v.test a) (v.test b) (v.test c) xs ys h.tests k.tests;
-  }
-
   pub given_nothing : (a : W) → Given v a a []
-  given_nothing a = record { told = told_nothing a; steady = refl }
+  given_nothing a = record { told = v.nothing a; steady = refl }
 
   pub given_on : (a b c : W) (xs ys : List Told) → Given v a b xs → Given v b c ys → Given v a c (xs ++ ys)
-  given_on a b c xs ys h k = record { told = told_on a b c xs ys h.told k.told; steady = k.steady ∙ h.steady }
+  given_on a b c xs ys h k = record { told = v.on a b c xs ys h.told k.told; steady = k.steady ∙ h.steady }
 
   -- a failure in a front of what is told
   pub lost_first : (a b : W) (xs ys : List Told) → Lost v a b xs → Lost v a b (xs ++ ys)
@@ -46,11 +23,11 @@ module _ {W : Type 0} (v : Watching W) where
     part = h.part;
     rest = h.rest ++ ys;
     is = ap (λ l. l ++ ys) h.is ∙ append_assoc h.part h.rest ys;
-    stands = h.stands;
+    told = h.told;
     upto = h.upto;
-    behind = h.behind ++ ys;
-    reaches = ap (λ l. l ++ ys) h.reaches ∙ append_assoc h.upto h.behind ys;
-    fails = h.fails;
+    beyond = h.beyond ++ ys;
+    reaches = ap (λ l. l ++ ys) h.reaches ∙ append_assoc h.upto h.beyond ys;
+    refuses = h.refuses;
   }
 
   -- a failure behind a front of what is told
@@ -62,11 +39,11 @@ module _ {W : Type 0} (v : Watching W) where
     part = xs ++ k.part;
     rest = k.rest;
     is = ap (λ l. xs ++ l) k.is ∙ sym (append_assoc xs k.part k.rest);
-    stands = λ before s. subst (v.stands c) (append_assoc before xs k.part) (k.stands (before ++ xs) (h.told.stands before s));
+    told = v.on a b c xs k.part h.told k.told;
     upto = xs ++ k.upto;
-    behind = k.behind;
-    reaches = ap (λ l. xs ++ l) k.reaches ∙ sym (append_assoc xs k.upto k.behind);
-    fails = fails_behind (v.test a) (v.test b) xs k.upto h.told.tests k.fails;
+    beyond = k.beyond;
+    reaches = ap (λ l. xs ++ l) k.reaches ∙ sym (append_assoc xs k.upto k.beyond);
+    refuses = v.behind a b xs k.upto h.told k.refuses;
   }
 
   -- what was refused
@@ -78,12 +55,22 @@ module _ {W : Type 0} (v : Watching W) where
     part = [];
     rest = xs;
     is = refl;
-    stands = h.told.stands;
+    told = h.told;
     upto = xs;
-    behind = [];
+    beyond = [];
     reaches = sym (append-nil xs);
-    fails = h.fails;
+    refuses = h.refuses;
   }
+
+-- ## With something beside it
+
+pub puts_beside : {A W E : Type 0} (v : Watching W) (a b : A) (old new : W) (piece : List ℕ) (r : Result ℕ E) → Puts v old new piece r → Puts (beside v) (a, old) (b, new) piece r
+puts_beside v a b old new piece (Ok n) h = h
+puts_beside v a b old new piece (Err e) h = record { told = h.told; refuses = h.refuses }
+
+pub told_beside : {A W T E : Type 0} (v : Watching W) (ts : List Told) (a b : A) (old new : W) (r : Result T E) → IsTold v ts old new r → IsTold (beside v) ts (a, old) (b, new) r
+told_beside v ts a b old new (Ok x) h = h
+told_beside v ts a b old new (Err e) h = record { told = h.told; refuses = h.refuses }
 
 -- ## Bytes
 
@@ -111,7 +98,7 @@ rest_is bytes at = all_taken (drop at bytes) (length bytes - at) (omega (arith, 
 
 module _ {W : Type 0} (v : Watching W) where
   -- so many bytes more were taken
-  pub given_more : (a b c : W) (bytes : List ℕ) (at n : ℕ) → Given v a b (took (take at bytes)) → WasTold v (took (take n (rest_at bytes at))) b c → v.faults c ≡ v.faults b → Given v a c (took (take (at + n) bytes))
+  pub given_more : (a b c : W) (bytes : List ℕ) (at n : ℕ) → Given v a b (took (take at bytes)) → v.told b c (took (take n (rest_at bytes at))) → v.faults c ≡ v.faults b → Given v a c (took (take (at + n) bytes))
   given_more a b c bytes at n h k steady =
       let same : take at bytes ++ take n (rest_at bytes at) ≡ take (at + n) bytes = ap (λ l. take at bytes ++ take n l) (rest_is bytes at) ∙ sym (take_sum bytes at n (at + n) refl) in
       subst (Given v a c) (sym (took_on (take at bytes) (take n (rest_at bytes at))) ∙ ap took same)

@@ -1,2 +1,4 @@
 pub mod Told
 pub mod Watching
+pub mod Watched
+pub mod Plainly

@@ -1,7 +1,10 @@
 -- What a watch is told of a run, one thing after another. Hold it against the Dialog manual on debugging.
 use Rattle.std.specs.Prelude.{ℕ, List, [], ◌∷◌, ◌++◌, map}
 use Rattle.std.specs.List.{flat_map}
-use Rattle.dg_meaning.specs.Trace.{Entry, Wrote, Asks, Answers, Retries, Fails}
+use Rattle.dg_meaning.specs.Render.{nothing_met, met_from}
+use Rattle.dg_meaning.specs.Trace.{Entry, Wrote, Asks, Answers, Retries, Fails, entries, written_entries}
+use Rattle.dg_meaning.specs.Transcript.{ending_line}
+use Rattle.dg_meaning.specs.World.{Event, Print}
 use Rattle.dg_watch.specs.declared.watch.CallEvent.{CallEvent}
 use Rattle.dg_watch.specs.declared.watch.CallEvent.TheVariants as call
 
@@ -31,3 +34,15 @@ abbrev pub taken : List Told → List ℕ
 taken [] = []
 taken (Took byte ∷ ts) = byte ∷ taken ts
 taken (Saw event ∷ ts) = taken ts
+
+-- What one more thing is told as, behind these.
+abbrev pub told_growth : List Print → Print → List Told
+told_growth es e = all_told (written_entries (met_from nothing_met es) e)
+
+-- What closes these things, as it is told.
+abbrev pub told_closing : List Print → List ℕ → List Told
+told_closing es line = all_told (Wrote (ending_line es line) ∷ [])
+
+-- What a whole run is told as up to some events.
+abbrev pub told_events : List Event → List Told
+told_events es = all_told (entries nothing_met es)

@@ -1,6 +1,5 @@
 use Rattle.std.proofs.Common.{[], ◌∷◌}
 use Rattle.dg_watch.specs.Told.{Saw}
-use Rattle.dg_watch.specs.Watching.{watching}
 use Rattle.dg_watch.proofs.Telling.{lost_refused}
 use Rattle.dg_watch.proofs.handing.show.Goals as goal
 
@@ -9,4 +8,4 @@ returns-in-Ok-clause-ok g c = record { told = c.in-Ok.ensures.seen; steady = c.i
 
 pub returns-in-Err-clause-err : goal.returns-in-Err-clause-err
 returns-in-Err-clause-err g c =
-    lost_refused (watching g.W.Watch.stands g.W.Watch.test g.W.Sink.view) c.args.watch.now c.seen.new.self (Saw c.args.event ∷ []) c.in-Err.ensures.seen c.in-Err.ensures.cause.later c.in-Err.ensures.cause.failed c.in-Err.ensures.cause.once
+    lost_refused g.A.Showing.watching (c.args.showing.now, c.args.sink.now) (c.seen.new.self, c.seen.new.sink) (Saw c.args.event ∷ []) c.in-Err.ensures.seen c.in-Err.ensures.cause.later c.in-Err.ensures.cause.failed c.in-Err.ensures.cause.once
