@@ -1,0 +1,3 @@
+pub mod AsksLemmas
+pub mod SpreadLemmas
+pub mod SortLemmas

@@ -1,0 +1,10 @@
+use Rattle.std.proofs.Common.{arith}
+use Rattle.std.proofs.lemmas.Grind.{common_steps}
+use Rattle.dg_quiet.proofs.AsksLemmas.{left_append, weight_append, and_true}
+use Rattle.dg_quiet.proofs.asks.add_list.Goals as goal
+
+pub returns-clause-quiet : goal.returns-clause-quiet
+returns-clause-quiet c = λ set. grind (arith, common_steps, left_append, and_true)
+
+pub returns-clause-weight : goal.returns-clause-weight
+returns-clause-weight c = grind (arith, common_steps, weight_append)
