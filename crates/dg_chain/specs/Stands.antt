@@ -86,8 +86,9 @@ lasting_of (Resumes way m) = m.lasting
 lasting_of (Fails m) = m.lasting
 lasting_of (Ended e) = record { typed = []; dice = 0; facts = []; sites = [] }
 
--- What lasts of a machine is outside: as many of the player's dice words were drawn, in a circle, the typed bytes are left, the words of the world stand for what is
--- set, and those behind it for what is kept of selects. What global variables hold is within its limit.
+-- What lasts of a machine is outside: as many of the player's dice words were drawn, in a circle, the typed bytes are left,
+-- the words of the world stand for what is set, and those behind it for what is kept of selects. What global variables hold
+-- is within its limit.
 pub record Lasts (t : Telling) (l : Lasting) (out : Outside) : Type 0 where
   pub drawn : out.drawn ≡ l.dice % length t.p.world.dice
   pub typed : out.typed ≡ l.typed

@@ -30,7 +30,7 @@ use Rattle.dg_rt.specs.declared.registers.TheConstants.{ARGS}
 use Rattle.dg_rt.specs.RunTime.{routine_of}
 use Rattle.dg_turn.specs.Told.{count_told}
 use Rattle.dg_turn.specs.Terms.{word_act, words_acts, captured_of, closure_acts, node_acts, nodes_acts, capped, terms_acts, AreCaptured, IsNode, AreNodes}
-use Rattle.dg_turn.specs.Turns.{HEAD, match_acts, last_acts, head_acts}
+use Rattle.dg_turn.specs.Turns.{HEAD, matchers, unifying_acts, last_acts, head_acts}
 use Rattle.dg_turn.specs.Bodies.{CALLED}
 use Rattle.dg_turn.specs.Operating.{deciding_routine}
 use Rattle.dg_turn.specs.World.{world_at, all_words, all_bytes, changer, changer_args}
@@ -165,7 +165,7 @@ module _ (p q : CoreProgram) (same : SameOutline p q) where
   op_same numbers behind (op.Collect a b alt) = rw (terms_same ARGS (a ∷ b ∷ [])) refl
   op_same numbers behind (op.Enter vars head) =
       ap (λ (n : ℕ). routine_of 0 (acts.Call None (atoms.Routine ENTER) (args.Two (atoms.Num vars) (atoms.Num (capped n))) ∷ head_acts p head behind)) (cells_same head)
-      ∙ ap (λ (l : List Act). routine_of 0 (acts.Call None (atoms.Routine ENTER) (args.Two (atoms.Num vars) (atoms.Num (capped (cells q head)))) ∷ (l ++ (match_acts ARGS HEAD (length head) ++ last_acts behind)))) (terms_same HEAD head)
+      ∙ ap (λ (l : List Act). routine_of 0 (acts.Call None (atoms.Routine ENTER) (args.Two (atoms.Num vars) (atoms.Num (capped (cells q head)))) ∷ (l ++ (unifying_acts ARGS HEAD (matchers 0 head) ++ last_acts behind)))) (terms_same HEAD head)
   op_same numbers behind other = refl
 
   find_same : (s : Option Sought) (ts : List Term) (behind tries : ℕ) → find_of p s ts behind tries ≡ find_of q s ts behind tries

@@ -1,6 +1,7 @@
 pub mod Left
 pub mod Nodes
 mod Matching
+mod NewNodes
 mod Halving
 pub mod Names
 pub mod Alike

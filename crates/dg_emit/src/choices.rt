@@ -4,25 +4,16 @@ ghost use Rattle.dg_turn.specs.Choices as spec;
 ghost use Rattle.dg_turn.specs.Stopping as stopping;
 ghost use Rattle.dg_turn.specs.Turns as turns;
 ghost use Rattle.dg_turn.specs.Leaving.{just_routine};
-ghost use Rattle.dg_rt.specs.RunTime.{routine_of};
 ghost use Rattle.dg_emit.specs.inside.Acts as inside;
 
-use dg_base::Items;
 use dg_rt::numbers::{COMMIT, CUT, OPEN, OPEN_INNER};
 use dg_rt::registers::{FRAME, INNER, STOP, WORD};
+use dg_rt::routine;
 use std::alloc::{AllocError, Global};
 use z_lang::{Act, Args, Atom, Function, Routine};
 
 /// What an inner construct keeps that gathers nothing.
 const NO_GATHERING: u16 = 65_535;
-
-/// A routine of these acts, without locals.
-pub fn routine(alloc: Global, acts: &[Act]) -> Result<Routine, AllocError>
-    ensures { IfOk result (λ r. r ≡ routine_of 0 acts.now) }
-{
-    let body = Items::from_slice(alloc, acts)?;
-    Ok(Routine { locals: 0, body })
-}
 
 // A choice is opened whose other way is a routine, for this gathering.
 fn open(into: Option<u8>, other: u16, gathers: u16) -> Act

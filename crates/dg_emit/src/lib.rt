@@ -8,6 +8,7 @@ mod code;
 mod counting;
 mod finds;
 mod gathering;
+mod heads;
 mod laws;
 mod layout;
 mod numbers;

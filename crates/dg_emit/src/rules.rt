@@ -12,19 +12,17 @@ ghost use Rattle.dg_emit.specs.inside.Left.{those};
 ghost use Rattle.dg_emit.specs.inside.Acts as inside;
 
 use crate::counting::cells;
+use crate::heads::{HEAD, put_head};
 use crate::terms::{NIL, OBJECTS, WORDS, Writer};
 use dg_base::{Items, Term};
 use dg_mid::Key;
 use dg_rt::numbers::{ENTER, FOUND, MATCH, MATCHED};
-use dg_rt::registers::{ARGS, KEY, PARAMETERS, WORD};
+use dg_rt::registers::{KEY, PARAMETERS, WORD};
 use std::alloc::{AllocError, Global};
 use z_lang::{Act, Args, Atom, Comparison, Routine, Test};
 
 /// The key of a program's first closure.
 pub const CLOSURES: u16 = 49_152;
-
-/// Where the words of a head are put: behind all other registers.
-pub const HEAD: u8 = 64;
 
 // The word of a key; none where any first argument may be.
 fn key_word(key: Key) -> Option<u16>
@@ -99,7 +97,7 @@ pub fn rule_routine(alloc: Global, key: Key, place: RulePlace) -> Result<Routine
     Ok(Routine { locals: 1, body })
 }
 
-/// So many arguments are matched with the words of a head, or of terms behind them.
+/// So many variables from one on are matched with those from another on.
 pub fn put_matches(
     acts: &mut Items<Act>,
     arguments: u8,
@@ -143,7 +141,7 @@ impl Writer<'_> {
         let mut body = Items::new(self.alloc);
         body.push(Act::Call(None, Atom::Routine(ENTER), sizes))?;
         self.put_terms(&mut body, HEAD, head)?;
-        put_matches(&mut body, ARGS, HEAD, head.len() as u8)?;
+        put_head(self.alloc, &mut body, head)?;
         put_last(&mut body, behind)?;
         Ok(Routine { locals: 0, body })
     }

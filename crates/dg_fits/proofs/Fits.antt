@@ -16,7 +16,7 @@ use Rattle.dg_base.specs.declared.program.TestKind.TheVariants as test
 use Rattle.dg_base.specs.declared.program.GapKind.TheVariants as kinds
 use Rattle.dg_base.specs.Goals.{option_terms}
 use Rattle.dg_base.specs.Sound.{IsName}
-use Rattle.dg_meaning.specs.Cells.{cells}
+use Rattle.dg_meaning.specs.Cells.{nodes_of, cells}
 use Rattle.dg_meaning.specs.Facts.{kinds_of}
 use Rattle.dg_meaning.specs.Render.{opens, last_of}
 use Rattle.dg_meaning.specs.Selection.{label_at}
@@ -50,13 +50,13 @@ use Rattle.dg_rt.specs.Conditions.{test_number}
 use Rattle.dg_rt.specs.Arithmetic.{arith_number}
 use Rattle.dg_rt.specs.Rules.{key_word}
 use Rattle.dg_rt.specs.RunTime.{runtime, routine_of}
-use Rattle.dg_rt.specs.declared.numbers.TheConstants.{TAIL_CALL, FAIL, DONE, ASK_SPACES, IF_LESS, THROW, IF_SET, OPEN, OPEN_GATHERING, PRINT_VALUE, READ_KEPT, SPELL, SPLIT, MADE, JOIN}
+use Rattle.dg_rt.specs.declared.numbers.TheConstants.{MATCH, TAKE, TAIL_CALL, FAIL, DONE, ASK_SPACES, IF_LESS, THROW, IF_SET, OPEN, OPEN_GATHERING, PRINT_VALUE, READ_KEPT, SPELL, SPLIT, MADE, JOIN}
 use Rattle.dg_rt.specs.declared.registers.TheConstants.{ARGS, BACK, CLASH, INNER, LAST, WORD}
 use Rattle.dg_rt.proofs.Straight.{AreStraight, straight_append, straight_fits}
 use Rattle.dg_turn.specs.Told.{found_acts, rule_acts, KeyFits}
 use Rattle.dg_turn.specs.Lies.{bit_of}
 use Rattle.dg_turn.specs.Terms.{terms_acts}
-use Rattle.dg_turn.specs.Turns.{HEAD, match_acts, last_acts, enter_routine, goto_routine}
+use Rattle.dg_turn.specs.Turns.{HEAD, above, are_new, matchers, unifying_acts, match_acts, last_acts, enter_routine, goto_routine}
 use Rattle.dg_turn.specs.Queries.{some_of, ask_acts}
 use Rattle.dg_turn.specs.Bodies.{CALLED, look_acts, body_routine, fork_routine}
 use Rattle.dg_turn.specs.Operating.{deciding_routine, making_routine}
@@ -132,6 +132,14 @@ module _ (c : Counts) (many : 1 + length runtime ≤ c.routines) where
   matches_straight v x zero le le' = tt
   matches_straight v x (suc n) le le' = ((tt, omega arith, (omega arith, omega arith)), matches_straight (suc v) (suc x) n (omega arith) (omega arith))
 
+  matcher_below : (g : Bool) → (if g then TAKE else MATCH) < c.routines
+  matcher_below true = omega arith
+  matcher_below false = omega arith
+
+  unifies_straight : (v x n : ℕ) (head : List Term) → v + length head ≤ 255 → x + length head ≤ 255 → AreStraight c (unifying_acts v x (matchers n head))
+  unifies_straight v x n [] le le' = tt
+  unifies_straight v x n (t ∷ ts) le le' = ((tt, matcher_below (are_new n (nodes_of (t ∷ []))), (omega arith, omega arith)), unifies_straight (suc v) (suc x) (above n (nodes_of (t ∷ []))) ts (omega arith) (omega arith))
+
   last_straight : (behind : ℕ) → behind < c.routines → AreStraight c (last_acts behind)
   last_straight behind lt = ((omega arith, omega arith, lt), (omega arith, tt))
 
@@ -158,11 +166,11 @@ module _ (c : Counts) (many : 1 + length runtime ≤ c.routines) where
   enter_fits : (p : CoreProgram) (vars : ℕ) (head : List Term) (behind : ℕ) → vars ≤ 65 → TermsFit p head → behind < c.routines → IsFit c (enter_routine p vars head behind)
   enter_fits p vars head behind le fits lt =
       let few = fits.0 in
-      let matches = match_acts ARGS HEAD (length head) in
+      let matches = unifying_acts ARGS HEAD (matchers 0 head) in
       straight_fits c (enter_routine p vars head behind) (omega arith) (
         (tt, omega arith, (omega arith, omega (arith, capped_few c many (cells p head)))),
         straight_append c (terms_acts p HEAD head) (matches ++ last_acts behind) (terms_straight c many p HEAD head (omega arith) fits.1)
-            (straight_append c matches (last_acts behind) (matches_straight ARGS HEAD (length head) (omega arith) (omega arith)) (last_straight behind lt)),
+            (straight_append c matches (last_acts behind) (unifies_straight ARGS HEAD 0 head (omega arith) (omega arith)) (last_straight behind lt)),
       )
 
   test_below : (kind : TestKind) → test_number kind < c.routines

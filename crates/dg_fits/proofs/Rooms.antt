@@ -44,7 +44,7 @@ use Rattle.dg_rt.specs.Rules.{key_word}
 use Rattle.dg_turn.specs.Told.{rule_acts}
 use Rattle.dg_turn.specs.Lies.{bit_of}
 use Rattle.dg_turn.specs.Terms.{capped, terms_acts}
-use Rattle.dg_turn.specs.Turns.{HEAD, match_acts, last_acts, enter_routine}
+use Rattle.dg_turn.specs.Turns.{HEAD, above, matchers, unifying_acts, match_acts, last_acts, enter_routine}
 use Rattle.dg_turn.specs.Queries.{some_of, ask_acts}
 use Rattle.dg_turn.specs.Bodies.{CALLED, look_acts, body_routine, fork_routine}
 use Rattle.dg_rt.specs.declared.numbers.TheConstants.{TAIL_CALL, ASK_SPACES, IF_LESS, THROW, IF_SET, OPEN, OPEN_GATHERING, PRINT_VALUE, READ_KEPT, SPELL, SPLIT, MADE, JOIN}
@@ -86,6 +86,10 @@ room_most r = omega arith
 matches_few : (v x n : ℕ) → body_bytes (match_acts v x n) ≤ 6 * n
 matches_few v x zero = omega arith
 matches_few v x (suc n) = omega (arith, matches_few (suc v) (suc x) n)
+
+unifies_few : (v x n : ℕ) (head : List Term) → body_bytes (unifying_acts v x (matchers n head)) ≤ 6 * length head
+unifies_few v x n [] = omega arith
+unifies_few v x n (t ∷ ts) = omega (arith, unifies_few (suc v) (suc x) (above n (nodes_of (t ∷ []))) ts)
 
 -- what comes behind the arguments of a query
 asks_few : (behind : ℕ) (many : Bool) (ts : List Term) (rules : ℕ) → body_bytes (ask_acts (atoms.Routine behind) many ts rules) ≤ 13
@@ -184,14 +188,14 @@ module _ (p : CoreProgram) where
 
   enter_room : (vars : ℕ) (head : List Term) (behind : ℕ) → room (enter_routine p vars head behind) ≤ 31 + terms_weight (bytes p) head
   enter_room vars head behind =
-      let matches = match_acts ARGS HEAD (length head) in
+      let matches = unifying_acts ARGS HEAD (matchers 0 head) in
       omega (
         arith,
         num_bytes (nat_lt vars 256),
         num_bytes (nat_lt (capped (cells p head)) 256),
         bytes_append (terms_acts p HEAD head) (matches ++ last_acts behind),
         bytes_append matches (last_acts behind),
-        matches_few ARGS HEAD (length head),
+        unifies_few ARGS HEAD 0 head,
         terms_room p HEAD head,
       )
 

@@ -32,7 +32,7 @@ module _ (n : ℕ) where
   -- ---- resolved
 
   mutual
-    replaced_absent : (x : ℕ) (u : Value) → contains n u ≡ false → (t : Value) → contains n t ≡ false → contains n (replaced x u t) ≡ false
+    pub replaced_absent : (x : ℕ) (u : Value) → contains n u ≡ false → (t : Value) → contains n t ≡ false → contains n (replaced x u t) ≡ false
     replaced_absent x u none (Var y) none' = cond_both (eqb y x) u (Var y) (λ (v : Value). contains n v ≡ false) (λ e. none) (λ e. none')
     replaced_absent x u none (Node f vs) none' = all_replaced_absent x u none vs none'
 

@@ -66,9 +66,20 @@ pub trail_append : (since : ℕ) (made S : Substitution) → trail_of since (mad
 trail_append since [] S = omega arith
 trail_append since (b ∷ made) S = let r = trail_append since made S in omega arith
 
-mark_register : (p : Program) (s : State) (cells : ℕ → ℕ) → Holds p.world.layout s.memory cells → 600 ≤ p.world.layout.base → value p s (atoms.Var 18) ≡ word (cells 2)
+pub mark_register : (p : Program) (s : State) (cells : ℕ → ℕ) → Holds p.world.layout s.memory cells → 600 ≤ p.world.layout.base → value p s (atoms.Var 18) ≡ word (cells 2)
 unfolding variable
 mark_register p s cells h le = ap word (global_is p.world.layout s.memory cells 18 h (omega arith) (omega arith))
+
+-- a variable is older than the mark where its reference is less
+pub is_older : {sh : Shape} → IsShape sh → {since hb : ℕ} → IsMark sh since hb → (cells : ℕ → ℕ) → cells 2 ≡ 32768 + hb → (n : ℕ) → n < sh.vars → (b : Bool) → nat_lt n since ≡ b → compared comparisons.Less (32768 + sh.place n) (cells 2) ≡ b
+is_older {sh} is {since} {hb} mk cells mark n old true e =
+    let low = mk.low in
+    let lt = ltb-true (sh.place n) hb (sym (mk.older n old) ∙ e) in
+    subst (λ (x : ℕ). compared comparisons.Less (32768 + sh.place n) x ≡ true) (sym mark) (older (sh.place n) hb lt (omega arith))
+is_older {sh} is {since} {hb} mk cells mark n old false e =
+    let within = is.within n old in
+    let le = ltb-false (sh.place n) hb (sym (mk.older n old) ∙ e) in
+    subst (λ (x : ℕ). compared comparisons.Less (32768 + sh.place n) x ≡ false) (sym mark) (not_older (sh.place n) hb le (omega arith))
 
 one_more : (p : Program) (x : ℕ) → x + 1 < 65536 → (memory : List ℕ) → computed p.world.layout memory functions.Add x 1 ≡ Some (x + 1)
 unfolding computed
@@ -82,17 +93,10 @@ module _ (p : Program) (has : HasRunTime p) (sh : Shape) (is : IsShape sh) (sinc
   now m = state m (ref ∷ y ∷ 0 ∷ 0 ∷ []) typed drawn output
 
   is_old : (b : Bool) → nat_lt n since ≡ b → compared comparisons.Less ref (cells 2) ≡ b
-  is_old true e =
-      let low = mk.low in
-      let lt = ltb-true (sh.place n) hb (sym (mk.older n old) ∙ e) in
-      subst (λ (x : ℕ). compared comparisons.Less ref x ≡ true) (sym now_at.mark) (older (sh.place n) hb lt (omega arith))
-  is_old false e =
-      let within = is.within n old in
-      let le = ltb-false (sh.place n) hb (sym (mk.older n old) ∙ e) in
-      subst (λ (x : ℕ). compared comparisons.Less ref x ≡ false) (sym now_at.mark) (not_older (sh.place n) hb le (omega arith))
+  is_old b e = is_older is mk cells now_at.mark n old b e
 
   -- the last write, over memory whose heap is as it was
-  abbrev written_cells : (ℕ → ℕ) → ℕ → ℕ
+  abbrev pub written_cells : (ℕ → ℕ) → ℕ → ℕ
   written_cells c = replaced c (heap_at + sh.place n) y
 
   -- what the last write makes
@@ -130,6 +134,24 @@ module _ (p : Program) (has : HasRunTime p) (sh : Shape) (is : IsShape sh) (sinc
   test_is : (b : Bool) → nat_lt n since ≡ b → answer_of p (now memory) (record { comparison = comparisons.Less; first = atoms.Var 1; second = atoms.Var 18; answer = false }) ≡ Some b
   test_is b e = let room = has.mapped.room in tested p (now memory) comparisons.Less (atoms.Var 1) (atoms.Var 18) false ref (cells 2) b (get_1 p memory ref y 0 0 typed drawn output) (mark_register p (now memory) cells now_at.holds (omega arith)) (is_old b e)
 
+  -- a younger variable: its cell alone is written
+  pub young_at : nat_lt n since ≡ false → IsAt p.world.layout sh since hb S0 left begun (with_cell memory (heap_at + sh.place n) y) (written_cells cells) ((n, v) ∷ S)
+  young_at e = record {
+    holds = holds_last memory cells now_at.holds;
+    stands = at_last memory cells now_at.holds (λ k lt. refl);
+    mark = elsewhere cells 2 (omega arith) ∙ now_at.mark;
+    made = (n, v) ∷ now_at.made;
+    made_is = ap (λ (s : Substitution). (n, v) ∷ s) now_at.made_is;
+    height = elsewhere cells 1 (omega arith) ∙ now_at.height ∙ (let t : trail_for since n ≡ 0 = rw e refl in omega arith);
+    trail = now_at.trail;
+    on_trail = trail_stays cells (written_cells cells) now_at.trail (λ i lt. on_trail cells i) now_at.on_trail;
+    tall = now_at.tall ∙ sym (elsewhere cells 1 (omega arith));
+    known = known_still;
+    others = λ k ne far. outside cells k far ∙ now_at.others k ne far;
+    backs = λ v' le g. back_young v' (sh.place n) y (let z = ltb-false (sh.place n) hb (sym (mk.older n old) ∙ e) in omega arith) (now_at.backs v' le g);
+    entries = (λ e'. absurd (cc (sym e ∙ e')), entries_stay sh cells (written_cells cells) since left (left + trail_of since now_at.made) now_at.made (λ i lt. on_trail cells i) (omega arith) now_at.entries);
+  }
+
   young : nat_lt n since ≡ false → Binds p sh since hb S0 left begun f w memory typed output drawn ref y ((n, v) ∷ S)
   unfolding behind_label
   young e = record {
@@ -137,21 +159,7 @@ module _ (p : Program) (has : HasRunTime p) (sh : Shape) (is : IsShape sh) (sinc
     cells' = written_cells cells;
     count = 3;
     runs = taken (test_is false e) refl (writes_last memory cells now_at.holds);
-    at = record {
-      holds = holds_last memory cells now_at.holds;
-      stands = at_last memory cells now_at.holds (λ k lt. refl);
-      mark = elsewhere cells 2 (omega arith) ∙ now_at.mark;
-      made = (n, v) ∷ now_at.made;
-      made_is = ap (λ (s : Substitution). (n, v) ∷ s) now_at.made_is;
-      height = elsewhere cells 1 (omega arith) ∙ now_at.height ∙ (let t : trail_for since n ≡ 0 = rw e refl in omega arith);
-      trail = now_at.trail;
-      on_trail = trail_stays cells (written_cells cells) now_at.trail (λ i lt. on_trail cells i) now_at.on_trail;
-      tall = now_at.tall ∙ sym (elsewhere cells 1 (omega arith));
-      known = known_still;
-      others = λ k ne far. outside cells k far ∙ now_at.others k ne far;
-      backs = λ v' le g. back_young v' (sh.place n) y (let z = ltb-false (sh.place n) hb (sym (mk.older n old) ∙ e) in omega arith) (now_at.backs v' le g);
-      entries = (λ e'. absurd (cc (sym e ∙ e')), entries_stay sh cells (written_cells cells) since left (left + trail_of since now_at.made) now_at.made (λ i lt. on_trail cells i) (omega arith) now_at.entries);
-    };
+    at = young_at e;
     few = omega arith;
   }
 

@@ -9,6 +9,7 @@ pub mod Grows
 pub mod Walking
 pub mod Depth
 pub mod Looks
+pub mod OccursSteps
 pub mod Occurring
 pub mod Binding
 pub mod Containing
@@ -17,6 +18,12 @@ pub mod UnifySteps
 pub mod Alone
 pub mod Together
 pub mod Unifying
+pub mod Fresh
+pub mod Storing
+pub mod TakeSteps
+pub mod TakeWalks
+pub mod TakeEnds
+pub mod Takes
 pub mod Taking
 pub mod Unwinding
 pub mod Compared

@@ -89,7 +89,7 @@ module _ (g : Setting) (S : Substitution) (m : Moment g S) (x y : ℕ) (a b : Va
       let room = g.has.mapped.room in
       passed (tested g.p (st m.memory 0) comparisons.Equal (atoms.Var 29) (atoms.Num 0) false (m.cells 13) 0 true (register g.p (st m.memory 0) m.cells 29 m.at.holds (omega arith) (omega arith) (omega arith)) refl (eq-eqb (m.cells 13) 0 none)) rest
 
-  by_end : Unifies g 3336 UNIFY_ACTS m.memory (x ∷ y ∷ 0 ∷ 0 ∷ 0 ∷ []) 0 (price S ((a, b) ∷ [])) (unify S a b) → Matches g m.memory x y (price S ((a, b) ∷ [])) (unify S a b)
+  by_end : Unifies g 3336 UNIFY_ACTS m.memory (x ∷ y ∷ 0 ∷ 0 ∷ 0 ∷ []) 0 (price S ((a, b) ∷ [])) (unify S a b) → Matches MATCH_ACTS g m.memory x y (price S ((a, b) ∷ [])) (unify S a b)
   by_end (answers n m' locals few q) =
       let room = g.has.mapped.room in
       let u = bit (unify S a b).agrees in

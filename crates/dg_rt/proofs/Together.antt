@@ -1,19 +1,15 @@
 -- The routine that unifies, where it goes on with parts: two pairs, two closures of a place, and two unknown words.
-use Rattle.std.proofs.Common.{◌≡◌, ℕ, suc, ◌+◌, ◌*◌, ◌<◌, ◌≤◌, Bool, true, false, List, [], ◌∷◌, drop, length, Some, refl, sym, ap, ◌∙◌, subst, arith}
+use Rattle.std.proofs.Common.{◌≡◌, ℕ, suc, ◌+◌, ◌*◌, ◌<◌, ◌≤◌, Bool, true, false, List, [], ◌∷◌, drop, length, Some, refl, sym, ap, ◌∙◌, subst, arith, ◌≢◌}
 use Rattle.std.specs.Prelude.{◌==◌, eqb}
-use Rattle.std.proofs.lemmas.Bool.{eq-eqb, ne_eqb}
-use Rattle.z_lang.specs.declared.act.Atom.TheVariants as atoms
-use Rattle.z_lang.specs.declared.act.Args.TheVariants as args
-use Rattle.z_lang.specs.declared.act.Comparison.TheVariants as comparisons
+use Rattle.std.proofs.lemmas.Bool.{eq-eqb, ne_eqb, eqb-true}
 use Rattle.z_lang.specs.declared.act.Act.{Act}
-use Rattle.z_lang.specs.declared.act.Act.TheVariants as acts
 use Rattle.z_lang.specs.State.{State}
 use Rattle.z_lang.specs.Runs.{ActsRun as Runs, ActsOutcome as Outcome, Returns, at_label, goes, taken, passed, done, calls, calls_last, returns, behind_label}
 use Rattle.dg_meaning.specs.Values.{Closure, Unknown, Value, Node, Values, NoMore, More, leaf, pair}
 use Rattle.dg_meaning.specs.ValueCells.{count_of}
-use Rattle.dg_meaning.specs.Substitutions.{Substitution, walk}
+use Rattle.dg_meaning.specs.Substitutions.{Substitution, walk, resolved}
 use Rattle.dg_meaning.specs.inside.Substitutions.{Extends}
-use Rattle.dg_meaning.specs.Unify.{same_spelling, Equations, as_many, side_by_side, Goes, Clashes, turn, cost, Unified, solve}
+use Rattle.dg_meaning.specs.Unify.{same_spelling, Equations, as_many, side_by_side, Goes, Clashes, turn, cost, Unified, solve, counted}
 use Rattle.dg_meaning.specs.inside.Unify.{unify}
 use Rattle.dg_meaning.specs.Letters.{values_compared, compared as letters_compared}
 use Rattle.dg_meaning.proofs.Solving.{solve_extends}
@@ -30,9 +26,14 @@ use Rattle.dg_rt.specs.inside.Depth.{AllSmaller, Below, under}
 use Rattle.dg_rt.proofs.Locals.{third, fourth, put_third, simple_is_positive, high_is_negative}
 use Rattle.dg_rt.proofs.Showing.{all_low, letters_low}
 use Rattle.dg_rt.proofs.Depth.{below_later, below_smaller, all_smaller_later}
-use Rattle.dg_rt.proofs.Ways.{clashing, nothing, many_are, goes_on, letters_on, letters_clash, first_yes, first_no, price_yes, takes_less}
-use Rattle.dg_rt.proofs.UnifySteps.{steps_are, ends_map, ends_into, ends_counted, third_less, third_zero, same_fields, at_end, read_1, read_2, read_3, read_4, next_1, next_2, end_5, half_5, field}
+use Rattle.dg_rt.proofs.Ways.{clashing, nothing, many_are, goes_on, letters_on, letters_clash, first_yes, first_no, price_yes, takes_less, same_word}
+use Rattle.dg_rt.proofs.UnifySteps.{steps_are, ends_map, ends_into, ends_counted, third_less, third_zero, same_fields, at_end, read_1, read_2, read_3, read_4, next_1, next_2, end_5, half_5, field, third_fourth}
 use Rattle.dg_rt.proofs.Alone.{Run, Meant, Below_it, Again, longer, stays, at_most, base, Done, as_meant, to_headers}
+use Rattle.dg_meaning.proofs.EqualValues.{equal_values}
+use Rattle.z_lang.specs.declared.act.Atom.TheVariants as atoms
+use Rattle.z_lang.specs.declared.act.Args.TheVariants as args
+use Rattle.z_lang.specs.declared.act.Comparison.TheVariants as comparisons
+use Rattle.z_lang.specs.declared.act.Act.TheVariants as acts
 
 -- ---- parts
 
@@ -54,7 +55,7 @@ module _ (g : Setting) (f : ℕ) where
   call_parts = acts.Call (Some 3) (atoms.Routine UNIFY) (args.Two (atoms.Var 3) (atoms.Var 4))
 
   abbrev if_clash : Act
-  if_clash = acts.When (record { comparison = comparisons.Equal; first = atoms.Var 3; second = atoms.Num 0; answer = true }) 8
+  if_clash = acts.When (record { comparison = comparisons.Equal; first = atoms.Var 3; second = atoms.Num 0; answer = true }) 21
 
   -- The first two parts are unified by a call, and where they agree it goes on with the others.
   called : (S : Substitution) (m : Moment g S) (rest : List Act) (u w x y z : ℕ) (h h' : Value) (es : Equations) (more spent most : ℕ) → 0 < more → more + price S ((h, h') ∷ es) + spent ≤ most + 5 →
@@ -92,10 +93,10 @@ module _ (g : Setting) (f : ℕ) where
 
   parts : (limit : ℕ) → Below_it g f limit → (k k' : ℕ) (v' u' : Value) (ks ls : List ℕ) → length ls ≡ length ks → 3335 ≤ f + length ks → (vs us : Values) → as_many vs us ≡ true → (S : Substitution) (m : Moment g S) (i i' j j' x y spent most : ℕ) → i ≡ j + 3 → i' ≡ j' + 3 → AllShow g.sh i vs → AllShow g.sh i' us → Inside g.sh S ks k v' vs → Inside g.sh S ls k' u' us →
       (solve S (side_by_side vs us)).count < limit → 2 + price S (side_by_side vs us) + spent ≤ most →
-      Meant g f (drop 36 UNIFY_ACTS) m.memory ((49152 + j) ∷ (49152 + j') ∷ x ∷ y ∷ (49152 + (j + count_of vs)) ∷ []) spent most (solve S (side_by_side vs us))
+      Meant g f (drop 78 UNIFY_ACTS) m.memory ((49152 + j) ∷ (49152 + j') ∷ x ∷ y ∷ (49152 + (j + count_of vs)) ∷ []) spent most (solve S (side_by_side vs us))
   unfolding behind_label
   parts limit again k k' v' u' ks ls same deep NoMore NoMore many S m i i' j j' x y spent most e e' a a' inside inside' few le =
-      subst (λ (r : Unified). Meant g f (drop 36 UNIFY_ACTS) m.memory ((49152 + j) ∷ (49152 + j') ∷ x ∷ y ∷ (49152 + (j + 0)) ∷ []) spent most r) (sym (solve_nothing S))
+      subst (λ (r : Unified). Meant g f (drop 78 UNIFY_ACTS) m.memory ((49152 + j) ∷ (49152 + j') ∷ x ∷ y ∷ (49152 + (j + 0)) ∷ []) spent most r) (sym (solve_nothing S))
       (answers 2 m ((49152 + j) ∷ (49152 + j') ∷ x ∷ y ∷ (49152 + (j + 0)) ∷ []) (omega arith)
       (passed (at_end g m.memory (49152 + j) (49152 + j') x y (49152 + (j + 0)) true (eq-eqb (49152 + j) (49152 + (j + 0)) (omega arith))) (returns refl)))
   parts limit again k k' v' u' ks ls same deep NoMore (More u us) many S m i i' j j' x y spent most e e' a a' inside inside' few le = absurd (cc many)
@@ -116,13 +117,13 @@ module _ (g : Setting) (f : ℕ) where
       (λ o s' n r. taken (at_end g m.memory (49152 + j) (49152 + j') x y end false (ne_eqb (49152 + j) end (λ (q : 49152 + j ≡ end). (omega arith)))) refl
       (done (read_3 g m.memory (49152 + j) (49152 + j') x y end 33444 c (field g S m 33444 3 j (j + 3) c here (omega arith) (omega arith) refl))
       (done (read_4 g m.memory (49152 + j) (49152 + j') c y end 33444 c' (field g S m 33444 3 j' (j' + 3) c' here' (omega arith) (omega arith) refl)) r)))
-      (called S m (drop 33 UNIFY_ACTS) (49152 + j) (49152 + j') c c' end v u (side_by_side vs us) 4 (3 + spent) most (omega arith) (omega arith) head
+      (called S m (drop 75 UNIFY_ACTS) (49152 + j) (49152 + j') c c' end v u (side_by_side vs us) 4 (3 + spent) most (omega arith) (omega arith) head
       (λ m' spent' yes le'.
       let grew = solve_extends S ((v, u) ∷ []) m.at.stands.sound in
       let counts' = ap (λ (r : Unified). r.count) (first_yes S m.at.stands.sound v u (side_by_side vs us) yes) in
       longer g f 2
       (λ o s' n r. done (next_1 g m'.memory (49152 + j) (49152 + j') 1 c' end (49152 + suc j) (omega arith)) (done (next_2 g m'.memory (49152 + suc j) (49152 + j') 1 c' end (49152 + suc j') (omega arith)) (at_label r)))
-      (subst (λ (z : ℕ). Meant g f (drop 36 UNIFY_ACTS) m'.memory ((49152 + suc j) ∷ (49152 + suc j') ∷ 1 ∷ c' ∷ z ∷ []) (2 + spent') most (solve (unify S v u).subst (side_by_side vs us))) ends_same
+      (subst (λ (z : ℕ). Meant g f (drop 78 UNIFY_ACTS) m'.memory ((49152 + suc j) ∷ (49152 + suc j') ∷ 1 ∷ c' ∷ z ∷ []) (2 + spent') most (solve (unify S v u).subst (side_by_side vs us))) ends_same
       (parts limit again k k' v' u' ks ls same deep vs us many (unify S v u).subst m' (suc i) (suc i') (suc j) (suc j') 1 c' (2 + spent') most (omega arith) (omega arith) a a' (inside_later v vs (unify S v u).subst grew inside) (inside_later u us (unify S v u).subst grew inside') (omega arith) (omega arith)))))
 
   -- ---- letters, one after another
@@ -130,7 +131,7 @@ module _ (g : Setting) (f : ℕ) where
   record Spells (S : Substitution) (m : Moment g S) (j j' x y z : ℕ) (xs ys : List ℕ) : Type 0 where
     locals' : List ℕ
     count : ℕ
-    runs : Run g f (drop 49 UNIFY_ACTS) (in_state g m.memory ((49152 + j) ∷ (49152 + j') ∷ x ∷ y ∷ z ∷ [])) (Returns (bit (same_spelling xs ys))) (in_state g m.memory locals') count
+    runs : Run g f (drop 91 UNIFY_ACTS) (in_state g m.memory ((49152 + j) ∷ (49152 + j') ∷ x ∷ y ∷ z ∷ [])) (Returns (bit (same_spelling xs ys))) (in_state g m.memory locals') count
     few : count ≤ 2 + 6 * length xs
 
   spells : (S : Substitution) (m : Moment g S) (xs ys : List ℕ) → length xs ≡ length ys → (i i' j j' x y z : ℕ) → z ≡ 49152 + (j + length xs) → i ≡ j + 3 → i' ≡ j' + 3 → Letters g.sh i xs → Letters g.sh i' ys → Spells S m j j' x y z xs ys
@@ -138,7 +139,7 @@ module _ (g : Setting) (f : ℕ) where
   spells S m [] [] same i i' j j' x y z ez e e' a a' = record {
     locals' = (49152 + j) ∷ (49152 + j') ∷ x ∷ y ∷ z ∷ [];
     count = 2;
-    runs = passed (at_end g m.memory (49152 + j) (49152 + j') x y z true (eq-eqb (49152 + j) z (omega arith))) (returns refl);
+    runs = passed (at_end g m.memory (49152 + j) (49152 + j') x y z true (eq-eqb (49152 + j) z (omega arith))) (at_label (returns refl));
     few = omega arith;
   }
   spells S m [] (d ∷ ys) same i i' j j' x y z ez e e' a a' = absurd (omega arith)
@@ -151,7 +152,7 @@ module _ (g : Setting) (f : ℕ) where
       here' : Cell g.sh (j' + 3) d
       here' = subst (λ (n : ℕ). Cell g.sh n d) e' a'.0
 
-      to_letters : (o : Outcome) (s' : State) (n : ℕ) → Run g f (drop 45 UNIFY_ACTS) (in_state g m.memory ((49152 + j) ∷ (49152 + j') ∷ c ∷ d ∷ z ∷ [])) o s' n → Run g f (drop 49 UNIFY_ACTS) (in_state g m.memory ((49152 + j) ∷ (49152 + j') ∷ x ∷ y ∷ z ∷ [])) o s' (suc (suc (suc n)))
+      to_letters : (o : Outcome) (s' : State) (n : ℕ) → Run g f (drop 87 UNIFY_ACTS) (in_state g m.memory ((49152 + j) ∷ (49152 + j') ∷ c ∷ d ∷ z ∷ [])) o s' n → Run g f (drop 91 UNIFY_ACTS) (in_state g m.memory ((49152 + j) ∷ (49152 + j') ∷ x ∷ y ∷ z ∷ [])) o s' (suc (suc (suc n)))
       to_letters o s' n r =
           taken (at_end g m.memory (49152 + j) (49152 + j') x y z false (ne_eqb (49152 + j) z (λ (q : 49152 + j ≡ z). (omega arith)))) refl
           (done (read_3 g m.memory (49152 + j) (49152 + j') x y z 33444 c (field g S m 33444 3 j (j + 3) c here (omega arith) (omega arith) refl))
@@ -181,10 +182,39 @@ module _ (g : Setting) (f : ℕ) where
   -- ---- two boxes of one header
 
   module _ (S : Substitution) (m : Moment g S) (a b : Value) where
-    pub pairs : (k k' x y z hd hd' tl tl' : ℕ) (h t h' t' : Value) (ks ls : List ℕ) → length ls ≡ length ks → 3335 ≤ f + length ks → Cell g.sh k 0 → Cell g.sh k' 0 → Cell g.sh (k + 1) hd → Cell g.sh (k' + 1) hd' → Cell g.sh (k + 2) tl → Cell g.sh (k' + 2) tl' → Shows g.sh hd h → Shows g.sh hd' h' → Shows g.sh tl t → Shows g.sh tl' t' →
-        Inside g.sh S ks k (pair h t) (More h (More t NoMore)) → Inside g.sh S ls k' (pair h' t') (More h' (More t' NoMore)) → walk S a ≡ pair h t → walk S b ≡ pair h' t' → Below_it g f (unify S a b).count → Again g f (unify S a b).count ks ls → Done g f S m a b (drop 3 UNIFY_ACTS) (49152 + k) (49152 + k') x y z 4
+    -- up to the comparison of the heads
+    to_heads : (k k' x y z hd hd' : ℕ) → k ≢ k' → k + 2 < 10000 → k' + 2 < 10000 → Cell g.sh k 0 → Cell g.sh k' 0 → Cell g.sh (k + 1) hd → Cell g.sh (k' + 1) hd' → (o : Outcome) (s' : State) (n : ℕ) → Run g f (drop 14 UNIFY_ACTS) (in_state g m.memory ((49152 + k) ∷ (49152 + k') ∷ hd ∷ hd' ∷ z ∷ [])) o s' n → Run g f (drop 5 UNIFY_ACTS) (in_state g m.memory ((49152 + k) ∷ (49152 + k') ∷ x ∷ y ∷ z ∷ [])) o s' (steps 9 n)
+    to_heads k k' x y z hd hd' apart lt lt' c c' one one' o s' n r =
+        to_headers g f S m a b k k' 0 0 x y z apart lt lt' c c' o s' (steps 4 n)
+        (passed (same_fields g m.memory (49152 + k) (49152 + k') 0 0 z true refl)
+        (passed (third_zero g m.memory (49152 + k) (49152 + k') 0 0 z true false refl)
+        (done (read_3 g m.memory (49152 + k) (49152 + k') 0 0 z 33440 hd (field g S m 33440 1 k (k + 1) hd one (omega arith) (omega arith) refl))
+        (done (read_4 g m.memory (49152 + k) (49152 + k') hd 0 z 33440 hd' (field g S m 33440 1 k' (k' + 1) hd' one' (omega arith) (omega arith) refl)) r))))
+
+    pub pairs : (k k' x y z hd hd' tl tl' : ℕ) (h t h' t' : Value) (ks ls : List ℕ) → k ≢ k' → length ls ≡ length ks → 3335 ≤ f + length ks → Cell g.sh k 0 → Cell g.sh k' 0 → Cell g.sh (k + 1) hd → Cell g.sh (k' + 1) hd' → Cell g.sh (k + 2) tl → Cell g.sh (k' + 2) tl' → Shows g.sh hd h → Shows g.sh hd' h' → Shows g.sh tl t → Shows g.sh tl' t' →
+        Inside g.sh S ks k (pair h t) (More h (More t NoMore)) → Inside g.sh S ls k' (pair h' t') (More h' (More t' NoMore)) → walk S a ≡ pair h t → walk S b ≡ pair h' t' → Below_it g f (unify S a b).count → Again g f (unify S a b).count ks ls → (alike : Bool) → (hd == hd') ≡ alike → Done g f S m a b (drop 5 UNIFY_ACTS) (49152 + k) (49152 + k') x y z
     unfolding behind_label
-    pairs k k' x y z hd hd' tl tl' h t h' t' ks ls same deep c c' one one' two two' s s' q q' inside inside' ea eb heads tails =
+    -- heads of one word are equal already
+    pairs k k' x y z hd hd' tl tl' h t h' t' ks ls apart same deep c c' one one' two two' s s' q q' inside inside' ea eb heads tails true alike =
+        let es : Equations = (h, h') ∷ (t, t') ∷ [] in
+        let e : turn S a b ≡ Goes es = rw (ea, eb) refl in
+        let answer = goes_on S a b es m.at.stands.sound e in
+        let count = ap (λ (r : Unified). r.count) answer in
+        let letters : letters_compared S ((a, b) ∷ []) ≡ letters_compared S es = letters_on S a b es m.at.stands.sound e ∙ rw (ea, eb) (omega arith) in
+        let equal : h ≡ h' = same_word g.is s s' (eqb-true hd hd' alike) in
+        let silent = equal_values S h h' m.at.stands.sound (ap (resolved S) equal) in
+        let first = first_yes S m.at.stands.sound h h' ((t, t') ∷ []) silent.0 ∙ ap (λ (S' : Substitution). counted (unify S h h').count (solve S' ((t, t') ∷ []))) silent.1 in
+        let counts = ap (λ (r : Unified). r.count) first in
+        let costs = price_yes S m.at.stands.sound h h' ((t, t') ∷ []) silent.0 ∙ ap (λ (S' : Substitution). price S ((h, h') ∷ []) + price S' ((t, t') ∷ [])) silent.1 in
+        let tail = tails S m tl tl' hd hd' z t t' q q' (below_smaller t inside.less.1.0 inside.below) (below_smaller t' inside'.less.1.0 inside'.below) (omega arith) in
+        let whole = ends_into (steps 13) (λ n e few. let thirteen = steps_are 13 n in omega arith)
+        (λ n o s' r. to_heads k k' x y z hd hd' apart inside.small inside'.small c c' one one' o s' (steps 4 n)
+        (taken (third_fourth g m.memory (49152 + k) (49152 + k') hd hd' z true alike) refl
+        (done (read_1 g m.memory (49152 + k) (49152 + k') hd hd' z 33442 tl (field g S m 33442 2 k (k + 2) tl two (omega arith) (omega arith) refl))
+        (done (read_2 g m.memory tl (49152 + k') hd hd' z 33442 tl' (field g S m 33442 2 k' (k' + 2) tl' two' (omega arith) (omega arith) refl)) (goes refl r))))) tail in
+        as_meant g f S m a b answer (ends_counted (cost S a b)
+        (subst (λ (r : Unified). Meant g f (drop 5 UNIFY_ACTS) m.memory ((49152 + k) ∷ (49152 + k') ∷ x ∷ y ∷ z ∷ []) (base g f S m a b) (at_most g f S m a b) r) (sym first) (ends_counted (unify S h h').count whole)))
+    pairs k k' x y z hd hd' tl tl' h t h' t' ks ls apart same deep c c' one one' two two' s s' q q' inside inside' ea eb heads tails false alike =
         let es : Equations = (h, h') ∷ (t, t') ∷ [] in
         let e : turn S a b ≡ Goes es = rw (ea, eb) refl in
         let answer = goes_on S a b es m.at.stands.sound e in
@@ -193,35 +223,31 @@ module _ (g : Setting) (f : ℕ) where
         let less = takes_less S m.at.stands.sound h h' ((t, t') ∷ []) g.since (unify S h h').agrees refl in
         let counts = less.counts in
         let head = heads S m hd hd' h h' (k ∷ ks) (k' ∷ ls) s s' (inside_first h (More t NoMore) inside) (inside_first h' (More t' NoMore) inside') (omega arith) (omega arith) (omega arith) in
-        let later = called S m (drop 18 UNIFY_ACTS) (49152 + k) (49152 + k') hd hd' z h h' ((t, t') ∷ []) 3 (10 + (4 + base g f S m a b)) (at_most g f S m a b) (omega arith) (omega arith) head
+        let later = called S m (drop 17 UNIFY_ACTS) (49152 + k) (49152 + k') hd hd' z h h' ((t, t') ∷ []) 3 (10 + base g f S m a b) (at_most g f S m a b) (omega arith) (omega arith) head
         (λ m' spent' yes le'.
         let grew = solve_extends S ((h, h') ∷ []) m.at.stands.sound in
         let counts' = ap (λ (r : Unified). r.count) (first_yes S m.at.stands.sound h h' ((t, t') ∷ []) yes) in
         let after = inside_later h (More t NoMore) (unify S h h').subst grew inside in
         let after' = inside_later h' (More t' NoMore) (unify S h h').subst grew inside' in
         let tail = tails (unify S h h').subst m' tl tl' 1 hd' z t t' q q' (below_smaller t after.less.0 after.below) (below_smaller t' after'.less.0 after'.below) (omega arith) in
-        ends_into (steps 3) (λ n e few. let three = steps_are 3 n in omega arith) (λ n o s' r. done (read_1 g m'.memory (49152 + k) (49152 + k') 1 hd' z 33442 tl (field g (unify S h h').subst m' 33442 2 k (k + 2) tl two (omega arith) (omega arith) refl))
-        (done (read_2 g m'.memory tl (49152 + k') 1 hd' z 33442 tl' (field g (unify S h h').subst m' 33442 2 k' (k' + 2) tl' two' (omega arith) (omega arith) refl)) (goes refl r))) tail) in
+        ends_into (steps 3) (λ n e few. let three = steps_are 3 n in omega arith) (λ n o s' r. at_label (done (read_1 g m'.memory (49152 + k) (49152 + k') 1 hd' z 33442 tl (field g (unify S h h').subst m' 33442 2 k (k + 2) tl two (omega arith) (omega arith) refl))
+        (done (read_2 g m'.memory tl (49152 + k') 1 hd' z 33442 tl' (field g (unify S h h').subst m' 33442 2 k' (k' + 2) tl' two' (omega arith) (omega arith) refl)) (goes refl r)))) tail) in
         let whole = longer g f 10
-        (λ o s' n r. to_headers g f S m a b k k' 0 0 x y z inside.small inside'.small c c' o s' (steps 4 n)
-        (passed (same_fields g m.memory (49152 + k) (49152 + k') 0 0 z true refl)
-        (passed (third_zero g m.memory (49152 + k) (49152 + k') 0 0 z true false refl)
-        (done (read_3 g m.memory (49152 + k) (49152 + k') 0 0 z 33440 hd (field g S m 33440 1 k (k + 1) hd one (omega arith) (omega arith) refl))
-        (done (read_4 g m.memory (49152 + k) (49152 + k') hd 0 z 33440 hd' (field g S m 33440 1 k' (k' + 1) hd' one' (omega arith) (omega arith) refl)) r))))) later in
+        (λ o s' n r. to_heads k k' x y z hd hd' apart inside.small inside'.small c c' one one' o s' (suc n) (passed (third_fourth g m.memory (49152 + k) (49152 + k') hd hd' z false alike) r)) later in
         as_meant g f S m a b answer (ends_counted (cost S a b) whole)
 
     -- up to the test of what the header says
-    to_contents : (k k' header header' x y z : ℕ) → k + 2 < 10000 → k' + 2 < 10000 → 0 < header → header ≡ header' → Cell g.sh k header → Cell g.sh k' header' → (o : Outcome) (s' : State) (n : ℕ) → Run g f (drop 22 UNIFY_ACTS) (in_state g m.memory ((49152 + k) ∷ (49152 + k') ∷ header ∷ header' ∷ z ∷ [])) o s' n → Run g f (drop 3 UNIFY_ACTS) (in_state g m.memory ((49152 + k) ∷ (49152 + k') ∷ x ∷ y ∷ z ∷ [])) o s' (steps 8 n)
+    to_contents : (k k' header header' x y z : ℕ) → k ≢ k' → k + 2 < 10000 → k' + 2 < 10000 → 0 < header → header ≡ header' → Cell g.sh k header → Cell g.sh k' header' → (o : Outcome) (s' : State) (n : ℕ) → Run g f (drop 64 UNIFY_ACTS) (in_state g m.memory ((49152 + k) ∷ (49152 + k') ∷ header ∷ header' ∷ z ∷ [])) o s' n → Run g f (drop 5 UNIFY_ACTS) (in_state g m.memory ((49152 + k) ∷ (49152 + k') ∷ x ∷ y ∷ z ∷ [])) o s' (steps 7 n)
     unfolding behind_label
-    to_contents k k' header header' x y z lt lt' some e c c' o s' n r =
-        to_headers g f S m a b k k' header header' x y z lt lt' c c' o s' (steps 2 n)
+    to_contents k k' header header' x y z apart lt lt' some e c c' o s' n r =
+        to_headers g f S m a b k k' header header' x y z apart lt lt' c c' o s' (steps 2 n)
         (passed (same_fields g m.memory (49152 + k) (49152 + k') header header' z true (eq-eqb header header' e))
         (taken (third_zero g m.memory (49152 + k) (49152 + k') header header' z false false (ne_eqb header 0 (λ (e : header ≡ 0). (omega arith)))) refl r))
 
-    pub closures : (k k' x y z place place' : ℕ) (vs us : Values) (ks ls : List ℕ) → length ls ≡ length ks → 3335 ≤ f + length ks → place < 16384 → place ≡ place' → Cell g.sh k (1 + place) → Cell g.sh k' (1 + place') → Cell g.sh (k + 1) (count_of vs) → Cell g.sh (k' + 1) (count_of us) → AllShow g.sh (k + 3) vs → AllShow g.sh (k' + 3) us →
-        Inside g.sh S ks k (Node (Closure place) vs) vs → Inside g.sh S ls k' (Node (Closure place') us) us → walk S a ≡ Node (Closure place) vs → walk S b ≡ Node (Closure place') us → Below_it g f (unify S a b).count → (t : Bool) → as_many vs us ≡ t → Done g f S m a b (drop 3 UNIFY_ACTS) (49152 + k) (49152 + k') x y z 4
+    pub closures : (k k' x y z place place' : ℕ) (vs us : Values) (ks ls : List ℕ) → k ≢ k' → length ls ≡ length ks → 3335 ≤ f + length ks → place < 16384 → place ≡ place' → Cell g.sh k (1 + place) → Cell g.sh k' (1 + place') → Cell g.sh (k + 1) (count_of vs) → Cell g.sh (k' + 1) (count_of us) → AllShow g.sh (k + 3) vs → AllShow g.sh (k' + 3) us →
+        Inside g.sh S ks k (Node (Closure place) vs) vs → Inside g.sh S ls k' (Node (Closure place') us) us → walk S a ≡ Node (Closure place) vs → walk S b ≡ Node (Closure place') us → Below_it g f (unify S a b).count → (t : Bool) → as_many vs us ≡ t → Done g f S m a b (drop 5 UNIFY_ACTS) (49152 + k) (49152 + k') x y z
     unfolding behind_label
-    closures k k' x y z place place' vs us ks ls same deep small alike c c' one one' all all' inside inside' ea eb heads false many =
+    closures k k' x y z place place' vs us ks ls apart same deep small alike c c' one one' all all' inside inside' ea eb heads false many =
         let header = 1 + place in
         let header' = 1 + place' in
         let n = count_of vs in
@@ -230,13 +256,13 @@ module _ (g : Setting) (f : ℕ) where
         let is_it : turn S a b ≡ Clashes = rw (ea, eb, eq-eqb place place' alike, many) refl in
         let answer = clashing S a b m.at.stands.sound is_it in
         let count = ap (λ (r : Unified). r.count) answer in
-        as_meant g f S m a b answer (stays g f S m 13 (4 + base g f S m a b) (at_most g f S m a b) (cost S a b + 0) false ((49152 + k) ∷ (49152 + k') ∷ n ∷ n' ∷ z ∷ [])
-        (to_contents k k' header header' x y z inside.small inside'.small (omega arith) (omega arith) c c' (Returns 0) (in_state g m.memory ((49152 + k) ∷ (49152 + k') ∷ n ∷ n' ∷ z ∷ [])) 5
+        as_meant g f S m a b answer (stays g f S m 12 (base g f S m a b) (at_most g f S m a b) (cost S a b + 0) false ((49152 + k) ∷ (49152 + k') ∷ n ∷ n' ∷ z ∷ [])
+        (to_contents k k' header header' x y z apart inside.small inside'.small (omega arith) (omega arith) c c' (Returns 0) (in_state g m.memory ((49152 + k) ∷ (49152 + k') ∷ n ∷ n' ∷ z ∷ [])) 5
         (passed (third_less g m.memory (49152 + k) (49152 + k') header header' z false true (simple_is_positive header (omega arith)))
         (done (read_3 g m.memory (49152 + k) (49152 + k') header header' z 33440 n (field g S m 33440 1 k (k + 1) n one (omega arith) (omega arith) refl))
         (done (read_4 g m.memory (49152 + k) (49152 + k') n header' z 33440 n' (field g S m 33440 1 k' (k' + 1) n' one' (omega arith) (omega arith) refl))
         (taken (same_fields g m.memory (49152 + k) (49152 + k') n n' z false differ) refl (returns refl)))))) (omega arith))
-    closures k k' x y z place place' vs us ks ls same deep small alike c c' one one' all all' inside inside' ea eb heads true many =
+    closures k k' x y z place place' vs us ks ls apart same deep small alike c c' one one' all all' inside inside' ea eb heads true many =
         let header = 1 + place in
         let header' = 1 + place' in
         let n = count_of vs in
@@ -250,9 +276,9 @@ module _ (g : Setting) (f : ℕ) where
         let answer = goes_on S a b es m.at.stands.sound e in
         let count = ap (λ (r : Unified). r.count) answer in
         let letters : letters_compared S ((a, b) ∷ []) ≡ letters_compared S es = letters_on S a b es m.at.stands.sound e ∙ rw (ea, eb) (omega arith) in
-        let later = parts (unify S a b).count heads k k' (Node (Closure place) vs) (Node (Closure place') us) ks ls same deep vs us many S m (k + 3) (k' + 3) k k' n n' (14 + (4 + base g f S m a b)) (at_most g f S m a b) refl refl all all' inside inside' (omega arith) (omega arith) in
-        let whole = longer g f 14
-        (λ o s' i r. to_contents k k' header header' x y z inside.small inside'.small (omega arith) (omega arith) c c' o s' (steps 6 i)
+        let later = parts (unify S a b).count heads k k' (Node (Closure place) vs) (Node (Closure place') us) ks ls same deep vs us many S m (k + 3) (k' + 3) k k' n n' (13 + base g f S m a b) (at_most g f S m a b) refl refl all all' inside inside' (omega arith) (omega arith) in
+        let whole = longer g f 13
+        (λ o s' i r. to_contents k k' header header' x y z apart inside.small inside'.small (omega arith) (omega arith) c c' o s' (steps 6 i)
         (passed (third_less g m.memory (49152 + k) (49152 + k') header header' z false true (simple_is_positive header (omega arith)))
         (done (read_3 g m.memory (49152 + k) (49152 + k') header header' z 33440 n (field g S m 33440 1 k (k + 1) n one (omega arith) (omega arith) refl))
         (done (read_4 g m.memory (49152 + k) (49152 + k') n header' z 33440 n' (field g S m 33440 1 k' (k' + 1) n' one' (omega arith) (omega arith) refl))
@@ -261,16 +287,16 @@ module _ (g : Setting) (f : ℕ) where
         as_meant g f S m a b answer (ends_counted (cost S a b) whole)
 
     -- up to the comparison of letters
-    to_spelling : (k k' x y z n n' : ℕ) → k + 2 < 10000 → k' + 2 < 10000 → k + 3 + n ≤ 10000 → n ≡ n' → Cell g.sh k (32768 + n) → Cell g.sh k' (32768 + n') → (o : Outcome) (s' : State) (i : ℕ) → Run g f (drop 49 UNIFY_ACTS) (in_state g m.memory ((49152 + k) ∷ (49152 + k') ∷ (32768 + n) ∷ (32768 + n') ∷ (49152 + (k + n)) ∷ [])) o s' i → Run g f (drop 3 UNIFY_ACTS) (in_state g m.memory ((49152 + k) ∷ (49152 + k') ∷ x ∷ y ∷ z ∷ [])) o s' (steps 12 i)
+    to_spelling : (k k' x y z n n' : ℕ) → k ≢ k' → k + 2 < 10000 → k' + 2 < 10000 → k + 3 + n ≤ 10000 → n ≡ n' → Cell g.sh k (32768 + n) → Cell g.sh k' (32768 + n') → (o : Outcome) (s' : State) (i : ℕ) → Run g f (drop 91 UNIFY_ACTS) (in_state g m.memory ((49152 + k) ∷ (49152 + k') ∷ (32768 + n) ∷ (32768 + n') ∷ (49152 + (k + n)) ∷ [])) o s' i → Run g f (drop 5 UNIFY_ACTS) (in_state g m.memory ((49152 + k) ∷ (49152 + k') ∷ x ∷ y ∷ z ∷ [])) o s' (steps 11 i)
     unfolding behind_label
-    to_spelling k k' x y z n n' lt lt' low e c c' o s' i r =
-        to_contents k k' (32768 + n) (32768 + n') x y z lt lt' (omega arith) (omega arith) c c' o s' (steps 4 i)
+    to_spelling k k' x y z n n' apart lt lt' low e c c' o s' i r =
+        to_contents k k' (32768 + n) (32768 + n') x y z apart lt lt' (omega arith) (omega arith) c c' o s' (steps 4 i)
         (taken (third_less g m.memory (49152 + k) (49152 + k') (32768 + n) (32768 + n') z true true (high_is_negative n (omega arith))) refl
         (done (end_5 g m.memory (49152 + k) (49152 + k') (32768 + n) (32768 + n') z (16384 + (k + n)) (omega arith))
         (done (half_5 g m.memory (49152 + k) (49152 + k') (32768 + n) (32768 + n') (16384 + (k + n)) (49152 + (k + n)) (omega arith)) (goes refl r))))
 
-    pub words : (k k' x y z : ℕ) (xs ys : List ℕ) → k + 2 < 10000 → k' + 2 < 10000 → length xs ≡ length ys → Cell g.sh k (32768 + length xs) → Cell g.sh k' (32768 + length ys) → Letters g.sh (k + 3) xs → Letters g.sh (k' + 3) ys → walk S a ≡ leaf (Unknown xs) → walk S b ≡ leaf (Unknown ys) → (t : Bool) → same_spelling xs ys ≡ t → Done g f S m a b (drop 3 UNIFY_ACTS) (49152 + k) (49152 + k') x y z 4
-    words k k' x y z xs ys lt lt' alike c c' all all' ea eb true e =
+    pub words : (k k' x y z : ℕ) (xs ys : List ℕ) → k ≢ k' → k + 2 < 10000 → k' + 2 < 10000 → length xs ≡ length ys → Cell g.sh k (32768 + length xs) → Cell g.sh k' (32768 + length ys) → Letters g.sh (k + 3) xs → Letters g.sh (k' + 3) ys → walk S a ≡ leaf (Unknown xs) → walk S b ≡ leaf (Unknown ys) → (t : Bool) → same_spelling xs ys ≡ t → Done g f S m a b (drop 5 UNIFY_ACTS) (49152 + k) (49152 + k') x y z
+    words k k' x y z xs ys apart lt lt' alike c c' all all' ea eb true e =
         let is_it : turn S a b ≡ Goes [] = rw (ea, eb, e) refl in
         let answer = nothing S a b m.at.stands.sound is_it in
         let count = ap (λ (r : Unified). r.count) answer in
@@ -279,10 +305,10 @@ module _ (g : Setting) (f : ℕ) where
         let low = letters_low g.is (k + 3) xs (omega arith) all in
         let r = spells S m xs ys alike (k + 3) (k' + 3) k k' (32768 + length xs) (32768 + length ys) (49152 + (k + length xs)) refl refl refl all all' in
         let few = r.few in
-        let runs : Run g f (drop 49 UNIFY_ACTS) (in_state g m.memory ((49152 + k) ∷ (49152 + k') ∷ (32768 + length xs) ∷ (32768 + length ys) ∷ (49152 + (k + length xs)) ∷ [])) (Returns 1) (in_state g m.memory r.locals') r.count = rw e at r.runs in
-        as_meant g f S m a b answer (stays g f S m (steps 12 r.count) (4 + base g f S m a b) (at_most g f S m a b) (cost S a b + 0) true r.locals'
-        (to_spelling k k' x y z (length xs) (length ys) lt lt' low alike c c' (Returns 1) (in_state g m.memory r.locals') r.count runs) (omega (arith, steps_are 12 r.count)))
-    words k k' x y z xs ys lt lt' alike c c' all all' ea eb false e =
+        let runs : Run g f (drop 91 UNIFY_ACTS) (in_state g m.memory ((49152 + k) ∷ (49152 + k') ∷ (32768 + length xs) ∷ (32768 + length ys) ∷ (49152 + (k + length xs)) ∷ [])) (Returns 1) (in_state g m.memory r.locals') r.count = rw e at r.runs in
+        as_meant g f S m a b answer (stays g f S m (steps 11 r.count) (base g f S m a b) (at_most g f S m a b) (cost S a b + 0) true r.locals'
+        (to_spelling k k' x y z (length xs) (length ys) apart lt lt' low alike c c' (Returns 1) (in_state g m.memory r.locals') r.count runs) (omega (arith, steps_are 11 r.count)))
+    words k k' x y z xs ys apart lt lt' alike c c' all all' ea eb false e =
         let is_it : turn S a b ≡ Clashes = rw (ea, eb, e) refl in
         let answer = clashing S a b m.at.stands.sound is_it in
         let count = ap (λ (r : Unified). r.count) answer in
@@ -291,6 +317,6 @@ module _ (g : Setting) (f : ℕ) where
         let low = letters_low g.is (k + 3) xs (omega arith) all in
         let r = spells S m xs ys alike (k + 3) (k' + 3) k k' (32768 + length xs) (32768 + length ys) (49152 + (k + length xs)) refl refl refl all all' in
         let few = r.few in
-        let runs : Run g f (drop 49 UNIFY_ACTS) (in_state g m.memory ((49152 + k) ∷ (49152 + k') ∷ (32768 + length xs) ∷ (32768 + length ys) ∷ (49152 + (k + length xs)) ∷ [])) (Returns 0) (in_state g m.memory r.locals') r.count = rw e at r.runs in
-        as_meant g f S m a b answer (stays g f S m (steps 12 r.count) (4 + base g f S m a b) (at_most g f S m a b) (cost S a b + 0) false r.locals'
-        (to_spelling k k' x y z (length xs) (length ys) lt lt' low alike c c' (Returns 0) (in_state g m.memory r.locals') r.count runs) (omega (arith, steps_are 12 r.count)))
+        let runs : Run g f (drop 91 UNIFY_ACTS) (in_state g m.memory ((49152 + k) ∷ (49152 + k') ∷ (32768 + length xs) ∷ (32768 + length ys) ∷ (49152 + (k + length xs)) ∷ [])) (Returns 0) (in_state g m.memory r.locals') r.count = rw e at r.runs in
+        as_meant g f S m a b answer (stays g f S m (steps 11 r.count) (base g f S m a b) (at_most g f S m a b) (cost S a b + 0) false r.locals'
+        (to_spelling k k' x y z (length xs) (length ys) apart lt lt' low alike c c' (Returns 0) (in_state g m.memory r.locals') r.count runs) (omega (arith, steps_are 11 r.count)))

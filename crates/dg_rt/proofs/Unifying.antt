@@ -1,13 +1,12 @@
 -- The routine that unifies does so.
-use Rattle.std.proofs.Common.{◌≡◌, ℕ, zero, suc, ◌+◌, ◌<◌, ◌≤◌, inl, inr, List, [], ◌∷◌, drop, length, refl, arith}
+use Rattle.std.proofs.Common.{◌≡◌, ℕ, zero, suc, ◌+◌, ◌<◌, ◌≤◌, inl, inr, List, [], ◌∷◌, drop, length, refl, arith, ◌≢◌, sym, ap, ◌∙◌}
 use Rattle.std.proofs.lemmas.Bool.{ne_eqb, cases_eq, cases_order}
 use Rattle.z_model.specs.declared.end.Halt.TheVariants.{AtQuit}
-use Rattle.z_lang.specs.Runs.{ActsRun as Runs, Returns, Stops, at_label, calls}
-use Rattle.dg_meaning.specs.Values.{Label, Value, Node, Values, NoMore}
-use Rattle.dg_meaning.specs.Substitutions.{Substitution, walk}
+use Rattle.z_lang.specs.Runs.{ActsRun as Runs, Returns, Stops, at_label}
+use Rattle.dg_meaning.specs.Values.{Label, Value, Node, Values}
+use Rattle.dg_meaning.specs.Substitutions.{Substitution, walk, resolved}
 use Rattle.dg_meaning.specs.Unify.{same_spelling, same_label, as_many, Unified}
 use Rattle.dg_meaning.specs.inside.Unify.{unify}
-use Rattle.dg_rt.proofs.Standing.{walk_at}
 use Rattle.dg_rt.specs.Closings.{closing_most}
 use Rattle.dg_rt.specs.declared.unify.TheConstants.{UNIFY_ACTS}
 use Rattle.dg_rt.specs.Cells.{bit}
@@ -15,69 +14,79 @@ use Rattle.dg_rt.specs.Areas.{state}
 use Rattle.dg_rt.specs.Shapes.{Cell, Shows, Filled, pair_in, closure_in, word_in}
 use Rattle.dg_rt.specs.Moments.{Setting, Fits, Passes, Moment, in_state}
 use Rattle.dg_rt.specs.Unifies.{closed, answers, is_full, Unifies, price, UnifyWorks}
-use Rattle.dg_rt.specs.inside.Walks.{ending}
+use Rattle.dg_rt.specs.inside.Walks.{steps}
 use Rattle.dg_rt.specs.inside.Depth.{Below, on_top}
-use Rattle.dg_rt.proofs.Locals.{first, second, put_first, put_second}
 use Rattle.dg_rt.proofs.Depth.{below_walk, parts_smaller, levels}
-use Rattle.dg_rt.proofs.Walking.{walk_works}
-use Rattle.dg_rt.proofs.Ways.{simple_no_box, other_length}
-use Rattle.dg_rt.proofs.UnifySteps.{ends_map}
-use Rattle.dg_rt.proofs.Alone.{Kind, kind_variable, kind_simple, kind_box, kind, Meant, Below_it, Again, Done, two_same, second_younger, first_younger, first_alone, second_alone, two_simple, simple_box, box_simple, other_headers}
+use Rattle.dg_rt.proofs.Ways.{simple_no_box, other_length, same_word, Kind, kind_variable, kind_simple, kind_box, kind}
+use Rattle.dg_rt.proofs.UnifySteps.{ends_map, steps_are, behind_both, first_looked, second_looked}
+use Rattle.dg_rt.proofs.Alone.{Meant, Below_it, Again, Done, two_same, second_younger, first_younger, two_simple, simple_box, box_simple, other_headers, same, first_to_simple, first_to_box, second_to_simple, second_to_box}
 use Rattle.dg_rt.proofs.Together.{Inside, pairs, closures, words}
+use Rattle.std.specs.Prelude.{◌==◌}
+use Rattle.dg_meaning.proofs.Walks.{walked}
 
 module _ (g : Setting) (f : ℕ) where
   module _ (S : Substitution) (m : Moment g S) (a b : Value) where
     -- ---- two boxes
 
-    boxes : {k k' header header' : ℕ} {h h' : Label} {vs us : Values} (x y z : ℕ) (ks ls : List ℕ) → length ls ≡ length ks → 3335 ≤ f + length ks → Filled g.sh k header (Node h vs) → Filled g.sh k' header' (Node h' us) → Cell g.sh k header → Cell g.sh k' header' →
-        Inside g.sh S ks k (Node h vs) vs → Inside g.sh S ls k' (Node h' us) us → walk S a ≡ Node h vs → walk S b ≡ Node h' us → Below_it g f (unify S a b).count → Again g f (unify S a b).count ks ls → Done g f S m a b (drop 3 UNIFY_ACTS) (49152 + k) (49152 + k') x y z 4
-    boxes x y z ks ls same deep (pair_in {h = h} {t = t} k hd tl one two s q) (pair_in {h = h'} {t = t'} k' hd' tl' one' two' s' q') c c' inside inside' ea eb heads tails = pairs g f S m a b k k' x y z hd hd' tl tl' h t h' t' ks ls same deep c c' one one' two two' s s' q q' inside inside' ea eb heads tails
-    boxes x y z ks ls same deep (closure_in {vs = vs} k place small count few_captured one all) (closure_in {vs = us} k' place' small' count' few_captured' one' all') c c' inside inside' ea eb heads tails =
+    boxes : {k k' header header' : ℕ} {h h' : Label} {vs us : Values} (x y z : ℕ) (ks ls : List ℕ) → k ≢ k' → length ls ≡ length ks → 3335 ≤ f + length ks → Filled g.sh k header (Node h vs) → Filled g.sh k' header' (Node h' us) → Cell g.sh k header → Cell g.sh k' header' →
+        Inside g.sh S ks k (Node h vs) vs → Inside g.sh S ls k' (Node h' us) us → walk S a ≡ Node h vs → walk S b ≡ Node h' us → Below_it g f (unify S a b).count → Again g f (unify S a b).count ks ls → Done g f S m a b (drop 5 UNIFY_ACTS) (49152 + k) (49152 + k') x y z
+    boxes x y z ks ls apart same deep (pair_in {h = h} {t = t} k hd tl one two s q) (pair_in {h = h'} {t = t'} k' hd' tl' one' two' s' q') c c' inside inside' ea eb heads tails = pairs g f S m a b k k' x y z hd hd' tl tl' h t h' t' ks ls apart same deep c c' one one' two two' s s' q q' inside inside' ea eb heads tails (hd == hd') refl
+    boxes x y z ks ls apart same deep (closure_in {vs = vs} k place small count few_captured one all) (closure_in {vs = us} k' place' small' count' few_captured' one' all') c c' inside inside' ea eb heads tails =
         elim (cases_eq place place') [
-          | inl e ↦ closures g f S m a b k k' x y z place place' vs us ks ls same deep small e c c' one one' all all' inside inside' ea eb heads (as_many vs us) refl
-          | inr ne ↦ other_headers g f S m a b k k' (1 + place) (1 + place') x y z inside.small inside'.small c c' (λ (e : 1 + place ≡ 1 + place'). ne (omega arith)) (rw (ea, eb, ne_eqb place place' ne) refl)
+          | inl e ↦ closures g f S m a b k k' x y z place place' vs us ks ls apart same deep small e c c' one one' all all' inside inside' ea eb heads (as_many vs us) refl
+          | inr ne ↦ other_headers g f S m a b k k' (1 + place) (1 + place') x y z apart inside.small inside'.small c c' (λ (e : 1 + place ≡ 1 + place'). ne (omega arith)) (rw (ea, eb, ne_eqb place place' ne) refl)
         ]
-    boxes x y z ks ls same deep (word_in {letters = xs} k fine all) (word_in {letters = ys} k' fine' all') c c' inside inside' ea eb heads tails =
+    boxes x y z ks ls apart same deep (word_in {letters = xs} k fine all) (word_in {letters = ys} k' fine' all') c c' inside inside' ea eb heads tails =
         elim (cases_eq (length xs) (length ys)) [
-          | inl e ↦ words g f S m a b k k' x y z xs ys inside.small inside'.small e c c' all all' ea eb (same_spelling xs ys) refl
-          | inr ne ↦ other_headers g f S m a b k k' (32768 + length xs) (32768 + length ys) x y z inside.small inside'.small c c' (λ (e : 32768 + length xs ≡ 32768 + length ys). ne (omega arith)) (rw (ea, eb, other_length xs ys ne) refl)
+          | inl e ↦ words g f S m a b k k' x y z xs ys apart inside.small inside'.small e c c' all all' ea eb (same_spelling xs ys) refl
+          | inr ne ↦ other_headers g f S m a b k k' (32768 + length xs) (32768 + length ys) x y z apart inside.small inside'.small c c' (λ (e : 32768 + length xs ≡ 32768 + length ys). ne (omega arith)) (rw (ea, eb, other_length xs ys ne) refl)
         ]
-    boxes x y z ks ls same deep (pair_in k hd tl one two s q) (closure_in k' place' small' count' few_captured' one' all') c c' inside inside' ea eb heads tails = other_headers g f S m a b k k' 0 (1 + place') x y z inside.small inside'.small c c' (λ (e : 0 ≡ 1 + place'). (omega arith)) (rw (ea, eb) refl)
-    boxes x y z ks ls same deep (pair_in k hd tl one two s q) (word_in {letters = ys} k' fine' all') c c' inside inside' ea eb heads tails = other_headers g f S m a b k k' 0 (32768 + length ys) x y z inside.small inside'.small c c' (λ (e : 0 ≡ 32768 + length ys). (omega arith)) (rw (ea, eb) refl)
-    boxes x y z ks ls same deep (closure_in k place small count few_captured one all) (pair_in k' hd' tl' one' two' s' q') c c' inside inside' ea eb heads tails = other_headers g f S m a b k k' (1 + place) 0 x y z inside.small inside'.small c c' (λ (e : 1 + place ≡ 0). (omega arith)) (rw (ea, eb) refl)
-    boxes x y z ks ls same deep (closure_in k place small count few_captured one all) (word_in {letters = ys} k' fine' all') c c' inside inside' ea eb heads tails = other_headers g f S m a b k k' (1 + place) (32768 + length ys) x y z inside.small inside'.small c c' (λ (e : 1 + place ≡ 32768 + length ys). (omega arith)) (rw (ea, eb) refl)
-    boxes x y z ks ls same deep (word_in {letters = xs} k fine all) (pair_in k' hd' tl' one' two' s' q') c c' inside inside' ea eb heads tails = other_headers g f S m a b k k' (32768 + length xs) 0 x y z inside.small inside'.small c c' (λ (e : 32768 + length xs ≡ 0). (omega arith)) (rw (ea, eb) refl)
-    boxes x y z ks ls same deep (word_in {letters = xs} k fine all) (closure_in k' place' small' count' few_captured' one' all') c c' inside inside' ea eb heads tails = other_headers g f S m a b k k' (32768 + length xs) (1 + place') x y z inside.small inside'.small c c' (λ (e : 32768 + length xs ≡ 1 + place'). (omega arith)) (rw (ea, eb) refl)
+    boxes x y z ks ls apart same deep (pair_in k hd tl one two s q) (closure_in k' place' small' count' few_captured' one' all') c c' inside inside' ea eb heads tails = other_headers g f S m a b k k' 0 (1 + place') x y z apart inside.small inside'.small c c' (λ (e : 0 ≡ 1 + place'). (omega arith)) (rw (ea, eb) refl)
+    boxes x y z ks ls apart same deep (pair_in k hd tl one two s q) (word_in {letters = ys} k' fine' all') c c' inside inside' ea eb heads tails = other_headers g f S m a b k k' 0 (32768 + length ys) x y z apart inside.small inside'.small c c' (λ (e : 0 ≡ 32768 + length ys). (omega arith)) (rw (ea, eb) refl)
+    boxes x y z ks ls apart same deep (closure_in k place small count few_captured one all) (pair_in k' hd' tl' one' two' s' q') c c' inside inside' ea eb heads tails = other_headers g f S m a b k k' (1 + place) 0 x y z apart inside.small inside'.small c c' (λ (e : 1 + place ≡ 0). (omega arith)) (rw (ea, eb) refl)
+    boxes x y z ks ls apart same deep (closure_in k place small count few_captured one all) (word_in {letters = ys} k' fine' all') c c' inside inside' ea eb heads tails = other_headers g f S m a b k k' (1 + place) (32768 + length ys) x y z apart inside.small inside'.small c c' (λ (e : 1 + place ≡ 32768 + length ys). (omega arith)) (rw (ea, eb) refl)
+    boxes x y z ks ls apart same deep (word_in {letters = xs} k fine all) (pair_in k' hd' tl' one' two' s' q') c c' inside inside' ea eb heads tails = other_headers g f S m a b k k' (32768 + length xs) 0 x y z apart inside.small inside'.small c c' (λ (e : 32768 + length xs ≡ 0). (omega arith)) (rw (ea, eb) refl)
+    boxes x y z ks ls apart same deep (word_in {letters = xs} k fine all) (closure_in k' place' small' count' few_captured' one' all') c c' inside inside' ea eb heads tails = other_headers g f S m a b k k' (32768 + length xs) (1 + place') x y z apart inside.small inside'.small c c' (λ (e : 32768 + length xs ≡ 1 + place'). (omega arith)) (rw (ea, eb) refl)
 
     -- ---- one level
 
-    by_kind : {u w : ℕ} {v v' : Value} (x y z : ℕ) (ks ls : List ℕ) → 2 ≤ f → Kind g.sh u v → Kind g.sh w v' → Shows g.sh u v → Shows g.sh w v' → walk S a ≡ v → walk S b ≡ v' → Below g.sh S ks v → Below g.sh S ls v' → length ls ≡ length ks → 3336 ≤ suc f + length ks → Below_it g f (unify S a b).count → Again g f (unify S a b).count ks ls → Done g f S m a b (drop 3 UNIFY_ACTS) u w x y z (ending v + ending v')
+    in_one_box : {k k' : ℕ} {v v' : Label} {vs us : Values} (x y z : ℕ) → k ≡ k' → Shows g.sh (49152 + k) (Node v vs) → Shows g.sh (49152 + k') (Node v' us) → walk S a ≡ Node v vs → walk S b ≡ Node v' us → Done g f S m a b (drop 5 UNIFY_ACTS) (49152 + k) (49152 + k') x y z
+    in_one_box {k} {k'} {v} {v'} {vs} {us} x y z e s s' ea eb =
+        let words : 49152 + k ≡ 49152 + k' = omega arith in
+        let value : Node v vs ≡ Node v' us = same_word g.is s s' words in
+        let one = (walked S m.at.stands.sound a).same in
+        let two = (walked S m.at.stands.sound b).same in
+        same g f S m a b (49152 + k) (49152 + k') x y z words (sym one ∙ ap (resolved S) (ea ∙ value ∙ sym eb) ∙ two)
+
+    by_kind : {u w : ℕ} {v v' : Value} (x y z : ℕ) (ks ls : List ℕ) → 2 ≤ f → Kind g.sh u v → Kind g.sh w v' → Shows g.sh u v → Shows g.sh w v' → walk S a ≡ v → walk S b ≡ v' → Below g.sh S ks v → Below g.sh S ls v' → length ls ≡ length ks → 3336 ≤ suc f + length ks → Below_it g f (unify S a b).count → Again g f (unify S a b).count ks ls → Done g f S m a b (behind_both v v') u w x y z
     by_kind x y z ks ls two (kind_variable n old) (kind_variable i old') s s' ea eb below below' same deep heads tails =
         elim (cases_order n i) [
           | inl e ↦ two_same g f S m a b n i x y z old e ea eb
           | inr (inl lt) ↦ second_younger g f S m a b n i x y z two old old' lt ea eb
           | inr (inr gt) ↦ first_younger g f S m a b n i x y z two old old' gt ea eb
         ]
-    by_kind x y z ks ls two (kind_variable n old) (kind_simple {u = w} {g = h'} q) s s' ea eb below below' same deep heads tails = first_alone g f S m a b n w x y z h' NoMore ls two old s' below' (omega arith) ea eb
-    by_kind x y z ks ls two (kind_variable n old) (kind_box {f = h'} {vs = us} k header lt box at inside) s s' ea eb below below' same deep heads tails = first_alone g f S m a b n (49152 + k) x y z h' us ls two old s' below' (omega arith) ea eb
-    by_kind x y z ks ls two (kind_simple {u = u} {g = h} q) (kind_variable n old) s s' ea eb below below' same deep heads tails = second_alone g f S m a b n u x y z h NoMore ks two old s below (omega arith) ea eb
-    by_kind x y z ks ls two (kind_box {f = h} {vs = vs} k header lt box at inside) (kind_variable n old) s s' ea eb below below' same deep heads tails = second_alone g f S m a b n (49152 + k) x y z h vs ks two old s below (omega arith) ea eb
+    by_kind x y z ks ls two (kind_variable n old) (kind_simple {u = w} {g = h'} q) s s' ea eb below below' same deep heads tails = first_to_simple g f S m a b n w x y z h' two old q s' ea eb
+    by_kind x y z ks ls two (kind_variable n old) (kind_box {f = h'} {vs = us} k header lt box at inside) s s' ea eb below below' same deep heads tails = first_to_box g f S m a b n k x y z h' us ls two old (omega arith) s' below' (omega arith) ea eb
+    by_kind x y z ks ls two (kind_simple {u = u} {g = h} q) (kind_variable n old) s s' ea eb below below' same deep heads tails = second_to_simple g f S m a b n u x y z h two old q s ea eb
+    by_kind x y z ks ls two (kind_box {f = h} {vs = vs} k header lt box at inside) (kind_variable n old) s s' ea eb below below' same deep heads tails = second_to_box g f S m a b n k x y z h vs ks two old (omega arith) s below (omega arith) ea eb
     by_kind x y z ks ls two (kind_simple {u = u} {g = h} q) (kind_simple {u = w} {g = h'} q') s s' ea eb below below' same deep heads tails = two_simple g f S m a b u w x y z h h' q q' ea eb (same_label h h') refl
     by_kind x y z ks ls two (kind_simple {u = u} {g = h} q) (kind_box {f = h'} {vs = us} k header lt box at inside) s s' ea eb below below' same deep heads tails = simple_box g f S m a b u k x y z h h' us q (omega arith) (simple_no_box q inside).0 ea eb
     by_kind x y z ks ls two (kind_box {f = h} {vs = vs} k header lt box at inside) (kind_simple {u = w} {g = h'} q) s s' ea eb below below' same deep heads tails = box_simple g f S m a b k w x y z h h' vs q (omega arith) (simple_no_box q inside).1 ea eb
     by_kind x y z ks ls two (kind_box {f = h} {vs = vs} k header lt box at inside) (kind_box {f = h'} {vs = us} k' header' lt' box' at' inside') s s' ea eb below below' same deep heads tails =
-        boxes x y z ks ls same (omega arith) inside inside' at at' (record { small = lt; box = box; less = parts_smaller S h vs; below = below }) (record { small = lt'; box = box'; less = parts_smaller S h' us; below = below' }) ea eb heads tails
+        elim (cases_eq k k') [
+          | inl e ↦ in_one_box x y z e s s' ea eb
+          | inr ne ↦ boxes x y z ks ls ne same (omega arith) inside inside' at at' (record { small = lt; box = box; less = parts_smaller S h vs; below = below }) (record { small = lt'; box = box'; less = parts_smaller S h' us; below = below' }) ea eb heads tails
+        ]
 
     level : (u w x y z : ℕ) (ks ls : List ℕ) → Shows g.sh u a → Shows g.sh w b → Below g.sh S ks a → Below g.sh S ls b → length ls ≡ length ks → 3336 ≤ suc f + length ks → Below_it g f (unify S a b).count → Again g f (unify S a b).count ks ls → Meant g f (drop 1 UNIFY_ACTS) m.memory (u ∷ w ∷ x ∷ y ∷ z ∷ []) 7 (price S ((a, b) ∷ [])) (unify S a b)
     level u w x y z ks ls s s' below below' same deep heads tails =
-        let first_walk = walk_works g.p g.has g.sh g.is 0 0 m.memory g.typed g.output g.drawn 0 0 m.cells m.at.holds S m.at.stands u 0 a s in
-        let second_walk = walk_works g.p g.has g.sh g.is 0 0 m.memory g.typed g.output g.drawn 0 0 m.cells m.at.holds S m.at.stands w 0 b s' in
+        let one = first_looked g (suc f) S m u w x y z a s in
+        let two = second_looked g (suc f) S m (walk S a) one.word w one.third y z b s' in
         let l = levels g.is S below in
-        let r = by_kind x y z ks ls (omega arith) (kind first_walk.shows) (kind second_walk.shows) first_walk.shows second_walk.shows refl refl (below_walk S m.at.stands.sound below) (below_walk S m.at.stands.sound below') same deep heads tails in
-        let few_a = first_walk.few in
-        let few_b = second_walk.few in
-        ends_map (λ n. suc first_walk.count + (suc second_walk.count + n)) (λ n. omega arith) (λ n o st q. calls {f' = 0} {w' = 0} {n = first_walk.count} {n' = suc second_walk.count + n} {xs = (u, 0, 0)} refl (rw (first g.p m.memory u w x y z g.typed g.drawn g.output) refl) (walk_at g.p g.has) (omega arith) (omega arith) first_walk.runs (put_first g.p m.memory u w x y z first_walk.word g.typed g.drawn g.output)
-        (calls {f' = 0} {w' = 0} {n = second_walk.count} {n' = n} {xs = (w, 0, 0)} refl (rw (second g.p m.memory first_walk.word w x y z g.typed g.drawn g.output) refl) (walk_at g.p g.has) (omega arith) (omega arith) second_walk.runs (put_second g.p m.memory first_walk.word w x y z second_walk.word g.typed g.drawn g.output) q)) r
+        let r = by_kind two.third y z ks ls (omega arith) (kind one.shows) (kind two.shows) one.shows two.shows refl refl (below_walk S m.at.stands.sound below) (below_walk S m.at.stands.sound below') same deep heads tails in
+        let few_a = one.few in
+        let few_b = two.few in
+        ends_map (λ n. steps one.count (steps two.count n)) (λ n. let first = steps_are one.count (steps two.count n) in let second = steps_are two.count n in omega arith) (λ n o st q. one.runs o st (steps two.count n) (two.runs o st n q)) r
 
 -- ---- all levels
 

@@ -1,8 +1,8 @@
 -- What unification comes to, by its first turn.
-use Rattle.std.proofs.Common.{◌≡◌, ◌≢◌, ℕ, ◌+◌, ◌<◌, ◌≤◌, inl, inr, Bool, true, false, List, [], ◌∷◌, length, refl, sym, ap, ◌∙◌, subst, arith, append-nil}
+use Rattle.std.proofs.Common.{◌≡◌, ◌≢◌, ℕ, ◌+◌, ◌<◌, ◌≤◌, inl, inr, Bool, true, false, List, [], ◌∷◌, length, refl, sym, ap, ◌∙◌, subst, arith, append-nil, Some}
 use Rattle.std.specs.Prelude.{eqb, max, ◌&&◌}
 use Rattle.std.proofs.lemmas.Bool.{eq-eqb, ne_eqb, cases_eq, cond-true, cond-false}
-use Rattle.dg_meaning.specs.Values.{Label, Num, Word, Object, Nil, Value, Node, Values, NoMore, More}
+use Rattle.dg_meaning.specs.Values.{Label, Num, Word, Object, Nil, Value, Node, Values, NoMore, More, Var, leaf}
 use Rattle.dg_meaning.specs.ValueCells.{count_of}
 use Rattle.dg_meaning.specs.Substitutions.{Substitution, walk}
 use Rattle.dg_meaning.specs.inside.Substitutions.{FitsFront, IsSubstitution}
@@ -10,12 +10,13 @@ use Rattle.dg_meaning.specs.Unify.{same_spelling, same_label, Equations, as_many
 use Rattle.dg_meaning.specs.inside.Unify.{solve_turn, unify}
 use Rattle.dg_meaning.specs.Letters.{values_compared, compared}
 use Rattle.dg_meaning.proofs.Solving.{Fair, turn_fair, solve_extends}
-use Rattle.dg_meaning.proofs.UnifyLaws.{solve_step, solve_nothing, solve_first}
-use Rattle.dg_rt.specs.Shapes.{Shape, Filled, pair_in, closure_in, word_in}
+use Rattle.dg_meaning.proofs.UnifyLaws.{solve_step, solve_nothing, solve_first, label_same}
+use Rattle.dg_rt.specs.Shapes.{Shape, Filled, pair_in, closure_in, word_in, IsShape, Cell, Shows, number, dict, object, nil, variable, boxed}
 use Rattle.dg_rt.specs.Moments.{trail_of}
 use Rattle.dg_rt.specs.Unifies.{price}
 use Rattle.dg_rt.proofs.Binding.{trail_append}
 use Rattle.dg_rt.proofs.Compared.{compared_turn, compared_step, compared_append}
+use Rattle.dg_rt.proofs.Showing.{reference_value}
 
 pub record Bound (S : Substitution) (a b : Value) (x : ℕ) (v : Value) : Type 0 where
   pub is : unify S a b ≡ counted (cost S a b) (agreed ((x, v) ∷ S))
@@ -94,6 +95,38 @@ simple_no_box (an_object n lt) (word_in k fine a) = (refl, refl)
 simple_no_box a_nil (pair_in k x y a b c d) = (refl, refl)
 simple_no_box a_nil (closure_in k place a t u b c) = (refl, refl)
 simple_no_box a_nil (word_in k fine a) = (refl, refl)
+
+-- ---- what a word is, at its top
+
+pub data Kind (sh : Shape) : ℕ → Value → Type 0 where
+  kind_variable : (n : ℕ) → n < sh.vars → Kind sh (32768 + sh.place n) (Var n)
+  kind_simple : {u : ℕ} {g : Label} → Simple u g → Kind sh u (leaf g)
+  kind_box : {f : Label} {vs : Values} (k header : ℕ) → k + 2 < 10000 → sh.box k ≡ Some (Node f vs) → Cell sh k header → Filled sh k header (Node f vs) → Kind sh (49152 + k) (Node f vs)
+
+pub kind : {sh : Shape} {u : ℕ} {x : Value} → Shows sh u x → Kind sh u x
+kind (number n lt) = kind_simple (a_number n lt)
+kind (dict n lt) = kind_simple (a_word n lt)
+kind (object n lt) = kind_simple (an_object n lt)
+kind nil = kind_simple a_nil
+kind (variable n lt) = kind_variable n lt
+kind (boxed {v = Node f vs} k header lt box at inside) = kind_box k header lt box at inside
+kind (boxed {v = Var n} k header lt box at inside) = elim inside [ ]
+
+-- one word stands for one value
+pub one_value : {sh : Shape} → IsShape sh → {u w : ℕ} {x y : Value} → Kind sh u x → Kind sh w y → Shows sh u x → Shows sh w y → u ≡ w → x ≡ y
+one_value is (kind_variable n old) k s s' e = sym (reference_value is n old s' (sym e))
+one_value is (kind_simple q) (kind_variable i old) s s' e = reference_value is i old s e
+one_value is (kind_simple {u = u} {g = g} q) (kind_simple {u = w} {g = h} q') s s' e = ap (λ (l : Label). leaf l) (label_same g h (sym (same_words q q') ∙ eq-eqb u w e))
+one_value is (kind_simple q) (kind_box k header lt box at inside) s s' e = let low = simple_small q in absurd (omega arith)
+one_value is (kind_box k header lt box at inside) (kind_variable i old) s s' e = reference_value is i old s e
+one_value is (kind_box k header lt box at inside) (kind_simple q) s s' e = let low = simple_small q in absurd (omega arith)
+one_value {sh} is (kind_box {f = f} {vs = vs} k header lt box at inside) (kind_box {f = h} {vs = us} k' header' lt' box' at' inside') s s' e =
+    let same : k ≡ k' = omega arith in
+    let boxes : Some (Node f vs) ≡ Some (Node h us) = sym box ∙ ap (λ (j : ℕ). sh.box j) same ∙ box' in
+    cc
+
+pub same_word : {sh : Shape} → IsShape sh → {u w : ℕ} {x y : Value} → Shows sh u x → Shows sh w y → u ≡ w → x ≡ y
+same_word is s s' e = one_value is (kind s) (kind s') s s' e
 
 -- ---- spellings and numbers of parts
 

@@ -60,7 +60,8 @@ pub record FindsWord (p : Program) (words : List (List ℕ)) (f w : ℕ) (memory
 
 -- So it is with letters that stand in a row.
 abbrev pub FindWorks : Type 0
-FindWorks = (p : Program) → HasRunTime p → (story : List ℕ) (words : List (List ℕ)) → HasSpellings p story words → (f w : ℕ) → 2 ≤ f → 9 ≤ w →
+FindWorks = (p : Program) → HasRunTime p → (story : List ℕ) (words : List (List ℕ)) → HasSpellings p story words → (f w : ℕ) →
+    2 ≤ f → 9 ≤ w →
     (memory typed output : List ℕ) (drawn : ℕ) (cells : ℕ → ℕ) → Holds p.world.layout memory cells → IsKept p.world.layout.base story memory →
     (k : ℕ) (letters : List ℕ) → at_cell (k + length letters) ≤ p.world.layout.base → at_cell (k + length letters) < 65536 → Row cells k letters →
     FindsWord p words f w memory typed output drawn k letters

@@ -89,7 +89,8 @@ pub record GatherWorks : Type 0 where
   pub meets_heap : (p : Program) → HasRunTime p → (f w : ℕ) → 2 ≤ f → (memory typed output : List ℕ) (drawn : ℕ) (cells : ℕ → ℕ) →
       Holds p.world.layout memory cells → cells heap_reg ≤ 10000 → 10000 < cells heap_reg + 10 →
       MeetsThe p HeapLimit f w OPEN_GATHERING_ACTS memory (0 ∷ 0 ∷ []) typed output drawn cells 12
-  pub meets_aux : (p : Program) → HasRunTime p → (f w : ℕ) → 2 ≤ f → (memory typed output : List ℕ) (drawn : ℕ) (cells : ℕ → ℕ) (k : ℕ) →
+  pub meets_aux : (p : Program) → HasRunTime p → (f w : ℕ) → 2 ≤ f → (memory typed output : List ℕ) (drawn : ℕ) (cells : ℕ → ℕ)
+      (k : ℕ) →
       Holds p.world.layout memory cells → cells heap_reg + 10 ≤ 10000 → NextAt cells k → k ≤ kept_at → kept_at < k + 2 →
       MeetsThe p AuxLimit f w OPEN_GATHERING_ACTS memory (0 ∷ 0 ∷ []) typed output drawn cells 12
 
@@ -201,10 +202,12 @@ pub record ListWorks : Type 0 where
       GatheredAt cells j around vs → AreFormed sh.captures vs → sh.top + copy_cells (list_of vs) ≤ 10000 →
       TakesList p story memory typed output drawn sh S cells around vs
   pub meets : (p : Program) (story : List ℕ) (sh : Shape) → HasCaptures p story sh.captures → (typed output : List ℕ) (drawn : ℕ) (memory : List ℕ)
-      (cells : ℕ → ℕ) → Holds p.world.layout memory cells → IsKept p.world.layout.base story memory → cells heap_reg ≡ sh.top → sh.top ≤ 10000 →
+      (cells : ℕ → ℕ) → Holds p.world.layout memory cells → IsKept p.world.layout.base story memory → cells heap_reg ≡ sh.top →
+      sh.top ≤ 10000 →
       (j around : ℕ) (vs : List Value) → GatheredAt cells j around vs → AreFormed sh.captures vs → 10000 < sh.top + copy_cells (list_of vs) →
       MeetsThe p HeapLimit 2400 14000 TAKE_LIST_ACTS memory (0 ∷ 0 ∷ 0 ∷ 0 ∷ 0 ∷ []) typed output drawn cells (list_most vs)
-  pub none : (p : Program) → HasRunTime p → (typed output : List ℕ) (drawn : ℕ) (memory : List ℕ) (cells : ℕ → ℕ) → Holds p.world.layout memory cells →
+  pub none : (p : Program) → HasRunTime p → (typed output : List ℕ) (drawn : ℕ) (memory : List ℕ) (cells : ℕ → ℕ) →
+      Holds p.world.layout memory cells →
       cells gather_reg ≡ 0 → TakesNone p TAKE_LIST_ACTS memory (0 ∷ 0 ∷ 0 ∷ 0 ∷ 0 ∷ []) typed output drawn cells
 
 -- The sum of what was gathered was answered, or no value where there is none, and the gathering is gone.
@@ -227,5 +230,6 @@ pub record SumWorks : Type 0 where
   pub takes : (p : Program) → HasRunTime p → (captures : ℕ → ℕ) (typed output : List ℕ) (drawn : ℕ) (memory : List ℕ) (cells : ℕ → ℕ) →
       Holds p.world.layout memory cells → (j around : ℕ) (vs : List Value) → GatheredAt cells j around vs → AreFormed captures vs →
       TakesSum p memory typed output drawn cells around vs
-  pub none : (p : Program) → HasRunTime p → (typed output : List ℕ) (drawn : ℕ) (memory : List ℕ) (cells : ℕ → ℕ) → Holds p.world.layout memory cells →
+  pub none : (p : Program) → HasRunTime p → (typed output : List ℕ) (drawn : ℕ) (memory : List ℕ) (cells : ℕ → ℕ) →
+      Holds p.world.layout memory cells →
       cells gather_reg ≡ 0 → TakesNone p TAKE_SUM_ACTS memory (0 ∷ 0 ∷ 0 ∷ 0 ∷ []) typed output drawn cells

@@ -152,7 +152,8 @@ KeepWorks = (p : Program) → HasRunTime p → (f w : ℕ) → 3336 ≤ f → 16
 
 -- A variable becomes unset, in 20 instructions for each word of the others, and 30.
 abbrev pub ClearKeptWorks : Type 0
-ClearKeptWorks = (p : Program) → HasRunTime p → (f w : ℕ) → 2 ≤ f → 8 ≤ w → (memory typed output : List ℕ) (drawn : ℕ) (cells : ℕ → ℕ) →
+ClearKeptWorks = (p : Program) → HasRunTime p → (f w : ℕ) → 2 ≤ f → 8 ≤ w → (memory typed output : List ℕ) (drawn : ℕ)
+    (cells : ℕ → ℕ) →
     Holds p.world.layout memory cells → (last h objects next : ℕ) (bs : List Block) → at_cell last ≤ p.world.layout.base → KeptIn last cells bs →
     IsVariable last cells bs h →
     Alters p f w CLEAR_KEPT_ACTS memory (at_cell h ∷ objects ∷ next ∷ []) typed output drawn last h next cells bs (without h bs)

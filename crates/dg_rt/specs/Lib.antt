@@ -15,6 +15,7 @@ pub mod Charges
 pub mod Frames
 pub mod Choices
 pub mod Rules
+pub mod Taking
 pub mod Queries
 pub mod Operands
 pub mod Conditions

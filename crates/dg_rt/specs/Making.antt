@@ -26,7 +26,8 @@ use Rattle.dg_rt.specs.Shapes.{Shape, IsShape, Shows, Stands}
 -- ## What is given
 
 -- A word shows a value in memory that stands for a substitution, in a story that tells what closures capture and has these words.
-pub record IsGiven (p : Program) (story : List ℕ) (words : List (List ℕ)) (memory : List ℕ) (cells : ℕ → ℕ) (sh : Shape) (S : Substitution) (x : ℕ)
+pub record IsGiven (p : Program) (story : List ℕ) (words : List (List ℕ)) (memory : List ℕ) (cells : ℕ → ℕ) (sh : Shape)
+    (S : Substitution) (x : ℕ)
     (v : Value) : Type 0 where
   pub told : HasCaptures p story sh.captures
   pub spelled : HasSpellings p story words
@@ -71,7 +72,8 @@ pub record LaysOn (p : Program) (f w : ℕ) (acts : List Act) (memory locals typ
   pub word : ℕ
   pub shows : Shows sh' word v
   pub heap : cells' heap_reg ≡ sh.top + copy_cells v
-  pub others : (k : ℕ) → k ≢ heap_reg → k ≢ from_reg → k ≢ fill_reg → (heap_at + sh.top ≤ k → trail_at ≤ k) → (line_at ≤ k → fixed_end ≤ k) →
+  pub others : (k : ℕ) → k ≢ heap_reg → k ≢ from_reg → k ≢ fill_reg → (heap_at + sh.top ≤ k → trail_at ≤ k) →
+      (line_at ≤ k → fixed_end ≤ k) →
       cells' k ≡ cells k
   pub count : ℕ
   pub few : count ≤ most
@@ -88,15 +90,18 @@ making_most words letters v = 150 * reading words (length letters) + 38 * size v
 pub record MakesOfLetters (acts : List Act) (locals : List ℕ) (frames room : ℕ) (Fits : Substitution → Value → Type 0)
     (letters_of : List (List ℕ) → Substitution → Value → Option (List ℕ)) (spells : List (List ℕ) → List ℕ → Value)
     (looks : Substitution → Value → ℕ) : Type 0 where
-  pub none : (p : Program) (story : List ℕ) (words : List (List ℕ)) (f w : ℕ) → frames ≤ f → room ≤ w → (memory typed output : List ℕ) (drawn : ℕ)
+  pub none : (p : Program) (story : List ℕ) (words : List (List ℕ)) (f w : ℕ) → frames ≤ f → room ≤ w →
+      (memory typed output : List ℕ) (drawn : ℕ)
       (cells : ℕ → ℕ) (sh : Shape) (S : Substitution) (x : ℕ) (v : Value) → IsGiven p story words memory cells sh S x v → Fits S v →
       letters_of words S v ≡ None → LaysNone p f w acts memory (x ∷ locals) typed output drawn cells (looks S v)
-  pub lays : (p : Program) (story : List ℕ) (words : List (List ℕ)) (f w : ℕ) → frames ≤ f → room ≤ w → (memory typed output : List ℕ) (drawn : ℕ)
+  pub lays : (p : Program) (story : List ℕ) (words : List (List ℕ)) (f w : ℕ) → frames ≤ f → room ≤ w →
+      (memory typed output : List ℕ) (drawn : ℕ)
       (cells : ℕ → ℕ) (sh : Shape) (S : Substitution) (x : ℕ) (v : Value) → IsGiven p story words memory cells sh S x v → Fits S v →
       (letters : List ℕ) → letters_of words S v ≡ Some letters → sh.top + copy_cells (spells words letters) ≤ 10000 →
       LaysOn p f w acts memory (x ∷ locals) typed output drawn cells sh S (spells words letters)
       (looks S v + making_most words letters (spells words letters))
-  pub meets : (p : Program) (story : List ℕ) (words : List (List ℕ)) (f w : ℕ) → frames ≤ f → room ≤ w → (memory typed output : List ℕ) (drawn : ℕ)
+  pub meets : (p : Program) (story : List ℕ) (words : List (List ℕ)) (f w : ℕ) → frames ≤ f → room ≤ w →
+      (memory typed output : List ℕ) (drawn : ℕ)
       (cells : ℕ → ℕ) (sh : Shape) (S : Substitution) (x : ℕ) (v : Value) → IsGiven p story words memory cells sh S x v → Fits S v →
       (letters : List ℕ) → letters_of words S v ≡ Some letters → 10000 < sh.top + copy_cells (spells words letters) →
       MeetsLimit p f w acts memory (x ∷ locals) typed output drawn cells (looks S v + making_most words letters (spells words letters))

@@ -6,6 +6,7 @@ use Rattle.dg_meaning.specs.Values.{Label, Num, Word, Unknown, Object, Nil, Pair
 use Rattle.dg_meaning.specs.Substitutions.{Substitution, walk, links}
 use Rattle.dg_meaning.specs.Unify.{Unified}
 use Rattle.dg_meaning.specs.inside.Unify.{unify}
+use Rattle.z_lang.specs.declared.act.Act.{Act}
 use Rattle.z_lang.specs.State.{Program}
 use Rattle.z_lang.specs.Runs.{ActsRun as Runs, Returns, Stops}
 use Rattle.dg_rt.specs.declared.numbers.TheConstants.{FAIL}
@@ -123,26 +124,30 @@ pub record NoneWorks : Type 0 where
 
 -- ## Heads
 
--- An argument and a term of a head were unified, in 5 instructions more than that takes, and the register of clashes says whether they clash; or the
--- trail's limit has ended the run.
-pub data Matches (g : Setting) (memory : List ℕ) (x y most : ℕ) (u : Unified) : Type 0 where
+-- By these acts an argument and a term of a head were unified, in 5 instructions more than that takes, and the register of clashes says whether they
+-- clash; or the trail's limit has ended the run.
+pub data Matches (acts : List Act) (g : Setting) (memory : List ℕ) (x y most : ℕ) (u : Unified) : Type 0 where
   agree : (m : Moment g u.subst) (memory' locals' : List ℕ) (cells' : ℕ → ℕ) (count : ℕ) → Holds g.p.world.layout memory' cells' →
       cells' clash_reg ≡ 1 - bit u.agrees → ((k : ℕ) → k ≢ clash_reg → cells' k ≡ m.cells k) → count ≤ most + 5 →
-      Runs g.p 3337 16685 MATCH_ACTS MATCH_ACTS (in_state g memory (x ∷ y ∷ 0 ∷ 0 ∷ [])) (Returns 0) (in_state g memory' locals') count →
-      Matches g memory x y most u
+      Runs g.p 3337 16685 acts acts (in_state g memory (x ∷ y ∷ 0 ∷ 0 ∷ [])) (Returns 0) (in_state g memory' locals') count →
+      Matches acts g memory x y most u
   limit_met : (memory' locals' : List ℕ) (count : ℕ) → Passes g u.subst → count ≤ most + 5 + closing_most →
-      Runs g.p 3337 16685 MATCH_ACTS MATCH_ACTS (in_state g memory (x ∷ y ∷ 0 ∷ 0 ∷ [])) (Stops AtQuit)
-      (state memory' locals' g.typed g.drawn (closed g)) count → Matches g memory x y most u
+      Runs g.p 3337 16685 acts acts (in_state g memory (x ∷ y ∷ 0 ∷ 0 ∷ [])) (Stops AtQuit)
+      (state memory' locals' g.typed g.drawn (closed g)) count → Matches acts g memory x y most u
+
+-- Where one has clashed nothing is done by them, in 2 instructions.
+abbrev pub Skips : List Act → Type 0
+Skips acts = (p : Program) → IsMapped p → (f w : ℕ) (memory typed output : List ℕ) (drawn x y : ℕ) (cells : ℕ → ℕ) →
+    Holds p.world.layout memory cells →
+    cells clash_reg ≢ 0 → Runs p f w acts acts (state memory (x ∷ y ∷ 0 ∷ 0 ∷ []) typed drawn output) (Returns 0)
+    (state memory (x ∷ y ∷ 0 ∷ 0 ∷ []) typed drawn output) 2
 
 -- So they are as long as none has clashed; else nothing is done.
 pub record MatchWorks : Type 0 where
   pub matches : (g : Setting) (S : Substitution) (m : Moment g S) (x y : ℕ) (a b : Value) → Shows g.sh x a → Shows g.sh y b →
       m.cells clash_reg ≡ 0 →
-      Matches g m.memory x y (price S ((a, b) ∷ [])) (unify S a b)
-  pub skips : (p : Program) → IsMapped p → (f w : ℕ) (memory typed output : List ℕ) (drawn x y : ℕ) (cells : ℕ → ℕ) →
-      Holds p.world.layout memory cells →
-      cells clash_reg ≢ 0 → Runs p f w MATCH_ACTS MATCH_ACTS (state memory (x ∷ y ∷ 0 ∷ 0 ∷ []) typed drawn output) (Returns 0)
-      (state memory (x ∷ y ∷ 0 ∷ 0 ∷ []) typed drawn output) 2
+      Matches MATCH_ACTS g m.memory x y (price S ((a, b) ∷ [])) (unify S a b)
+  pub skips : Skips MATCH_ACTS
 
 -- Behind the last argument a routine comes next, or the one that fails, in 2 instructions, and nothing is changed.
 pub record MatchedWorks : Type 0 where

@@ -31,6 +31,7 @@ use Rattle.dg_rt.specs.declared.dictionary.TheConstants.{WORD_LETTER_ACTS, NEXT_
 use Rattle.dg_rt.specs.declared.typing.TheConstants.{UNICODE_ACTS, READ_LINE_ACTS, SPELLED_NUMBER_ACTS, SPELLED_ACTS, LETTER_KIND_ACTS, ELEMENT_ACTS, LINE_CELLS_ACTS, WRITTEN_VALUE_ACTS, BREAK_LINE_ACTS}
 use Rattle.dg_rt.specs.declared.splitting.TheConstants.{LETTER_ON_ACTS, SPLIT_NUMBER_ACTS, SPLIT_LETTERS_ACTS, SPLIT_SPELLING_ACTS, SPLIT_ACTS, MADE_ACTS}
 use Rattle.dg_rt.specs.declared.joining.TheConstants.{DIGITS_ACTS, WORD_LETTERS_ACTS, BOX_LETTERS_ACTS, VALUE_LETTERS_ACTS, LIST_LETTERS_ACTS, JOIN_ACTS}
+use Rattle.dg_rt.specs.declared.heads.TheConstants.{TAKE_ACTS}
 use Rattle.dg_rt.specs.Areas.{IsMapped}
 
 -- A routine of so many locals.
@@ -142,7 +143,8 @@ kept_routines = routine_of 4 DROP_KEPT_ACTS ∷ routine_of 4 KEEP_ACTS ∷ routi
 -- Those of what is gathered.
 abbrev pub gathering_routines : List Routine
 gathering_routines =
-    routine_of 2 OPEN_GATHERING_ACTS ∷ routine_of 2 KEEP_VALUE_ACTS ∷ routine_of 4 COUNT_VALUES_ACTS ∷ routine_of 5 TAKE_LIST_ACTS ∷ routine_of 4 TAKE_SUM_ACTS
+    routine_of 2 OPEN_GATHERING_ACTS ∷ routine_of 2 KEEP_VALUE_ACTS ∷ routine_of 4 COUNT_VALUES_ACTS ∷ routine_of 5 TAKE_LIST_ACTS ∷
+    routine_of 4 TAKE_SUM_ACTS
     ∷ []
 
 -- Those that choose a branch.
@@ -175,6 +177,10 @@ joining_routines =
     routine_of 3 DIGITS_ACTS ∷ routine_of 6 WORD_LETTERS_ACTS ∷ routine_of 4 BOX_LETTERS_ACTS ∷ routine_of 3 VALUE_LETTERS_ACTS
     ∷ routine_of 3 LIST_LETTERS_ACTS ∷ routine_of 2 JOIN_ACTS ∷ []
 
+-- Those of heads whose variables are new.
+abbrev pub taking_routines : List Routine
+taking_routines = routine_of 4 TAKE_ACTS ∷ []
+
 -- All of them. The first has number 1, since a story begins with routine 0.
 abbrev pub runtime : List Routine
 runtime =
@@ -182,7 +188,7 @@ runtime =
     ++ (printing_routines ++ (keeping_routines ++ (letter_routines ++ (space_routines ++ (condition_routines ++ (arithmetic_routines
     ++ (value_printing_routines ++ (change_routines ++ (reading_routines ++ (spelling_routines ++ (closure_routines ++ (trying_routines
     ++ (kept_routines ++ (gathering_routines ++ (pick_routines ++ (dictionary_routines ++ (typing_routines
-    ++ (splitting_routines ++ (joining_routines)))))))))))))))))))))))))
+    ++ (splitting_routines ++ (joining_routines ++ taking_routines)))))))))))))))))))))))))
 
 -- The run-time stands in a program: its areas may be written, and each routine has its number.
 pub record HasRunTime (p : Program) : Type 0 where

@@ -100,21 +100,25 @@ pub record TriesFurther (p : Program) (f w : ℕ) (memory typed output : List �
   pub cut : cells' cut_reg ≡ at_place top
   pub key : cells' key_reg ≡ cells key_reg
   pub clash : cells' clash_reg ≡ 0
-  pub others : (k : ℕ) → k ≢ heap_reg → k ≢ choice_reg → k ≢ mark_reg → k ≢ cut_reg → k ≢ many_reg → k ≢ key_reg → k ≢ begin_reg →
+  pub others : (k : ℕ) → k ≢ heap_reg → k ≢ choice_reg → k ≢ mark_reg → k ≢ cut_reg → k ≢ many_reg → k ≢ key_reg →
+      k ≢ begin_reg →
       k ≢ clash_reg → k ≢ parameters_reg → (heap_at + top ≤ k → heap_at + (top + 22) ≤ k) → cells' k ≡ cells k
   pub runs : Runs p f w TRY_ACTS TRY_ACTS (state memory (objects ∷ arguments ∷ []) typed drawn output) (Returns (24576 + cells key_reg))
       (state memory' locals' typed drawn output) 44
 
 -- So it is by whether other objects follow; where a choice would pass the heap's end, its limit is met.
 pub record TryWorks : Type 0 where
-  pub last : (p : Program) → HasRunTime p → (f w : ℕ) (memory typed output : List ℕ) (drawn objects arguments : ℕ) (cells : ℕ → ℕ) (top : ℕ) →
-      Holds p.world.layout memory cells → cells heap_reg ≡ top → top ≤ 10000 → objects ≤ 4096 → arguments ≤ 12 → suc (cells key_reg) ≡ objects →
+  pub last : (p : Program) → HasRunTime p → (f w : ℕ) (memory typed output : List ℕ) (drawn objects arguments : ℕ) (cells : ℕ → ℕ)
+      (top : ℕ) →
+      Holds p.world.layout memory cells → cells heap_reg ≡ top → top ≤ 10000 → objects ≤ 4096 → arguments ≤ 12 →
+      suc (cells key_reg) ≡ objects →
       TriesLast p f w memory typed output drawn objects arguments cells top
   pub further : (p : Program) → HasRunTime p → (f w : ℕ) → 1 ≤ f → 4 ≤ w → (memory typed output : List ℕ) (drawn objects arguments : ℕ)
       (cells : ℕ → ℕ) (top : ℕ) → Holds p.world.layout memory cells → cells heap_reg ≡ top → objects ≤ 4096 → arguments ≤ 12 →
       suc (cells key_reg) < objects → top + 10 + arguments ≤ 10000 → TriesFurther p f w memory typed output drawn objects arguments cells top
   pub meets : (p : Program) → HasRunTime p → (f w : ℕ) → 3 ≤ f → 4 ≤ w → (memory typed output : List ℕ) (drawn objects arguments : ℕ)
-      (cells : ℕ → ℕ) (top : ℕ) → Holds p.world.layout memory cells → cells heap_reg ≡ top → top ≤ 10000 → objects ≤ 4096 → arguments ≤ 12 →
+      (cells : ℕ → ℕ) (top : ℕ) → Holds p.world.layout memory cells → cells heap_reg ≡ top → top ≤ 10000 → objects ≤ 4096 →
+      arguments ≤ 12 →
       suc (cells key_reg) < objects → 10000 < top + 10 + arguments →
       MeetsLimit p f w TRY_ACTS memory (objects ∷ arguments ∷ []) typed output drawn cells 13
 

@@ -32,7 +32,8 @@ abbrev pub row_at : ℕ
 row_at = 15745
 
 -- A typed line was taken, and its letters stand in a row; their number is answered. From the static part on memory is still the story's.
-pub record ReadsLine (p : Program) (story : List ℕ) (f w : ℕ) (memory output : List ℕ) (drawn byte : ℕ) (typed : List ℕ) (cells : ℕ → ℕ) : Type 0 where
+pub record ReadsLine (p : Program) (story : List ℕ) (f w : ℕ) (memory output : List ℕ) (drawn byte : ℕ) (typed : List ℕ)
+    (cells : ℕ → ℕ) : Type 0 where
   pub memory' : List ℕ
   pub cells' : ℕ → ℕ
   pub locals' : List ℕ
@@ -57,7 +58,8 @@ pub record EndsInput (p : Program) (f w : ℕ) (memory output : List ℕ) (drawn
 
 -- So it is in any state.
 pub record LinesWork : Type 0 where
-  pub reads : (p : Program) → HasRunTime p → (story : List ℕ) (f w : ℕ) → 1 ≤ f → 1 ≤ w → (memory output : List ℕ) (drawn byte : ℕ) (typed : List ℕ)
+  pub reads : (p : Program) → HasRunTime p → (story : List ℕ) (f w : ℕ) → 1 ≤ f → 1 ≤ w → (memory output : List ℕ)
+      (drawn byte : ℕ) (typed : List ℕ)
       (cells : ℕ → ℕ) → Holds p.world.layout memory cells → IsKept p.world.layout.base story memory →
       ReadsLine p story f w memory output drawn byte typed cells
   pub ends : (p : Program) → HasRunTime p → (f w : ℕ) (memory output : List ℕ) (drawn : ℕ) (cells : ℕ → ℕ) →
@@ -94,16 +96,19 @@ pub record WritesCells (p : Program) (story : List ℕ) (v : Value) (cells : ℕ
 
 -- So it is with what letters spell that stand in a row behind that place.
 abbrev pub SpelledWorks : Type 0
-SpelledWorks = (p : Program) → HasRunTime p → (story : List ℕ) (words : List (List ℕ)) → HasSpellings p story words → (f w : ℕ) → 3 ≤ f → 13 ≤ w →
+SpelledWorks = (p : Program) → HasRunTime p → (story : List ℕ) (words : List (List ℕ)) → HasSpellings p story words → (f w : ℕ) →
+    3 ≤ f → 13 ≤ w →
     (memory typed output : List ℕ) (drawn : ℕ) (cells : ℕ → ℕ) → Holds p.world.layout memory cells → IsKept p.world.layout.base story memory →
-    (k o : ℕ) (letters : List ℕ) → 0 < length letters → length letters ≤ 200 → line_at ≤ o → o + 1 ≤ k → k + length letters ≤ fixed_end → Row cells k letters →
+    (k o : ℕ) (letters : List ℕ) → 0 < length letters → length letters ≤ 200 → line_at ≤ o → o + 1 ≤ k →
+    k + length letters ≤ fixed_end → Row cells k letters →
     WritesCells p story (spelled_value words letters) cells o (λ x memory' locals' count.
     Runs p f w SPELLED_ACTS SPELLED_ACTS (state memory (at_cell k ∷ at_cell (k + length letters) ∷ at_cell o ∷ 0 ∷ []) typed drawn output) (Returns x)
     (state memory' locals' typed drawn output) count) (length words * (31 * length letters + 16) + (50 * length letters + 40))
 
 -- So it is with the list of what a row of letters spells.
 abbrev pub LineCellsWork : Type 0
-LineCellsWork = (p : Program) → HasRunTime p → (story : List ℕ) (words : List (List ℕ)) → HasSpellings p story words → (f w : ℕ) → 5 ≤ f → 20 ≤ w →
+LineCellsWork = (p : Program) → HasRunTime p → (story : List ℕ) (words : List (List ℕ)) → HasSpellings p story words → (f w : ℕ) →
+    5 ≤ f → 20 ≤ w →
     (memory typed output : List ℕ) (drawn : ℕ) (cells : ℕ → ℕ) → Holds p.world.layout memory cells → IsKept p.world.layout.base story memory →
     (letters : List ℕ) → length letters ≤ 200 → Row cells row_at letters →
     WritesCells p story (spelled_list words (spellings_of letters)) cells line_at (λ x memory' locals' count.
@@ -155,7 +160,8 @@ pub record WrittenWorks : Type 0 where
       ((n : ℕ) → n < sh.vars → sh.place n < sh.top) → (S : Substitution) → Stands sh cells S →
       ((n : ℕ) → sh.vars ≤ n → binding_of n S ≡ None) → cells heap_reg ≡ sh.top → sh.top + copy_cells v ≤ 10000 →
       LaysWritten p f w memory typed output drawn cells sh S v (38 * size v + 8 * letters_in v + 12)
-  pub meets : (p : Program) (story : List ℕ) (captures : ℕ → ℕ) (f w : ℕ) (memory typed output : List ℕ) (drawn : ℕ) (cells : ℕ → ℕ) (v : Value) →
+  pub meets : (p : Program) (story : List ℕ) (captures : ℕ → ℕ) (f w : ℕ) (memory typed output : List ℕ) (drawn : ℕ)
+      (cells : ℕ → ℕ) (v : Value) →
       IsWritten p story captures memory cells v → 2 ≤ f → 4 ≤ w → cells heap_reg ≤ 10000 → 10000 < cells heap_reg + copy_cells v →
       MeetsLimit p f w WRITTEN_VALUE_ACTS memory (at_cell (line_at + length (words_of v)) ∷ 0 ∷ []) typed output drawn cells (14 * size v + 8)
 

@@ -18,6 +18,7 @@ ghost use Rattle.dg_rt.specs.Queries.{AskWorks, BodyWorks, LeaveWorks, TailCallW
 ghost use Rattle.dg_rt.specs.Rules.{FoundWorks, KeyWorks, MatchWorks, MatchedWorks, NoneWorks};
 ghost use Rattle.dg_rt.specs.Spaces.{SpacesWork};
 ghost use Rattle.dg_rt.specs.Tables.{WorldWorks};
+ghost use Rattle.dg_rt.specs.Taking.{TakeWorks};
 ghost use Rattle.dg_rt.specs.Undoes.{UndoGivesBack, UndoUnwinds};
 ghost use Rattle.dg_rt.specs.Unifies.{UnifyWorks};
 
@@ -109,6 +110,11 @@ pub fn none_works()
 /// The routine that unifies an argument does so.
 pub fn match_works()
     ensures { MatchWorks }
+{}
+
+/// The routine that unifies an argument with a term of which each variable is new does so.
+pub fn take_works()
+    ensures { TakeWorks }
 {}
 
 /// The routine behind the last argument answers what comes next.

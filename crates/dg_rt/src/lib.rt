@@ -14,6 +14,7 @@ mod frames;
 pub mod gaps;
 pub mod gathering;
 pub mod goals;
+mod heads;
 mod heap;
 mod joining;
 mod keeping;
@@ -44,6 +45,7 @@ pub use closings::{
 };
 pub use copies::{COPY_IN_ACTS, COPY_OUT_ACTS};
 pub use frames::{CAPTURE_ACTS, ENTER_ACTS, VAR_ACTS};
+pub use heads::TAKE_ACTS;
 pub use heap::CHARGE_ACTS;
 pub use keeping::{CELLS_ACTS, MOVE_ACTS};
 pub use laws::runtime_fits;
@@ -52,5 +54,5 @@ pub use pieces::{LETTER_ACTS, PRINT_LETTERS_ACTS, PRINT_MARK_ACTS, PRINT_NUMBER_
 pub use queries::{ASK_ACTS, BODY_ACTS, LEAVE_ACTS, TAIL_CALL_ACTS};
 pub use routines::runtime;
 pub use rules::{FOUND_ACTS, KEY_OF_ACTS, MATCH_ACTS, MATCHED_ACTS, NONE_ACTS};
-pub use start::start_routine;
+pub use start::{routine, start_routine};
 pub use unify::{BIND_ACTS, OCCURS_ACTS, UNDO_ACTS, UNIFY_ACTS, WALK_ACTS};

@@ -404,3 +404,6 @@ pub const LIST_LETTERS: u16 = 134;
 
 /// Joins the words and numbers of a list into a word.
 pub const JOIN: u16 = 135;
+
+/// Unifies an argument with a term of a rule's head of which each variable is new.
+pub const TAKE: u16 = 136;

@@ -14,6 +14,7 @@ use crate::closings::{
 use crate::copies::{COPY_IN_ACTS, COPY_OUT_ACTS};
 use crate::frames::{CAPTURE_ACTS, ENTER_ACTS, VAR_ACTS};
 use crate::gaps::{ASK_SPACES_ACTS, FIRST_ACTS, SEPARATE_ACTS};
+use crate::heads::TAKE_ACTS;
 use crate::heap::CHARGE_ACTS;
 use crate::keeping::{CELLS_ACTS, MOVE_ACTS};
 use crate::operands::{FULL_ACTS, NUMBER_ACTS, OBJECT_ACTS, SIMPLE_ACTS};
@@ -174,6 +175,14 @@ impl Writer {
         self.put(2, &ASK_SPACES_ACTS)?;
         Ok(())
     }
+
+    // Those of heads whose variables are new.
+    fn put_taking(&mut self) -> Result<(), AllocError>
+        ensures { OnOk result (self.new.all ≡ self.old.all ++ spec.taking_routines) }
+    {
+        self.put(4, &TAKE_ACTS)?;
+        Ok(())
+    }
 }
 
 /// All of them, in the order of their numbers, the first of which is 1: a story begins with routine 0.
@@ -210,5 +219,6 @@ pub fn runtime(alloc: Global) -> Result<Items<Routine>, AllocError>
     writer.put_typing()?;
     writer.put_splitting()?;
     writer.put_joining()?;
+    writer.put_taking()?;
     Ok(writer.all)
 }

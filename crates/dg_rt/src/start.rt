@@ -9,8 +9,8 @@ use dg_base::Items;
 use std::alloc::{AllocError, Global};
 use z_lang::{Act, Args, Atom, Routine};
 
-// A routine of these acts, without locals.
-fn routine(alloc: Global, acts: &[Act]) -> Result<Routine, AllocError>
+/// A routine of these acts, without locals.
+pub fn routine(alloc: Global, acts: &[Act]) -> Result<Routine, AllocError>
     ensures { IfOk result (λ r. r ≡ routine_of 0 acts.now) }
 {
     let body = Items::from_slice(alloc, acts)?;

@@ -21,7 +21,7 @@ ghost use Rattle.dg_story.specs.inside.Left.{IsLeftOf, parts_left};
 ghost use Rattle.dg_story.specs.inside.Marked.{HasThose};
 ghost use Rattle.dg_story.specs.inside.World.{AllAreSmall};
 
-use crate::kept::{areas_table, start_world};
+use crate::kept::{KEEP, areas_table, start_world};
 use crate::laws::{programs_have_stories, stories_agree};
 use crate::marks::{marks_of, rule_names};
 use crate::refusal::{BuildFault, BuildRefusal};
@@ -46,9 +46,6 @@ pub struct Built {
     pub rule_routines: u32,
     pub marks: Vec<Mark>,
 }
-
-/// The cells that what starts keep may have.
-const KEEP: u32 = 500;
 
 // How many values each closure captures, a byte each.
 fn captures_table(alloc: Global, closures: &[ClosureBody]) -> Result<Table, AllocError>

@@ -20,7 +20,7 @@ use std::alloc::{AllocError, Global};
 use z_asm::Table;
 
 /// The cells that what starts keep may have.
-const KEEP: u32 = 500;
+pub const KEEP: u32 = 500;
 
 /// The world at the start, where what is kept is within its limit.
 pub fn start_world(alloc: Global, program: &CoreProgram) -> Result<Option<World>, AllocError>

@@ -5,8 +5,10 @@ use Rattle.dg_base.specs.declared.program.CoreProgram.{CoreProgram}
 use Rattle.dg_base.specs.declared.program.Term.{Term}
 use Rattle.dg_base.specs.declared.run.Ending.TheVariants.{HeapLimit, TrailLimit}
 use Rattle.dg_meaning.specs.Cells.{nodes_of, cells as cells_of}
-use Rattle.dg_meaning.specs.Unify.{Unified, solve}
+use Rattle.dg_meaning.specs.Moves.{new_vars}
+use Rattle.dg_meaning.specs.Unify.{Unified, solve, top_of_pairs}
 use Rattle.dg_meaning.specs.Values.{Value, value_of}
+use Rattle.dg_meaning.specs.inside.Bindings.{top_of_values}
 use Rattle.dg_mid.specs.State.{Call, Mid, vars_of}
 use Rattle.dg_mid.specs.Step.{new_frame, bound, trail_more, more}
 use Rattle.z_model.specs.declared.end.Halt.TheVariants.{AtQuit}
@@ -26,21 +28,44 @@ use Rattle.dg_rt.specs.RunTime.{HasRunTime}
 use Rattle.dg_rt.specs.Unifies.{price}
 use Rattle.dg_rt.specs.Closings.{closing, closing_most}
 use Rattle.dg_rt.proofs.Entering.{enter_works}
+use Rattle.dg_rt.proofs.Fresh.{shows_top, stands_top}
 use Rattle.dg_rt.proofs.UnifySteps.{steps_are}
 use Rattle.dg_turn.specs.Told.{Telling}
 use Rattle.dg_turn.specs.Lies.{MidIn}
 use Rattle.dg_turn.specs.Plays.{Playing, Outside, Represented, CallAt, Comes, Closes}
 use Rattle.dg_turn.specs.Terms.{capped, AreNodes, written_in, Wrote}
-use Rattle.dg_turn.specs.Turns.{agreed_next, match_acts, last_acts, head_acts, enter_routine, entered, head_unified, entering_most, Entering, EnterTurns}
+use Rattle.dg_turn.specs.Turns.{agreed_next, matchers, unifying_acts, last_acts, head_acts, enter_routine, entered, head_unified, entering_most, Entering, EnterTurns}
 use Rattle.dg_turn.proofs.Standing.{enter_at}
 use Rattle.dg_turn.proofs.Environment.{bit_few}
 use Rattle.dg_turn.proofs.Staying.{mid_same}
 use Rattle.dg_turn.proofs.Rows.{InRegisters, regs_of, regs_stay, length_map}
 use Rattle.dg_turn.proofs.Terms.{capped_is, caps, writes_terms}
 use Rattle.dg_turn.proofs.Framing.{inside_rule, framed_in}
-use Rattle.dg_turn.proofs.Matching.{Goes, matches}
+use Rattle.dg_turn.proofs.Suiting.{AllSuit, matchers_length, matchers_are, head_suits}
+use Rattle.dg_turn.proofs.Matching.{Goes, unifies}
 use Rattle.dg_turn.proofs.Ends.{next_small, concludes}
 use Rattle.dg_turn.proofs.Moving.{moves, closes}
+
+-- ## What is older than a rule
+
+-- What is bound, the newest mark and the arguments of a call have no variables but those of a machine.
+record Older (call : Call) (m : Mid) : Type 0 where
+  young : m.state.since ≤ m.state.vars
+  below : top_of_pairs m.state.subst ≤ m.state.vars
+  arguments : top_of_values call.args ≤ m.state.vars
+
+args_top : (sh : Shape) (c : ℕ → ℕ) (k : ℕ) (vs : List Value) → InRegisters sh c k vs → top_of_values vs ≤ sh.vars
+args_top sh c k [] h = omega arith
+args_top sh c k (v ∷ vs) h = omega (arith, shows_top h.0, args_top sh c (suc k) vs h.1)
+
+are_older : (t : Telling) {outer : ℕ → ℕ} (sh : Shape) (c : ℕ → ℕ) (trail : List ℕ) (call : Call) (m : Mid) → MidIn t outer sh c trail m → CallAt t sh c call → Older call m
+are_older t sh c trail call m mid call_is =
+    let s = mid.state in
+    let vars = s.vars in
+    let old = mid.marked.old in
+    let below = stands_top c m.state.subst s.stands s.known in
+    let args = args_top sh c 16 call.args (regs_of sh c 16 call.args call_is.args_are) in
+    record { young = omega arith; below = omega arith; arguments = omega arith }
 
 -- ## The head
 
@@ -64,7 +89,7 @@ record HeadFull (t : Telling) (f w : ℕ) (body acts' : List Act) (memory typed 
   few : count ≤ most + closing_most
   runs : ActsRun t.p f w body acts' (state memory [] typed drawn output) (Stops AtQuit) (state memory' locals' typed drawn (output ++ closing last TrailLimit)) count
 
-module _ (t : Telling) {outer : ℕ → ℕ} (has : HasRunTime t.p) (words : (k : ℕ) → t.p.names.routine k < 65536) (f w : ℕ) (some : 3400 ≤ f) (enough : 16700 ≤ w) (body : List Act) (memory typed output : List ℕ) (drawn behind : ℕ) (sh : Shape) (c : ℕ → ℕ) (trail : List ℕ) (m : Mid) (xs : List Value) (head : List Term) (h : Holds t.p.world.layout memory c) (mid : MidIn t outer sh c trail m) (clash : c 13 ≡ 0) (args_are : InRegisters sh c 16 xs) (fits : length xs ≡ length head) (short : length head ≤ 12) (nodes : AreNodes t.program (nodes_of head)) (room : m.state.heap + cells_of t.program head ≤ 10000) where
+module _ (t : Telling) {outer : ℕ → ℕ} (has : HasRunTime t.p) (words : (k : ℕ) → t.p.names.routine k < 65536) (f w : ℕ) (some : 3400 ≤ f) (enough : 16700 ≤ w) (body : List Act) (memory typed output : List ℕ) (drawn behind : ℕ) (sh : Shape) (c : ℕ → ℕ) (trail : List ℕ) (m : Mid) (xs : List Value) (head : List Term) (h : Holds t.p.world.layout memory c) (mid : MidIn t outer sh c trail m) (clash : c 13 ≡ 0) (args_are : InRegisters sh c 16 xs) (fits : length xs ≡ length head) (short : length head ≤ 12) (nodes : AreNodes t.program (nodes_of head)) (room : m.state.heap + cells_of t.program head ≤ 10000) (vars b : ℕ) (own : vars_of m.frames ≡ new_vars vars b) (young : m.state.since ≤ b) (below : top_of_pairs m.state.subst ≤ b) (older : top_of_values xs ≤ b) where
   abbrev taken : ℕ
   taken = cells_of t.program head
 
@@ -78,7 +103,13 @@ module _ (t : Telling) {outer : ℕ → ℕ} (has : HasRunTime t.p) (words : (k 
   most = written_in t.program head + price m.state.subst (zip xs values) + 6 * length head + 10
 
   abbrev rest2 : List Act
-  rest2 = match_acts 32 64 (length head) ++ last_acts behind
+  rest2 = unifying_acts 32 64 (matchers 0 head) ++ last_acts behind
+
+  suits : AllSuit b (matchers 0 head) xs values
+  suits =
+      let none : b + 0 ≡ b = omega arith in
+      subst (λ (k : ℕ). AllSuit k (matchers 0 head) xs values) none
+      (subst (λ (env : List Value). AllSuit (b + 0) (matchers 0 head) xs (map (value_of t.program env) head)) (sym own) (head_suits t.program vars b 0 head xs nodes older))
 
   abbrev written : Wrote t outer f w body rest2 (head_acts t.program head behind) sh memory typed output drawn c trail m taken 64 values (written_in t.program head + 6)
   written = writes_terms t has f w sh memory typed output drawn c trail m h mid body (omega arith) (omega arith) rest2 64 head (omega arith) (omega arith) (λ q. (omega arith)) nodes room
@@ -89,7 +120,7 @@ module _ (t : Telling) {outer : ℕ → ℕ} (has : HasRunTime t.p) (words : (k 
       let size = length_map t.program (vars_of m.frames) head in
       let args_there = regs_stay sh w1.sh' c w1.cells' w1.grown 16 xs (λ j low lt. w1.others j (λ e. (omega arith)) (λ e. (omega arith)) (λ e. (omega arith)) (λ q. (omega arith)) (omega arith)) args_are in
       let clash' : w1.cells' 13 ≡ 0 = w1.others 13 (λ e. (omega arith)) (λ e. (omega arith)) (λ e. (omega arith)) (λ q. (omega arith)) (omega arith) ∙ clash in
-      matches t outer has f w some enough w1.sh' typed output drawn body (last_acts behind) (length head) 32 64 w1.memory' w1.cells' trail (more taken m) xs values fits size w1.holds w1.mid clash' (omega arith) (omega arith) (omega arith) (omega arith) args_there (regs_of w1.sh' w1.cells' 48 values w1.words)
+      unifies t outer has f w some enough w1.sh' typed output drawn body (last_acts behind) (length head) 32 64 (matchers 0 head) b w1.memory' w1.cells' trail (more taken m) xs values (matchers_length 0 head) fits size (matchers_are 0 head) suits w1.holds w1.mid clash' (omega arith) (omega arith) (omega arith) (omega arith) young below args_there (regs_of w1.sh' w1.cells' 48 values w1.words)
 
   heads : trail_more m.state u ≤ 2000 → Headed t outer f w body (head_acts t.program head behind) memory typed output drawn (agreed_next t.p behind u.agrees) (bound u (more taken m)) most
   heads few =
@@ -187,6 +218,9 @@ module _ (t : Telling) (plays : Playing t) (out : Outside) (call : Call) (vars :
   abbrev body : List Act
   body = acts.Call None (atoms.Routine ENTER) (args.Two (atoms.Num vars) (atoms.Num (capped n))) ∷ head_acts t.program head behind
 
+  abbrev old : Older call m
+  old = are_older t r.sh r.cells r.trail call m r.mid e.call_is
+
   -- the number of cells is as it is where they fit the heap
   frame : m.state.heap + (6 + vars + n) ≤ 10000 → Framed t out.words 0 0 r.memory out.typed out.output out.drawn r.cells r.trail call m vars (capped n)
   frame room =
@@ -199,7 +233,7 @@ module _ (t : Telling) (plays : Playing t) (out : Outside) (call : Call) (vars :
   turn room few =
       let u = head_unified t.program call vars head m in
       let fr = frame room in
-      let k = heads t plays.has plays.words 3500 19000 (omega arith) (omega arith) body fr.memory' out.typed out.output out.drawn behind fr.sh' fr.cells' r.trail (inside_rule call vars m) call.args head fr.holds fr.mid fr.clash fr.args_are e.fits e.short e.nodes (omega arith) few in
+      let k = heads t plays.has plays.words 3500 19000 (omega arith) (omega arith) body fr.memory' out.typed out.output out.drawn behind fr.sh' fr.cells' r.trail (inside_rule call vars m) call.args head fr.holds fr.mid fr.clash fr.args_are e.fits e.short e.nodes (omega arith) vars m.state.vars refl old.young old.below old.arguments few in
       let y = agreed_next t.p behind u.agrees in
       let few1 = fr.few in
       let few2 = k.few in
@@ -210,7 +244,7 @@ module _ (t : Telling) (plays : Playing t) (out : Outside) (call : Call) (vars :
   full : m.state.heap + (6 + vars + n) ≤ 10000 → 2000 < trail_more m.state (head_unified t.program call vars head m) → Closes t out TrailLimit (entering_most t.program call vars head m + closing_most) z
   full room over =
       let fr = frame room in
-      let k = head_full t plays.has plays.words 3500 19000 (omega arith) (omega arith) body fr.memory' out.typed out.output out.drawn behind fr.sh' fr.cells' r.trail (inside_rule call vars m) call.args head fr.holds fr.mid fr.clash fr.args_are e.fits e.short e.nodes (omega arith) over in
+      let k = head_full t plays.has plays.words 3500 19000 (omega arith) (omega arith) body fr.memory' out.typed out.output out.drawn behind fr.sh' fr.cells' r.trail (inside_rule call vars m) call.args head fr.holds fr.mid fr.clash fr.args_are e.fits e.short e.nodes (omega arith) vars m.state.vars refl old.young old.below old.arguments over in
       let few1 = fr.few in
       let few2 = k.few in
       closes t plays out e.x m z r (enter_routine t.program vars head behind) e.there (omega arith) (suc fr.count + k.count) (entering_most t.program call vars head m + closing_most) TrailLimit k.memory' k.locals'

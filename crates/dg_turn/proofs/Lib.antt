@@ -24,6 +24,9 @@ pub mod Keys
 pub mod Looking
 pub mod Finding
 pub mod Beginning
+pub mod NewTerms
+pub mod Suiting
+pub mod Argument
 pub mod Matching
 pub mod Ends
 pub mod EnterTurn

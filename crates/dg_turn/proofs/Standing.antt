@@ -1,12 +1,13 @@
 -- Where the routines stand that turns call.
 use Rattle.std.proofs.Common.{◌≡◌, Some, refl}
 use Rattle.z_lang.specs.State.{Program}
-use Rattle.dg_rt.specs.declared.numbers.TheConstants.{CHARGE, VAR, ENTER, OPEN, FAIL, FAILED, CAPTURE, COMMIT, FOUND, NONE, MATCH, MATCHED, LEAVE, ASK, TAIL_CALL, BODY, OPEN_INNER, UNSTOP, DONE, STOPPED, ASK_SPACES, CLOSURE, IF_BODY, ENTER_BODY}
+use Rattle.dg_rt.specs.declared.numbers.TheConstants.{CHARGE, VAR, ENTER, OPEN, FAIL, FAILED, CAPTURE, COMMIT, FOUND, NONE, MATCH, MATCHED, TAKE, LEAVE, ASK, TAIL_CALL, BODY, OPEN_INNER, UNSTOP, DONE, STOPPED, ASK_SPACES, CLOSURE, IF_BODY, ENTER_BODY}
 use Rattle.dg_rt.specs.declared.closings.TheConstants.{DONE_ACTS, FAILED_ACTS, STOPPED_ACTS}
 use Rattle.dg_rt.specs.declared.heap.TheConstants.{CHARGE_ACTS}
 use Rattle.dg_rt.specs.declared.frames.TheConstants.{VAR_ACTS, CAPTURE_ACTS, ENTER_ACTS}
 use Rattle.dg_rt.specs.declared.choices.TheConstants.{OPEN_ACTS, FAIL_ACTS, COMMIT_ACTS, OPEN_INNER_ACTS, UNSTOP_ACTS}
 use Rattle.dg_rt.specs.declared.rules.TheConstants.{FOUND_ACTS, NONE_ACTS, MATCH_ACTS, MATCHED_ACTS}
+use Rattle.dg_rt.specs.declared.heads.TheConstants.{TAKE_ACTS}
 use Rattle.dg_rt.specs.declared.queries.TheConstants.{LEAVE_ACTS, ASK_ACTS, TAIL_CALL_ACTS, BODY_ACTS}
 use Rattle.dg_rt.specs.declared.gaps.TheConstants.{ASK_SPACES_ACTS}
 use Rattle.dg_rt.specs.declared.closures.TheConstants.{CLOSURE_ACTS, IF_BODY_ACTS, ENTER_BODY_ACTS}
@@ -48,6 +49,9 @@ module _ (p : Program) (has : HasRunTime p) where
 
   pub matched_at : p.routine_at (p.names.routine MATCHED) ≡ Some (routine_of 1 MATCHED_ACTS)
   matched_at = has.each 27 (routine_of 1 MATCHED_ACTS) refl
+
+  pub take_at : p.routine_at (p.names.routine TAKE) ≡ Some (routine_of 4 TAKE_ACTS)
+  take_at = has.each 135 (routine_of 4 TAKE_ACTS) refl
 
   pub leave_at : p.routine_at (p.names.routine LEAVE) ≡ Some (routine_of 4 LEAVE_ACTS)
   leave_at = has.each 28 (routine_of 4 LEAVE_ACTS) refl

@@ -164,5 +164,6 @@ pub record TakeTurns : Type 0 where
       TakesList t out behind into x xs m z
   pub sum : (t : Telling) → Playing t → (out : Outside) (behind : ℕ) (into : Value) (x : Gathering) (xs : List Gathering) (m : Mid) (z : ZState) →
       m.gathered ≡ x ∷ xs → TakesHere t out gathered.Sum behind into m z → TakesSum t out behind into x xs m z
-  pub unopened : (t : Telling) → Playing t → (out : Outside) (whole : Gathered) (behind : ℕ) (into : Value) (m : Mid) (z : ZState) → m.gathered ≡ [] →
+  pub unopened : (t : Telling) → Playing t → (out : Outside) (whole : Gathered) (behind : ℕ) (into : Value) (m : Mid) (z : ZState) →
+      m.gathered ≡ [] →
       TakesHere t out whole behind into m z → Comes t out (t.p.names.routine FAIL) m 40 z

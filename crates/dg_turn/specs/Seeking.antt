@@ -133,7 +133,8 @@ pub record FindingValue (t : Telling) (out : Outside) (a c : Term) (behind : ℕ
 -- A query of objects is such a turn, by what its first term is.
 pub record SeekTurns : Type 0 where
   pub all : (t : Telling) → Playing t → HasWorld t → (out : Outside) (s : Sought) (a : Term) (others : List Term) (behind tries x : ℕ)
-      (facts : List Fact) (m : Mid) (z : ZState) → HasSought t.program s → length (a ∷ others) ≡ sought_terms s → FactsIn t.program facts out.words →
+      (facts : List Fact) (m : Mid) (z : ZState) → HasSought t.program s → length (a ∷ others) ≡ sought_terms s →
+      FactsIn t.program facts out.words →
       first_walked t.program a m ≡ Var x → InFront t out (find_routine t.program s (a ∷ others) behind tries) (a ∷ others) m z →
       SeekingAll t out (a ∷ others) tries (find_most t.program a others m) m z
   pub one : (t : Telling) → Playing t → HasWorld t → (out : Outside) (s : Sought) (a : Term) (behind tries : ℕ) (l : Label) (vs : Values)

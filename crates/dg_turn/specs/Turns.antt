@@ -1,9 +1,10 @@
 -- Rules that are entered, terms that are unified, and inner constructs that are left: what their routines are, and each as a turn. Hold it against
 -- dg_mid/specs/Step.antt.
-use Rattle.std.specs.Prelude.{◌≡◌, ℕ, zero, suc, ◌+◌, ◌*◌, ◌<◌, ◌≤◌, List, [], ◌∷◌, ◌++◌, length, map, Some, None, Bool, true, false}
+use Rattle.std.specs.Prelude.{◌≡◌, ℕ, zero, suc, ◌+◌, ◌*◌, ◌<◌, ◌≤◌, max, nat_lt, List, [], ◌∷◌, ◌++◌, length, map, Some, None, Bool, true, false, ◌&&◌, if◌then◌else◌}
 use Rattle.std.specs.List.{zip}
 use Rattle.dg_base.specs.declared.program.CoreProgram.{CoreProgram}
-use Rattle.dg_base.specs.declared.program.Term.{Term}
+use Rattle.dg_base.specs.declared.program.Term.{Term, out-Term}
+use Rattle.dg_base.specs.declared.program.Term.TheOpen as term
 use Rattle.dg_base.specs.declared.run.Ending.TheVariants.{HeapLimit, TrailLimit}
 use Rattle.dg_meaning.specs.Values.{value_of}
 use Rattle.dg_meaning.specs.Cells.{nodes_of, cells}
@@ -19,7 +20,7 @@ use Rattle.z_lang.specs.declared.act.Args.TheVariants as args
 use Rattle.z_lang.specs.declared.act.Atom.TheVariants as atoms
 use Rattle.z_lang.specs.declared.act.Routine.{Routine}
 use Rattle.z_lang.specs.State.{Program}
-use Rattle.dg_rt.specs.declared.numbers.TheConstants.{ENTER, MATCH, MATCHED, COMMIT, FAIL}
+use Rattle.dg_rt.specs.declared.numbers.TheConstants.{ENTER, MATCH, TAKE, MATCHED, COMMIT, FAIL}
 use Rattle.dg_rt.specs.declared.registers.TheConstants.{ARGS, CLASH, WORD}
 use Rattle.dg_rt.specs.RunTime.{routine_of}
 use Rattle.dg_rt.specs.Unifies.{price}
@@ -33,7 +34,46 @@ abbrev pub agreed_next : Program → ℕ → Bool → ℕ
 agreed_next p behind true = p.names.routine behind
 agreed_next p behind false = p.names.routine FAIL
 
+-- ## Terms whose variables are new
+
+-- A number above the variable that a node is, or above those that it captures, and no less than another number.
+abbrev pub above_node : ℕ → term.Term-F Term → ℕ
+above_node n (term.Var v) = max n (suc v)
+above_node n (term.Closure c) = max n 128
+above_node n other = n
+
+-- So it is with some nodes.
+abbrev pub above : ℕ → List Term → ℕ
+above n [] = n
+above n (x ∷ xs) = above (above_node n (out-Term x)) xs
+
+-- A node is no variable below a number, and no closure.
+abbrev pub is_new : ℕ → term.Term-F Term → Bool
+is_new n (term.Var v) = if nat_lt v n then false else true
+is_new n (term.Closure c) = false
+is_new n other = true
+
+-- Each variable among some nodes is greater than those in front of it, and the first no less than a number; no closure is among them. So each stands there
+-- once, and, where the number is above all variables in front of these nodes, nowhere before.
+abbrev pub are_new : ℕ → List Term → Bool
+are_new n [] = true
+are_new n (x ∷ xs) = is_new n (out-Term x) && are_new (above_node n (out-Term x)) xs
+
 -- ## A rule is entered
+
+-- The routine that unifies an argument with the term of these nodes, all variables in front of which are below a number.
+abbrev pub matcher : ℕ → List Term → ℕ
+matcher n xs = if are_new n xs then TAKE else MATCH
+
+-- The same of each of some terms.
+abbrev pub matchers : ℕ → List Term → List ℕ
+matchers n [] = []
+matchers n (t ∷ ts) = matcher n (nodes_of (t ∷ [])) ∷ matchers (above n (nodes_of (t ∷ []))) ts
+
+-- The variables from one on are unified with those from another on, by these routines.
+abbrev pub unifying_acts : ℕ → ℕ → List ℕ → List Act
+unifying_acts v x [] = []
+unifying_acts v x (r ∷ rs) = acts.Call None (atoms.Routine r) (args.Two (atoms.Var v) (atoms.Var x)) ∷ unifying_acts (suc v) (suc x) rs
 
 -- So many variables from one on are matched with those from another on.
 abbrev pub match_acts : ℕ → ℕ → ℕ → List Act
@@ -48,9 +88,13 @@ last_acts behind = acts.Call (Some WORD) (atoms.Routine MATCHED) (args.One (atom
 abbrev pub HEAD : ℕ
 HEAD = 64
 
--- The words of a head are put there, and matched with the arguments.
+-- The arguments are unified with the words of a head.
+abbrev pub unified_acts : List Term → List Act
+unified_acts head = unifying_acts ARGS HEAD (matchers 0 head)
+
+-- The words of a head are put there, and unified with the arguments.
 abbrev pub head_acts : CoreProgram → List Term → ℕ → List Act
-head_acts program head behind = terms_acts program HEAD head ++ (match_acts ARGS HEAD (length head) ++ last_acts behind)
+head_acts program head behind = terms_acts program HEAD head ++ (unified_acts head ++ last_acts behind)
 
 -- The routine that enters a rule of so many variables with this head, and goes on there.
 abbrev pub enter_routine : CoreProgram → ℕ → List Term → ℕ → Routine

@@ -91,7 +91,8 @@ pub record EndsAtInput (t : Telling) (out : Outside) (most : ℕ) (z : ZState) :
 pub record TakesLine (t : Telling) (out : Outside) (met : Met) (typed : List ℕ) (next : ℕ) (m : Mid) (most : ℕ) (z : ZState) : Type 0 where
   pub words' : ℕ → ℕ
   pub meets : Meets words' (met_behind met (GapOf Line))
-  pub others : (k : ℕ) → k ≢ last_reg → k ≢ lines_reg → k ≢ spaces_reg → k ≢ asked_reg → k ≢ upper_reg → (line_at ≤ k → fixed_end ≤ k) →
+  pub others : (k : ℕ) → k ≢ last_reg → k ≢ lines_reg → k ≢ spaces_reg → k ≢ asked_reg → k ≢ upper_reg →
+      (line_at ≤ k → fixed_end ≤ k) →
       words' k ≡ out.words k
   pub comes : Comes t (record out { typed = behind_first typed; words = words' }) next m most z
 

@@ -31,4 +31,5 @@ AreWords cells = All (λ (c : Cell). cell_word c < 65536) cells
 -- So it is with those of the values that global variables start with.
 abbrev pub KeepsWords : CoreProgram → Type 0
 KeepsWords program =
-    (place : ℕ) → slice_get (kinds_of program) place ≡ Some Global → (v : Value) → value_at (kept_facts program) place 0 ≡ Some v → AreWords (cells_of v)
+    (place : ℕ) → slice_get (kinds_of program) place ≡ Some Global → (v : Value) → value_at (kept_facts program) place 0 ≡ Some v →
+    AreWords (cells_of v)
