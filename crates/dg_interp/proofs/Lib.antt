@@ -44,3 +44,4 @@ pub mod Tryings
 pub mod RunnableLemmas
 pub mod SoundLemmas
 pub mod Telling
+pub mod Pieces

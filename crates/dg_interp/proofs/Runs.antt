@@ -1,5 +1,5 @@
 -- How goals add up to a run.
-use Rattle.std.proofs.Common.{◌≡◌, ℕ, suc, ◌<◌, map, List, [], ◌∷◌, ◌++◌, Bool, true, false, Option, Some, None, refl, sym, ap, ◌∙◌, subst, arith, length, append_assoc, Ok, Err}
+use Rattle.std.proofs.Common.{◌≡◌, ℕ, suc, ◌<◌, List, [], ◌∷◌, ◌++◌, Bool, true, false, Option, Some, None, refl, sym, ap, ◌∙◌, subst, arith, length, append_assoc, Ok, Err}
 use Rattle.std.specs.Prelude.{Result, IfOk, IfErr}
 use Rattle.std.proofs.lemmas.List.{append-nil, append_cancel_left}
 use Rattle.dg_base.specs.declared.program.Goal.{Goal, out-Goal}
@@ -11,65 +11,223 @@ use Rattle.dg_base.specs.declared.program.Term.{Term}
 use Rattle.dg_base.specs.declared.run.Ending.{Ending}
 use Rattle.dg_base.specs.declared.run.Ending.TheVariants.{Failed, StepLimit, Stopped, Quit as Quit-Ending}
 use Rattle.dg_base.specs.declared.run.RunFault.{RunFault}
+use Rattle.dg_base.specs.declared.run.RunFault.TheVariants.{Read, Write, OutOfMemory}
 use Rattle.dg_meaning.specs.World.{Game, World, Event, Print, Piece, GapOf, Prints, prints}
 use Rattle.dg_meaning.specs.Path.{Result as SearchResult, Failing, End}
 use Rattle.dg_meaning.specs.Moves.{path_of, goals_at}
-use Rattle.dg_meaning.specs.Render.{nothing_met, met_from, render, render_from, growth}
-use Rattle.dg_meaning.specs.Transcript.{Run, ending_of, text_of}
+use Rattle.dg_meaning.specs.Transcript.{Run, ending_of}
 use Rattle.dg_meaning.specs.inside.OneRun.{Grows}
 use Rattle.dg_base.specs.Begins.{Begins, EndsWith}
 use Rattle.dg_meaning.specs.Peaks.{Area, Heap, Trail, Aux, Keep, greatest, limit_ending}
 use Rattle.dg_meaning.specs.inside.Keeps.{Stands, Finished}
-use Rattle.dg_meaning.proofs.Dropping.{prints_append}
+use Rattle.dg_meaning.proofs.Dropping.{prints_append, drops_grow}
 use Rattle.dg_meaning.proofs.Keeps.{stands_happened, limited}
+use Rattle.dg_meaning.proofs.OneRun.{begins_on}
 use Rattle.dg_unify.specs.declared.bindings.Ref.{Ref}
 use Rattle.dg_unify.specs.declared.bindings.Full.{Full}
 use Rattle.dg_unify.specs.declared.bindings.Full.TheVariants as full
 use Rattle.dg_spacing.specs.declared.spacer.Spacer.{Spacer}
 use Rattle.dg_interp.specs.declared.engine.Engine.{Engine}
+use Rattle.std.specs.declared.vec.Vec.{Vec}
+use Rattle.std.specs.declared.alloc.Global.{Global}
 use Rattle.dg_watch.specs.declared.watch.CallEvent.{CallEvent}
 use Rattle.dg_watch.specs.declared.watch.CallEvent.TheVariants as call
-use Rattle.dg_base.specs.Written.{SinkView, Wrote, BrokeOff}
+use Rattle.dg_watch.specs.Told.{Told, Saw, told_events, told_behind}
+use Rattle.dg_watch.specs.Watching.{Watching, Given, Lost}
+use Rattle.dg_watch.proofs.Telling.{given_nothing, given_on, lost_first, lost_later}
+use Rattle.dg_watch.proofs.Events.{events_told_on, told_behind_on}
 use Rattle.dg_spacing.specs.Spacer.{StandsFor}
-use Rattle.dg_texts.proofs.Texts.{render_append, render_grows}
-use Rattle.dg_texts.specs.Printing.{Added, as_prints, growth_of, AddsAll}
 use Rattle.dg_interp.specs.inside.Frames.{mark_steps, steps_behind, values_in}
 use Rattle.dg_lasting.specs.declared.lack.Lack.{Lack}
 use Rattle.dg_lasting.specs.Lacks.{lack_of, area_of, as_stored}
-use Rattle.dg_interp.specs.inside.Engine.{store_in, limit_in, Point, LacksIn, LackAt, PassesLimit, IsAct, pieces_at, WrotePrinted, StandsAt, TakesAt, events_of, Adds, SameLimits, Then, FullAt, Taken, WentOn, HasEndedSo, Branches, Stops}
+use Rattle.dg_interp.specs.inside.Engine.{store_in, limit_in, Point, LacksIn, LackAt, PassesLimit, IsAct, pieces_at, WrotePrinted, IsReady, StandsAt, TakesAt, events_of, SameLimits, Tells, Then, FullAt, Taken, Forgets, WentOn, HasEndedSo, Branches, Stops}
 use Rattle.dg_base.specs.Streams.{SourceView}
 use Rattle.dg_meaning.specs.Shows.{IsLeft}
 use Rattle.dg_meaning.specs.Engines.{left_told}
 use Rattle.dg_meaning.proofs.Engines.{as_told}
-use Rattle.dg_interp.specs.inside.Running.{HasText, Writes, Gave, Awaits, Stretch, Reaches, HasEnded, IsNoFurther, MeetsLimit, Ended, HasPart, LosesOutput, Broken, GoalDone, DoesGoal, ending_at, over, outcome_of}
-use Rattle.dg_base.proofs.WrittenLemmas.{wrote_on, broke_first, broke_later}
-use Rattle.dg_interp.proofs.Places.{limits_at, adds_nothing, adds_on, adds_drops, all_append, same_limits, telling_limits}
+use Rattle.dg_interp.specs.inside.Showing.{call_told, calls_told, as_events, ShowsAll, LosesAll, ShowsFront, BreaksSo}
+use Rattle.dg_interp.specs.inside.Running.{HasText, Writes, Gave, Awaits, Stretch, Reaches, HasEnded, IsNoFurther, MeetsLimit, Ended, HasPart, LosesOutput, Broken, GoalDone, DoesGoal, TellsSo, LacksSo, ComesTo, ending_at, limit_of, over}
+use Rattle.dg_interp.proofs.Places.{limits_at, adds_nothing, all_append, same_limits, telling_limits}
 use Rattle.dg_interp.proofs.Goals.{prints_word, prints_gap, quits}
 
--- ## Text
+-- ## What happens
 
--- what was written of a run's text so far
-pub text_begins : (part whole : List Event) → Begins part whole → (a b : SinkView) → BrokeOff a b (text_of part) → BrokeOff a b (text_of whole)
-text_begins part whole h a b broke =
-    let more = render_from (met_from nothing_met (prints part)) (prints h.behind) in
-    let is : text_of whole ≡ text_of part ++ more = ap text_of h.is ∙ ap render (prints_append part h.behind) ∙ render_append (prints part) (prints h.behind) in
-    subst (BrokeOff a b) (sym is) (broke_first a b (text_of part) more broke)
+-- what happened, in a stretch
+pub stretched : (es : List Event) (w : World) (Q : World → Type 0) → Then es w Q → Stretch es [] w Q
+stretched es w Q t = record { world = t.world; events_are = t.adds.events_are ∙ all_append w.events es; typed = sym t.adds.typed; holds = t.holds }
 
-pub text_same : (s : Spacer) (start now : SinkView) (xs ys : List Print) → ys ≡ xs ++ [] → HasText s start now xs → HasText s start now ys
-text_same s start now xs ys e h = subst (HasText s start now) (sym (e ∙ append-nil xs)) h
+-- what holds behind a stretch
+pub stretch_map : (es : List Event) (ts : List ℕ) (w : World) (Q R : World → Type 0) → ((u : World) → Q u → R u) → Stretch es ts w Q → Stretch es ts w R
+stretch_map es ts w Q R f t = record { world = t.world; events_are = t.events_are; typed = t.typed; holds = f t.world t.holds }
 
-pub text_added : (s s' : Spacer) (start before now : SinkView) (es : List Print) (e : Print) → HasText s start before es → ((xs : List Print) → StandsFor s xs → Added e xs before now s') → HasText s' start now (es ++ e ∷ [])
-text_added s s' start before now es e h f =
-    let a = f es h.stands in
-    record { stands = a.stands; wrote = subst (Wrote start now) (sym (render_grows es e)) (wrote_on start before now (render es) (growth es e) h.wrote a.wrote) }
+pub calls_print_nothing : (cs : List CallEvent) → prints (events_of cs) ≡ []
+calls_print_nothing [] = refl
+calls_print_nothing (call.Asked pred ∷ cs) = calls_print_nothing cs
+calls_print_nothing (call.Answered pred ∷ cs) = calls_print_nothing cs
+calls_print_nothing (call.Retried pred ∷ cs) = calls_print_nothing cs
+calls_print_nothing (call.Failed pred ∷ cs) = calls_print_nothing cs
+calls_print_nothing (call.Printed ∷ cs) = calls_print_nothing cs
 
--- ## Nothing is written
+-- what calls are told as
+calls_behind : (es : List Print) (cs : List CallEvent) → told_behind es (events_of cs) ≡ calls_told cs
+calls_behind es [] = refl
+calls_behind es (call.Asked pred ∷ cs) = ap (λ l. call_told (call.Asked pred) ++ l) (calls_behind es cs)
+calls_behind es (call.Answered pred ∷ cs) = ap (λ l. call_told (call.Answered pred) ++ l) (calls_behind es cs)
+calls_behind es (call.Retried pred ∷ cs) = ap (λ l. call_told (call.Retried pred) ++ l) (calls_behind es cs)
+calls_behind es (call.Failed pred ∷ cs) = ap (λ l. call_told (call.Failed pred) ++ l) (calls_behind es cs)
+calls_behind es (call.Printed ∷ cs) = calls_behind es cs
 
-pub writes_nothing : (s : Spacer) (k : SinkView) → Writes s s k k []
-writes_nothing s k start es h = subst (HasText s start k) (sym (append-nil es)) h
+pub call_is : (c : CallEvent) → (c ≡ call.Printed → ⊥) → call_told c ≡ Saw c ∷ []
+call_is (call.Asked pred) h = refl
+call_is (call.Answered pred) h = refl
+call_is (call.Retried pred) h = refl
+call_is (call.Failed pred) h = refl
+call_is call.Printed h = absurd (h refl)
 
-pub writes_on : (s s' s'' : Spacer) (k k' k'' : SinkView) (xs ys : List Print) → Writes s s' k k' xs → Writes s' s'' k' k'' ys → Writes s s'' k k'' (xs ++ ys)
-writes_on s s' s'' k k' k'' xs ys a b start es h = subst (HasText s'' start k'') (append_assoc es xs ys) (b start (es ++ xs) (a start es h))
+-- of these calls all but those that are left were shown
+pub record CallsShown {P : Type 0} (v : Watching P) (calls left : List CallEvent) (before now : P) : Type 0 where
+  pub done : List Told
+  pub given : Given v before now done
+  pub is : calls_told calls ≡ done ++ calls_told left
+
+pub calls_begin : {P : Type 0} (v : Watching P) (calls : List CallEvent) (k : P) → CallsShown v calls calls k k
+calls_begin v calls k = record { done = []; given = given_nothing v k; is = refl }
+
+module _ {P : Type 0} (v : Watching P) (calls : List CallEvent) (k b c : P) where
+  pub calls_more : (left : List CallEvent) (x : CallEvent) (rest : List CallEvent) → CallsShown v calls left k b → left ≡ x ∷ rest → Given v b c (call_told x) → CallsShown v calls rest k c
+  calls_more left x rest h e given = record {
+    done = h.done ++ call_told x;
+    given = given_on v k b c h.done (call_told x) h.given given;
+    is = h.is ∙ ap (λ l. h.done ++ calls_told l) e ∙ sym (append_assoc h.done (call_told x) (calls_told rest));
+  }
+
+  pub calls_end : (left : List CallEvent) → CallsShown v calls left k b → left ≡ [] → Given v k b (calls_told calls)
+  calls_end left h e = subst (Given v k b) (sym (h.is ∙ ap (λ l. h.done ++ calls_told l) e ∙ append-nil h.done)) h.given
+
+  pub calls_break : (left : List CallEvent) (x : CallEvent) (rest : List CallEvent) → CallsShown v calls left k b → left ≡ x ∷ rest → Lost v b c (call_told x) → Lost v k c (calls_told calls)
+  calls_break left x rest h e lost =
+      subst (Lost v k c) (sym (h.is ∙ ap (λ l. h.done ++ calls_told l) e))
+      (lost_later v k b c h.done (call_told x ++ calls_told rest) h.given (lost_first v b c (call_told x) (calls_told rest) lost))
+
+-- what an engine that had told nothing has told
+pub quiet_told : (old new : Engine) (h : Tells old new) → old.told.items ≡ [] → new.told.items ≡ h.calls
+quiet_told old new h quiet = h.told ∙ all_append old.told.items h.calls ∙ ap (λ l. l ++ h.calls) quiet
+
+-- an end comes later
+pub finished_later : (n : ℕ) (w : World) (r : SearchResult) (run : Run) → Finished n w r run → Grows w run.world
+finished_later n w r run f = subst (Grows w) (sym (ap (λ (x : Run). x.world) f.is)) (drops_grow w f.world f.drops)
+
+-- ## What was told is forgotten
+
+told_ready : (told : Vec CallEvent Global) (e : Engine) → IsReady e → IsReady (record e { told = told })
+told_ready told e h = record { sound = record { base = h.sound.base; room = h.sound.room; picks = h.sound.picks }; here = h.here }
+
+told_stands : (told : Vec CallEvent Global) (e : Engine) (g : Game) (n : ℕ) (w : World) (run : Run) → StandsAt e g n w run → StandsAt (record e { told = told }) g n w run
+told_stands told e g n w run st = record { at = st.at; stands = st.stands }
+
+module _ (e f : Engine) (h : Forgets e f) where
+  pub forgets_ready : IsReady e → IsReady f
+  forgets_ready r = subst IsReady (sym h.same) (told_ready f.told e r)
+
+  pub forgets_stands : (g : Game) (n : ℕ) (w : World) (run : Run) → StandsAt e g n w run → StandsAt f g n w run
+  forgets_stands g n w run st = subst (λ (x : Engine). StandsAt x g n w run) (sym h.same) (told_stands f.told e g n w run st)
+
+  pub forgets_limits : SameLimits e f
+  forgets_limits = subst (SameLimits e) (sym h.same) (record { heap = refl; trail = refl; aux = refl; keep = refl })
+
+  pub forgets_left : f.left ≡ e.left
+  forgets_left = ap (λ (x : Engine). x.left) h.same
+
+  pub forgets_goals : f.here.goals.now ≡ e.here.goals.now
+  forgets_goals = ap (λ (x : Engine). x.here.goals.now) h.same
+
+-- ## What is told
+
+module _ {P : Type 0} (v : Watching P) where
+  pub text_shown : (s s' : Spacer) (start k k' : P) (es more : List Event) → HasText v s start k es → ShowsAll v more s s' k k' → HasText v s' start k' (es ++ more)
+  text_shown s s' start k k' es more h f =
+      let a = f (prints es) h.stands in
+      record {
+        stands = subst (StandsFor s') (sym (prints_append es more)) a.stands;
+        given = subst (Given v start k') (sym (events_told_on es more)) (given_on v start k k' (told_events es) (told_behind (prints es) more) h.given a.given);
+      }
+
+  pub writes_shown : (s s' : Spacer) (k k' : P) (more : List Event) → ShowsAll v more s s' k k' → Writes v s s' k k' more
+  writes_shown s s' k k' more f start es h = text_shown s s' start k k' es more h f
+
+  pub text_same : (s : Spacer) (start now : P) (xs ys : List Event) → ys ≡ xs ++ [] → HasText v s start now xs → HasText v s start now ys
+  text_same s start now xs ys e h = subst (HasText v s start now) (sym (e ∙ append-nil xs)) h
+
+  -- it failed within a front of what happened
+  pub lost_begins : (part whole : List Event) → Begins part whole → (a b : P) → Lost v a b (told_events part) → Lost v a b (told_events whole)
+  lost_begins part whole h a b lost = subst (Lost v a b) (sym (ap told_events h.is ∙ events_told_on part h.behind)) (lost_first v a b (told_events part) (told_behind (prints part) h.behind) lost)
+
+  pub lost_shown : (s : Spacer) (start k k' : P) (es more : List Event) → HasText v s start k es → LosesAll v more s k k' → Lost v start k' (told_events (es ++ more))
+  lost_shown s start k k' es more h f = subst (Lost v start k') (sym (events_told_on es more)) (lost_later v start k k' (told_events es) (told_behind (prints es) more) h.given (f (prints es) h.stands))
+
+  -- nothing
+  pub shows_nothing : (s : Spacer) (k : P) → ShowsAll v [] s s k k
+  shows_nothing s k es st = record { stands = subst (StandsFor s) (sym (append-nil es)) st; given = given_nothing v k }
+
+  pub writes_nothing : (s : Spacer) (k : P) → Writes v s s k k []
+  writes_nothing s k start es h = subst (HasText v s start k) (sym (append-nil es)) h
+
+  pub writes_on : (s s' s'' : Spacer) (k k' k'' : P) (xs ys : List Event) → Writes v s s' k k' xs → Writes v s' s'' k' k'' ys → Writes v s s'' k k'' (xs ++ ys)
+  writes_on s s' s'' k k' k'' xs ys a b start es h = subst (HasText v s'' start k'') (append_assoc es xs ys) (b start (es ++ xs) (a start es h))
+
+  -- one stretch behind another
+  pub shows_on : (xs ys : List Event) (s t u : Spacer) (a b c : P) → ShowsAll v xs s t a b → ShowsAll v ys t u b c → ShowsAll v (xs ++ ys) s u a c
+  shows_on xs ys s t u a b c h k es st =
+      let x = h es st in
+      let y = k (es ++ prints xs) x.stands in
+      record {
+        stands = subst (StandsFor u) (append_assoc es (prints xs) (prints ys) ∙ ap (λ l. es ++ l) (sym (prints_append xs ys))) y.stands;
+        given = subst (Given v a c) (sym (told_behind_on es xs ys)) (given_on v a b c (told_behind es xs) (told_behind (es ++ prints xs) ys) x.given y.given);
+      }
+
+  pub loses_first : (xs ys : List Event) (s : Spacer) (a c : P) → LosesAll v xs s a c → LosesAll v (xs ++ ys) s a c
+  loses_first xs ys s a c h es st = subst (Lost v a c) (sym (told_behind_on es xs ys)) (lost_first v a c (told_behind es xs) (told_behind (es ++ prints xs) ys) (h es st))
+
+  pub loses_later : (xs ys : List Event) (s t : Spacer) (a b c : P) → ShowsAll v xs s t a b → LosesAll v ys t b c → LosesAll v (xs ++ ys) s a c
+  loses_later xs ys s t a b c h k es st =
+      let x = h es st in
+      subst (Lost v a c) (sym (told_behind_on es xs ys)) (lost_later v a b c (told_behind es xs) (told_behind (es ++ prints xs) ys) x.given (k (es ++ prints xs) x.stands))
+
+  -- it breaks off in a front of what was to be told
+  pub shown_first : (xs ys : List Event) (s t : Spacer) (a b : P) (fault : RunFault) → BreaksSo v fault xs s t a b → BreaksSo v fault (xs ++ ys) s t a b
+  shown_first xs ys s t a b Read h = absurd h
+  shown_first xs ys s t a b Write h = loses_first xs ys s a b h
+  shown_first xs ys s t a b OutOfMemory h = record { front = h.front; rest = h.rest ++ ys; is = ap (λ l. l ++ ys) h.is ∙ append_assoc h.front h.rest ys; shown = h.shown }
+
+  -- or behind one
+  pub shown_later : (xs ys : List Event) (s t u : Spacer) (a b c : P) (fault : RunFault) → ShowsAll v xs s t a b → BreaksSo v fault ys t u b c → BreaksSo v fault (xs ++ ys) s u a c
+  shown_later xs ys s t u a b c Read h k = absurd k
+  shown_later xs ys s t u a b c Write h k = loses_later xs ys s t a b c h k
+  shown_later xs ys s t u a b c OutOfMemory h k = record {
+    front = xs ++ k.front;
+    rest = k.rest;
+    is = ap (λ l. xs ++ l) k.is ∙ sym (append_assoc xs k.front k.rest);
+    shown = shows_on xs k.front s t u a b c h k.shown;
+  }
+
+  -- where nothing was told
+  pub shows_front : (more : List Event) (s s' : Spacer) (k k' : P) → s' ≡ s → k' ≡ k → ShowsFront v more s s' k k'
+  shows_front more s s' k k' e f = record {
+    front = [];
+    rest = more;
+    is = refl;
+    shown = subst (λ t. ShowsAll v [] s t k k') (sym e) (subst (λ p. ShowsAll v [] s s k p) (sym f) (shows_nothing s k));
+  }
+
+  -- calls
+  pub calls_shown : (cs : List CallEvent) (s : Spacer) (k k' : P) → Given v k k' (calls_told cs) → ShowsAll v (events_of cs) s s k k'
+  calls_shown cs s k k' h es st = record {
+    stands = subst (λ l. StandsFor s (es ++ l)) (sym (calls_print_nothing cs)) (subst (StandsFor s) (sym (append-nil es)) st);
+    given = subst (Given v k k') (sym (calls_behind es cs)) h;
+  }
+
+  pub calls_lost : (cs : List CallEvent) (s : Spacer) (k k' : P) → Lost v k k' (calls_told cs) → LosesAll v (events_of cs) s k k'
+  calls_lost cs s k k' h es st = subst (Lost v k k') (sym (calls_behind es cs)) h
 
 -- ## Nothing is read
 
@@ -86,26 +244,6 @@ gave_on a b c ended xs ys h k = record {
 pub left_here : (i : SourceView) (w : World) → Awaits i false [] w → IsLeft i.left w.typed
 left_here i w a = subst (IsLeft i.left) (sym a.typed) a.left
 
--- what was printed where these things happened
-pub adds_prints : (es : List Event) (w v : World) → Adds es w v → prints v.events ≡ prints w.events ++ prints es
-adds_prints es w v a = ap prints (a.events_are ∙ all_append w.events es) ∙ prints_append w.events es
-
-pub calls_print_nothing : (cs : List CallEvent) → prints (events_of cs) ≡ []
-calls_print_nothing [] = refl
-calls_print_nothing (call.Asked pred ∷ cs) = calls_print_nothing cs
-calls_print_nothing (call.Answered pred ∷ cs) = calls_print_nothing cs
-calls_print_nothing (call.Retried pred ∷ cs) = calls_print_nothing cs
-calls_print_nothing (call.Failed pred ∷ cs) = calls_print_nothing cs
-calls_print_nothing (call.Printed ∷ cs) = calls_print_nothing cs
-
--- a stretch that reads nothing
-pub stretched : (es : List Event) (w : World) (P : World → Type 0) → Then es w P → Stretch (prints es) [] w P
-stretched es w P t = record { world = t.world; prints_are = adds_prints es w t.world t.adds; typed = sym t.adds.typed; holds = t.holds }
-
--- a stretch of calls
-pub called : (cs : List CallEvent) (w : World) (P : World → Type 0) → Then (events_of cs) w P → Stretch [] [] w P
-called cs w P t = subst (λ l. Stretch l [] w P) (calls_print_nothing cs) (stretched (events_of cs) w P t)
-
 -- ## Limits
 
 pub same_on : (a b c : Engine) → SameLimits a b → SameLimits b c → SameLimits a c
@@ -113,29 +251,6 @@ same_on a b c h k = record { heap = k.heap ∙ h.heap; trail = k.trail ∙ h.tra
 
 pub same_here : (e : Engine) → SameLimits e e
 same_here e = record { heap = refl; trail = refl; aux = refl; keep = refl }
-
-pub reads_nothing : (e : Engine) (s : Spacer) (k : SinkView) (i : SourceView) (P : World → Run → SinkView → Type 0) → ((g : Game) (w : World) (run : Run) (start : SinkView) → IsLeft i.left w.typed → StandsAt e g e.left w run → HasText s start k (prints w.events) → P w run start) → Reaches e s k i i P
-reads_nothing e s k i P f = record {
-  taken = [];
-  ended = false;
-  gave = gave_nothing i;
-  reaches = λ g w run start a st text. f g w run start (left_here i w a) st text;
-}
-
--- ## Endings
-
-pub finished_so : (r : SearchResult) (e : Ending) (n m : ℕ) (s : Spacer) (k : SinkView) (i : Option (List ℕ)) (w : World) (run : Run) (start : SinkView) → IsLeft i w.typed → HasText s start k (prints w.events) → n ≡ m → e ≡ ending_of r → (cs : List CallEvent) → Then (events_of cs) w (λ v. Finished n v r run) →
-    HasEnded e m s k i w run start
-finished_so r e n m s k i w run start left text same is cs t =
-    let f = t.holds in
-    let adds = adds_on w t.world f.world (events_of cs) [] t.adds (adds_drops t.world f.world f.drops) in
-    let printed = adds_prints (events_of cs ++ []) w f.world adds ∙ ap (λ l. prints w.events ++ l) (ap prints (append-nil (events_of cs)) ∙ calls_print_nothing cs) in
-    record {
-      world = f.world;
-      typed = subst (IsLeft i) (sym adds.typed) left;
-      is = f.is ∙ ap (λ x. record { left = n; world = f.world; ending = x }) (sym is) ∙ ap (λ i. record { left = i; world = f.world; ending = e }) same;
-      text = text_same s start k (prints w.events) (prints f.world.events) printed text;
-    }
 
 -- a goal at hand where no goal is left
 limit_at : (e : Engine) (g : Game) (w : World) (run : Run) (st : StandsAt e g 0 w run) (goals : List Goal) → 0 < length goals →
@@ -146,25 +261,19 @@ limit_at e g w run st (x ∷ goals) some h = limited g st.at.inside.lives st.at.
 pub limited_at : (e : Engine) (g : Game) (w : World) (run : Run) → 0 < length e.here.goals.now → StandsAt e g 0 w run → Finished 0 w (End StepLimit) run
 limited_at e g w run some st = limit_at e g w run st e.here.goals.now some st.stands
 
--- with no goal left no more is printed or taken
-pub no_more : (e : Engine) (added : List Print) (i : SourceView) (taken : List ℕ) (g : Game) (w : World) (run : Run) (a : Awaits i false taken w) → 0 < length e.here.goals.now → StandsAt e g 0 w run
+-- with no goal left no more happens or is taken
+pub no_more : (e : Engine) (added : List Event) (i : SourceView) (taken : List ℕ) (g : Game) (w : World) (run : Run) (a : Awaits i false taken w) → 0 < length e.here.goals.now → StandsAt e g 0 w run
     → IsNoFurther added a.rest w run
 no_more e added i taken g w run a some st =
     let f = limited_at e g w run some st in
-    let same : prints run.world.events ≡ prints w.events = ap (λ (r : Run). prints r.world.events) f.is ∙ ap (λ (v : World). prints v.events) f.drops.is in
-    let kept : run.world.typed ≡ w.typed = ap (λ (r : Run). r.world.typed) f.is ∙ ap (λ (v : World). v.typed) f.drops.is in
+    let same : run.world.events ≡ w.events = ap (λ (r : Run). r.world.events) f.is ∙ ap (λ (u : World). u.events) f.drops.is in
+    let kept : run.world.typed ≡ w.typed = ap (λ (r : Run). r.world.typed) f.is ∙ ap (λ (u : World). u.typed) f.drops.is in
     record {
-      prints = record { behind = added; is = ap (λ l. l ++ added) (sym same) };
+      events = record { behind = added; is = ap (λ l. l ++ added) (sym same) };
       typed = record { taken = taken; is = kept ∙ a.typed };
     }
 
-pub run_limited : (e : Engine) (s : Spacer) (k : SinkView) (i : SourceView) → 0 < length e.here.goals.now → e.left ≡ 0 → Reaches e s k i i (HasEnded StepLimit e.left s k (left_told i i))
-run_limited e s k i some none =
-    reads_nothing e s k i (HasEnded StepLimit e.left s k (left_told i i))
-    (λ g w run start left st text.
-    finished_so (End StepLimit) StepLimit 0 e.left s k (left_told i i) w run start (as_told i i w.typed left) text (sym none) refl [] (record { world = w; adds = adds_nothing w; holds = limited_at e g w run some (subst (λ n. StandsAt e g n w run) none st) }))
-
--- ## Limits
+-- ## What a store lacks
 
 -- what a store lacks
 pub lack_from : (From : Point) (e : Engine) (f : Full) → FullAt From (store_in e.store) f → LackAt From e (lack_of f)
@@ -180,12 +289,114 @@ pub stored_lacks : (From : Point) (e : Engine) (r : Result Bool Full) → IfErr 
 stored_lacks From e (Ok done) h = tt
 stored_lacks From e (Err f) h = lack_from From e f h
 
--- the limit of an area was met
-pub ended_at : (area : Area) (left : ℕ) (old : Engine) (s s' : Spacer) (k k' : SinkView) (i i' : SourceView) → MeetsLimit area left old s s' k k' i i' → Ended (limit_ending area) left old s s' k k' i i'
-ended_at Heap left old s s' k k' i i' h = h
-ended_at Trail left old s s' k k' i i' h = h
-ended_at Aux left old s s' k k' i i' h = h
-ended_at Keep left old s s' k k' i i' h = h
+-- ## Endings
+
+module _ {P : Type 0} (v : Watching P) where
+  pub reads_nothing : (e : Engine) (s : Spacer) (k : P) (i : SourceView) (Q : World → Run → P → Type 0) → ((g : Game) (w : World) (run : Run) (start : P) → IsLeft i.left w.typed → StandsAt e g e.left w run → HasText v s start k w.events → Q w run start) → Reaches v e s k i i Q
+  reads_nothing e s k i Q f = record {
+    taken = [];
+    ended = false;
+    gave = gave_nothing i;
+    reaches = λ g w run start a st text. f g w run start (left_here i w a) st text;
+  }
+
+  pub finished_so : (r : SearchResult) (e : Ending) (n m : ℕ) (s : Spacer) (k k' : P) (i : Option (List ℕ)) (w : World) (run : Run) (start : P) → IsLeft i w.typed → HasText v s start k w.events → n ≡ m → e ≡ ending_of r → (cs : List CallEvent) → Given v k k' (calls_told cs) → Then (events_of cs) w (λ u. Finished n u r run) →
+      HasEnded v e m s k' i w run start
+  finished_so r e n m s k k' i w run start left text same is cs told t =
+      let f = t.holds in
+      let events : f.world.events ≡ w.events ++ events_of cs = ap (λ (u : World). u.events) f.drops.is ∙ t.adds.events_are ∙ all_append w.events (events_of cs) in
+      let typed : f.world.typed ≡ w.typed = ap (λ (u : World). u.typed) f.drops.is ∙ t.adds.typed in
+      record {
+        world = f.world;
+        typed = subst (IsLeft i) (sym typed) left;
+        is = f.is ∙ ap (λ x. record { left = n; world = f.world; ending = x }) (sym is) ∙ ap (λ i. record { left = i; world = f.world; ending = e }) same;
+        text = subst (HasText v s start k') (sym events) (text_shown v s s start k k' w.events (events_of cs) text (calls_shown v cs s k k' told));
+      }
+
+  -- with nothing told at its end
+  pub finished_here : (r : SearchResult) (e : Ending) (n m : ℕ) (s : Spacer) (k : P) (i : Option (List ℕ)) (w : World) (run : Run) (start : P) → IsLeft i w.typed → HasText v s start k w.events → n ≡ m → e ≡ ending_of r → Then [] w (λ u. Finished n u r run) → HasEnded v e m s k i w run start
+  finished_here r e n m s k i w run start left text same is t = finished_so r e n m s k k i w run start left text same is [] (given_nothing v k) t
+
+  pub run_limited : (e : Engine) (s : Spacer) (k : P) (i : SourceView) → 0 < length e.here.goals.now → e.left ≡ 0 → Reaches v e s k i i (HasEnded v StepLimit e.left s k (left_told i i))
+  run_limited e s k i some none =
+      reads_nothing e s k i (HasEnded v StepLimit e.left s k (left_told i i))
+      (λ g w run start left st text.
+      finished_here (End StepLimit) StepLimit 0 e.left s k (left_told i i) w run start (as_told i i w.typed left) text (sym none) refl (record { world = w; adds = adds_nothing w; holds = limited_at e g w run some (subst (λ n. StandsAt e g n w run) none st) }))
+
+  -- the limit of an area was met
+  pub ended_at : (area : Area) (left : ℕ) (old : Engine) (s s' : Spacer) (k k' : P) (i i' : SourceView) → MeetsLimit v area left old s s' k k' i i' → Ended v (limit_ending area) left old s s' k k' i i'
+  ended_at Heap left old s s' k k' i i' h = h
+  ended_at Trail left old s s' k k' i i' h = h
+  ended_at Aux left old s s' k k' i i' h = h
+  ended_at Keep left old s s' k k' i i' h = h
+
+-- ## Broken off at the goal at hand
+
+module _ {P : Type 0} (v : Watching P) (old : Engine) (s s' : Spacer) (k k' : P) (i i' : SourceView) (more : List Event) (bytes : List ℕ) (left : ℕ) (some : 0 < length old.here.goals.now) (left_is : old.left ≡ suc left) (gave : Gave i i' false bytes)
+    (comes : (g : Game) (n : ℕ) (w : World) (run : Run) → Awaits i' false bytes w → StandsAt old g (suc n) w run → Stretch more bytes w (λ u. Grows u run.world)) where
+  -- it failed at the goal at hand
+  loses_here : LosesAll v more s k k' → LosesOutput v old s k k' i i'
+  loses_here lost = record {
+    goals = 0;
+    below = omega (arith, left_is);
+    taken = bytes;
+    gave = gave;
+    breaks = λ g w run start a st text.
+        let t = comes g 0 w run a st in
+        lost_begins v t.world.events run.world.events t.holds.events start k' (subst (λ l. Lost v start k' (told_events l)) (sym t.events_are) (lost_shown v s start k k' w.events more text lost));
+    until = λ g w run a st.
+        let t = comes g 0 w run a st in
+        subst (λ l. EndsWith l run.world.typed) (append_cancel_left bytes t.world.typed a.rest (sym t.typed ∙ a.typed)) t.holds.typed;
+    since = λ g w run a st. (no_more old more i' bytes g w run a some st).typed;
+  }
+
+  -- or memory ran out
+  part_here : ShowsFront v more s s' k k' → Reaches v old s k i i' (HasPart v s' k' i'.left)
+  part_here f = record {
+    taken = bytes;
+    ended = false;
+    gave = gave;
+    reaches = λ g w run start a st text.
+        let t = comes g left w run a (subst (λ n. StandsAt old g n w run) left_is st) in
+        let begins : Begins (w.events ++ f.front) t.world.events = record { behind = f.rest; is = t.events_are ∙ ap (λ l. w.events ++ l) f.is ∙ sym (append_assoc w.events f.front f.rest) } in
+        record {
+          part = w.events ++ f.front;
+          until = begins_on (w.events ++ f.front) t.world.events run.world.events begins t.holds.events;
+          text = text_shown v s s' start k k' w.events f.front text f.shown;
+          rest = a.rest;
+          left = a.left;
+          taken = record { taken = bytes; is = a.typed };
+          typed = subst (λ l. EndsWith l run.world.typed) (append_cancel_left bytes t.world.typed a.rest (sym t.typed ∙ a.typed)) t.holds.typed;
+        };
+  }
+
+  pub breaks_here : (fault : RunFault) → BreaksSo v fault more s s' k k' → Broken v fault old s s' k k' i i'
+  breaks_here Read h = absurd h
+  breaks_here Write h = loses_here h
+  breaks_here OutOfMemory h = part_here h
+
+-- what has happened where a run comes to it
+pub happens : (mid : Engine) (es : List Event) (g : Game) (n : ℕ) (w : World) (run : Run) → Then es w (λ u. StandsAt mid g n u run) → Stretch es [] w (λ u. Grows u run.world)
+happens mid es g n w run t = stretched es w (λ u. Grows u run.world) (record { world = t.world; adds = t.adds; holds = stands_happened g t.holds.at.inside.lives t.holds.at.ways _ n t.world run t.holds.stands })
+
+-- ## What is told where an engine is
+
+module _ {P : Type 0} (v : Watching P) (old new : Engine) (s s' : Spacer) (k k' : P) (i : SourceView) (more : List Event) (left : old.left ≡ suc new.left) (leads : (g : Game) (n : ℕ) (w : World) (run : Run) → StandsAt old g (suc n) w run → Then more w (λ u. StandsAt new g n u run)) where
+  pub shown_done : IsReady new → SameLimits old new → new.told.items ≡ [] → ShowsAll v more s s' k k' → GoalDone v old new s s' k k' i i
+  shown_done ready limits quiet shown = record {
+    ready = ready;
+    limits = limits;
+    left = left;
+    added = more;
+    taken = [];
+    gave = gave_nothing i;
+    leads = λ g n w run a st. stretched more w (λ u. StandsAt new g n u run) (leads g n w run st);
+    writes = writes_shown v s s' k k' more shown;
+    silent = quiet;
+  }
+
+  pub shown_breaks : 0 < length old.here.goals.now → (fault : RunFault) → BreaksSo v fault more s s' k k' → Broken v fault old s s' k k' i i
+  shown_breaks some fault h = breaks_here v old s s' k k' i i more [] new.left some left (gave_nothing i) (λ g n w run a st. happens new more g n w run (leads g n w run st)) fault h
 
 -- ## One goal
 
@@ -201,35 +412,57 @@ is_act (place.GapN a) text print quit stop gap spaces input = absurd (spaces a r
 is_act (place.Input a) text print quit stop gap spaces input = absurd (input a refl)
 is_act x text print quit stop gap spaces input = tt
 
-module _ (x : Goal) (old mid : Engine) (s : Spacer) (k : SinkView) (i : SourceView) (some : 0 < length old.here.goals.now) (taken : Taken x old mid) where
+module _ {P : Type 0} (v : Watching P) (x : Goal) (old mid : Engine) (s : Spacer) (k : P) (i : SourceView) (some : 0 < length old.here.goals.now) (taken : Taken x old mid) (quiet : mid.told.items ≡ []) where
   takes_here : (g : Game) (w : World) (run : Run) → StandsAt old g old.left w run → TakesAt x mid g mid.left w run
   takes_here g w run st = taken.takes g mid.left w run (subst (λ n. StandsAt old g n w run) taken.left st)
 
-  -- it has begun a branch, or goes on
-  pub goal_done : (new : Engine) → WentOn (TakesAt x mid) mid new → GoalDone old new s s k k i i
-  goal_done new h = record {
-    ready = h.ready;
-    limits = same_on old mid new (same_limits taken.limits) (telling_limits h.limits);
-    left = taken.left ∙ ap suc (sym h.left);
-    added = [];
-    taken = [];
-    gave = gave_nothing i;
-    leads = λ g n w run a st. called h.limits.calls w (λ v. StandsAt new g n v run) (h.leads g n w run (taken.takes g n w run st));
-    writes = writes_nothing s k;
-  }
+  module _ (new : Engine) (h : WentOn (TakesAt x mid) mid new) where
+    left_new : old.left ≡ suc new.left
+    left_new = taken.left ∙ ap suc (sym h.left)
 
-  pub goal_ended : (new : Engine) (result : SearchResult) (e : Ending) → e ≡ ending_of result → HasEndedSo (TakesAt x mid) result mid new → Reaches old s k i i (HasEnded e new.left s k (left_told i i))
-  goal_ended new result e is h =
-      reads_nothing old s k i (HasEnded e new.left s k (left_told i i)) (λ g w run start left st text. finished_so result e mid.left new.left s k (left_told i i) w run start (as_told i i w.typed left) text (sym h.left) is h.limits.calls (h.ends g mid.left w run (takes_here g w run st)))
+    leads_new : (g : Game) (n : ℕ) (w : World) (run : Run) → StandsAt old g (suc n) w run → Then (events_of h.limits.calls) w (λ u. StandsAt new g n u run)
+    leads_new g n w run st = h.leads g n w run (taken.takes g n w run st)
 
-  -- memory ran out before anything was written
-  pub goal_lost : Reaches old s k i i (HasPart s k i.left)
+    told_is : new.told.items ≡ h.limits.calls
+    told_is = quiet_told mid new h.limits quiet
+
+    -- it has begun a branch, or goes on
+    pub goal_done : (k' : P) (e : Engine) → Forgets new e → Given v k k' (calls_told new.told.items) → GoalDone v old e s s k k' i i
+    goal_done k' e forgets given =
+        shown_done v old e s s k k' i (events_of h.limits.calls) (left_new ∙ ap suc (sym (forgets_left new e forgets)))
+        (λ g n w run st. let t = leads_new g n w run st in record { world = t.world; adds = t.adds; holds = forgets_stands new e forgets g n t.world run t.holds })
+        (forgets_ready new e forgets h.ready) (same_on old new e (same_on old mid new (same_limits taken.limits) (telling_limits h.limits)) (forgets_limits new e forgets)) forgets.told
+        (calls_shown v h.limits.calls s k k' (subst (λ l. Given v k k' (calls_told l)) told_is given))
+
+    done_lost : (k' : P) → Lost v k k' (calls_told new.told.items) → LosesOutput v old s k k' i i
+    done_lost k' lost = shown_breaks v old new s s k k' i (events_of h.limits.calls) left_new leads_new some Write (calls_lost v h.limits.calls s k k' (subst (λ l. Lost v k k' (calls_told l)) told_is lost))
+
+  module _ (new : Engine) (result : SearchResult) (h : HasEndedSo (TakesAt x mid) result mid new) where
+    told_end : new.told.items ≡ h.limits.calls
+    told_end = quiet_told mid new h.limits quiet
+
+    pub goal_ended : (e : Ending) → e ≡ ending_of result → (k' : P) (left : ℕ) → left ≡ new.left → Given v k k' (calls_told new.told.items) → Reaches v old s k i i (HasEnded v e left s k' (left_told i i))
+    goal_ended e is k' left same given =
+        reads_nothing v old s k i (HasEnded v e left s k' (left_told i i))
+        (λ g w run start here st text. finished_so v result e mid.left left s k k' (left_told i i) w run start (as_told i i w.typed here) text (sym (same ∙ h.left)) is h.limits.calls (subst (λ l. Given v k k' (calls_told l)) told_end given) (h.ends g mid.left w run (takes_here g w run st)))
+
+    end_lost : (k' : P) → Lost v k k' (calls_told new.told.items) → LosesOutput v old s k k' i i
+    end_lost k' lost =
+        breaks_here v old s s k k' i i (events_of h.limits.calls) [] mid.left some taken.left (gave_nothing i)
+        (λ g n w run a st.
+        let t = h.ends g n w run (taken.takes g n w run st) in
+        stretched (events_of h.limits.calls) w (λ u. Grows u run.world) (record { world = t.world; adds = t.adds; holds = finished_later n t.world result run t.holds }))
+        Write (calls_lost v h.limits.calls s k k' (subst (λ l. Lost v k k' (calls_told l)) told_end lost))
+
+  -- memory ran out before anything was told
+  pub goal_lost : Reaches v old s k i i (HasPart v s k i.left)
   goal_lost =
-      reads_nothing old s k i (HasPart s k i.left)
+      reads_nothing v old s k i (HasPart v s k i.left)
       (λ g w run start left st text.
-      record { moment = w; taken = record { taken = []; is = refl }; until = stands_happened g st.at.inside.lives st.at.ways _ old.left w run st.stands; text = text; left = left })
+      let later = stands_happened g st.at.inside.lives st.at.ways _ old.left w run st.stands in
+      record { part = w.events; until = later.events; text = text; rest = w.typed; left = left; taken = record { taken = []; is = refl }; typed = later.typed })
 
-  pub goal_limit : (area : Area) (left : ℕ) → mid.left ≡ left → PassesLimit area (TakesAt x mid) (limit_in area mid) → MeetsLimit area left old s s k k i i
+  pub goal_limit : (area : Area) (left : ℕ) → mid.left ≡ left → PassesLimit area (TakesAt x mid) (limit_in area mid) → MeetsLimit v area left old s s k k i i
   goal_limit area left same h = record {
     goals = 0;
     left_is = omega (arith, taken.left, same);
@@ -237,80 +470,96 @@ module _ (x : Goal) (old mid : Engine) (s : Spacer) (k : SinkView) (i : SourceVi
     taken = [];
     gave = gave_nothing i;
     passed = λ g w run a st. subst (λ n. n < greatest area run.world.meters) (limits_at old mid (same_limits taken.limits) area) (h g 0 w run (taken.takes g 0 w run st));
-    until = λ g w run a st. stretched [] w (λ v. Grows v run.world) (record { world = w; adds = adds_nothing w; holds = stands_happened g st.at.inside.lives st.at.ways _ 1 w run st.stands });
+    until = λ g w run a st. stretched [] w (λ u. Grows u run.world) (record { world = w; adds = adds_nothing w; holds = stands_happened g st.at.inside.lives st.at.ways _ 1 w run st.stands });
     since = λ g w run a st. no_more old [] i [] g w run a some st;
-    writes = writes_nothing s k;
+    writes = writes_nothing v s k;
   }
 
-  pub goal_does : (new : Engine) → new.left ≡ mid.left → (r : Result Bool Lack) (result : Result (Option Ending) RunFault) → result ≡ outcome_of r → IfOk r (λ found. Branches (TakesAt x mid) found mid new) → IfErr r (λ lack. LackAt (TakesAt x mid) mid lack) →
-      IfOk result (λ ending. DoesGoal ending old new s s k k i i)
-  goal_does new left r result is ok err = subst (λ q. IfOk q (λ ending. DoesGoal ending old new s s k k i i)) (sym is) (here r ok err) where
-    lacks : (area : Option Area) → LacksIn area (TakesAt x mid) mid → IfOk (over (ending_at area)) (λ ending. DoesGoal ending old new s s k k i i)
-    lacks None h = tt
-    lacks (Some area) h = ended_at area new.left old s s k k i i (goal_limit area new.left (sym left) h)
+  pub lacks_does : (new : Engine) → new.left ≡ mid.left → (lack : Lack) → LackAt (TakesAt x mid) mid lack → IfOk (over (limit_of lack)) (λ ending. DoesGoal v ending old new s s k k i i)
+  lacks_does new left lack h = here (area_of lack) h where
+    here : (area : Option Area) → LacksIn area (TakesAt x mid) mid → IfOk (over (ending_at area)) (λ ending. DoesGoal v ending old new s s k k i i)
+    here None h = tt
+    here (Some area) h = ended_at v area new.left old s s k k i i (goal_limit area new.left (sym left) h)
 
-    here : (r : Result Bool Lack) → IfOk r (λ found. Branches (TakesAt x mid) found mid new) → IfErr r (λ lack. LackAt (TakesAt x mid) mid lack) → IfOk (outcome_of r) (λ ending. DoesGoal ending old new s s k k i i)
-    here (Ok true) ok err = goal_done new ok
-    here (Ok false) ok err = goal_ended new Failing Failed refl ok
-    here (Err lack) ok err = lacks (area_of lack) err
+  pub lacks_breaks : (lack : Lack) → IfErr (over (limit_of lack)) (λ fault. Broken v fault old s s k k i i)
+  lacks_breaks lack = here (area_of lack) where
+    here : (area : Option Area) → IfErr (over (ending_at area)) (λ fault. Broken v fault old s s k k i i)
+    here None = goal_lost
+    here (Some area) = tt
 
-  pub goal_breaks : (r : Result Bool Lack) (result : Result (Option Ending) RunFault) → result ≡ outcome_of r → IfErr result (λ fault. Broken fault old s s k k i i)
-  goal_breaks r result is = subst (λ q. IfErr q (λ fault. Broken fault old s s k k i i)) (sym is) (here r) where
-    lacks : (area : Option Area) → IfErr (over (ending_at area)) (λ fault. Broken fault old s s k k i i)
-    lacks None = goal_lost
-    lacks (Some area) = tt
+  -- from where the goal was done to where it was told
+  module _ (new e : Engine) (s' : Spacer) (same : s' ≡ s) (k' : P) (result : Result (Option Ending) RunFault) (left : new.left ≡ mid.left) where
+    went_does : WentOn (TakesAt x mid) mid new → (r : Result (Option Ending) RunFault) → TellsSo v None new e k k' r → IfOk r (λ ending. DoesGoal v ending old e s s k k' i i)
+    went_does h (Ok ending) t = subst (λ o. DoesGoal v o old e s s k k' i i) (sym t.is) (goal_done new h k' e t.forgets t.given)
+    went_does h (Err fault) t = tt
 
-    here : (r : Result Bool Lack) → IfErr (outcome_of r) (λ fault. Broken fault old s s k k i i)
-    here (Ok true) = tt
-    here (Ok false) = tt
-    here (Err lack) = lacks (area_of lack)
+    went_breaks : WentOn (TakesAt x mid) mid new → (r : Result (Option Ending) RunFault) → TellsSo v None new e k k' r → IfErr r (λ fault. Broken v fault old s s k k' i i)
+    went_breaks h (Ok ending) t = tt
+    went_breaks h (Err Write) t = done_lost new h k' t
+    went_breaks h (Err Read) t = absurd t
+    went_breaks h (Err OutOfMemory) t = absurd t
 
--- ## The output fails at the goal at hand
+    module _ (end : SearchResult) (ending : Ending) (is : ending ≡ ending_of end) (does : Reaches v old s k i i (HasEnded v ending e.left s k' (left_told i i)) → DoesGoal v (Some ending) old e s s k k' i i) where
+      end_does : HasEndedSo (TakesAt x mid) end mid new → (r : Result (Option Ending) RunFault) → TellsSo v (Some ending) new e k k' r → IfOk r (λ ending. DoesGoal v ending old e s s k k' i i)
+      end_does h (Ok o) t = subst (λ o. DoesGoal v o old e s s k k' i i) (sym t.is) (does (goal_ended new end h ending is k' e.left (forgets_left new e t.forgets) t.given))
+      end_does h (Err fault) t = tt
 
-pub loses_here : (old : Engine) (s : Spacer) (k k' : SinkView) (i i' : SourceView) (added : List Print) (bytes : List ℕ) → 0 < length old.here.goals.now → 0 < old.left → Gave i i' false bytes → ((g : Game) (w : World) (run : Run) → Awaits i' false bytes w → StandsAt old g (suc 0) w run → Stretch added bytes w (λ v. Grows v run.world)) →
-    ((start : SinkView) (es : List Print) → HasText s start k es → BrokeOff start k' (render (es ++ added))) → LosesOutput old s k k' i i'
-loses_here old s k k' i i' added bytes some left gave comes broke = record {
-  goals = 0;
-  below = left;
-  taken = bytes;
-  gave = gave;
-  breaks = λ g w run start a st text.
-      let t = comes g w run a st in
-      text_begins t.world.events run.world.events t.holds.events start k' (subst (λ l. BrokeOff start k' (render l)) (sym t.prints_are) (broke start (prints w.events) text));
-  until = λ g w run a st.
-      let t = comes g w run a st in
-      subst (λ l. EndsWith l run.world.typed) (append_cancel_left bytes t.world.typed a.rest (sym t.typed ∙ a.typed)) t.holds.typed;
-  since = λ g w run a st. (no_more old added i' bytes g w run a some st).typed;
-}
+      end_breaks : HasEndedSo (TakesAt x mid) end mid new → (r : Result (Option Ending) RunFault) → TellsSo v (Some ending) new e k k' r → IfErr r (λ fault. Broken v fault old s s k k' i i)
+      end_breaks h (Ok o) t = tt
+      end_breaks h (Err Write) t = end_lost new end h k' t
+      end_breaks h (Err Read) t = absurd t
+      end_breaks h (Err OutOfMemory) t = absurd t
 
--- what was printed has happened where a run comes to it
-pub happens : (mid : Engine) (es : List Event) (g : Game) (n : ℕ) (w : World) (run : Run) → Then es w (λ v. StandsAt mid g n v run) → Stretch (prints es) [] w (λ v. Grows v run.world)
-happens mid es g n w run t = stretched es w (λ v. Grows v run.world) (record { world = t.world; adds = t.adds; holds = stands_happened g t.holds.at.inside.lives t.holds.at.ways _ n t.world run t.holds.stands })
+    lacks_so : (lack : Lack) → LackAt (TakesAt x mid) mid lack → LacksSo lack new e k k' result → IfOk result (λ ending. DoesGoal v ending old e s s k k' i i)
+    lacks_so lack f t =
+        subst (λ q. IfOk q (λ ending. DoesGoal v ending old e s s k k' i i)) (sym t.is)
+        (subst (λ p. IfOk (over (limit_of lack)) (λ ending. DoesGoal v ending old e s s k p i i)) (sym t.shown) (lacks_does e (ap (λ (y : Engine). y.left) t.engine ∙ left) lack f))
 
--- the sink failed within one thing
-pub lost_one : (s : Spacer) (k k' : SinkView) (e : Print) → ((es : List Print) → StandsFor s es → BrokeOff k k' (growth es e)) → (start : SinkView) (es : List Print) → HasText s start k es → BrokeOff start k' (render (es ++ e ∷ []))
-lost_one s k k' e broke start es text = subst (BrokeOff start k') (sym (render_grows es e)) (broke_later start k k' (render es) (growth es e) text.wrote (broke es text.stands))
+    lacks_so_breaks : (lack : Lack) → LacksSo lack new e k k' result → IfErr result (λ fault. Broken v fault old s s k k' i i)
+    lacks_so_breaks lack t =
+        subst (λ q. IfErr q (λ fault. Broken v fault old s s k k' i i)) (sym t.is)
+        (subst (λ p. IfErr (over (limit_of lack)) (λ fault. Broken v fault old s s k p i i)) (sym t.shown) (lacks_breaks lack))
+
+    -- the spacer is as it was
+    does_at : IfOk result (λ ending. DoesGoal v ending old e s s k k' i i) → IfOk result (λ ending. DoesGoal v ending old e s s' k k' i i)
+    does_at h = subst (λ z. IfOk result (λ ending. DoesGoal v ending old e s z k k' i i)) (sym same) h
+
+    breaks_at : IfErr result (λ fault. Broken v fault old s s k k' i i) → IfErr result (λ fault. Broken v fault old s s' k k' i i)
+    breaks_at h = subst (λ z. IfErr result (λ fault. Broken v fault old s z k k' i i)) (sym same) h
+
+    pub goal_does : (r : Result Bool Lack) → ComesTo v r new e k k' result → IfOk r (λ found. Branches (TakesAt x mid) found mid new) → IfErr r (λ lack. LackAt (TakesAt x mid) mid lack) → IfOk result (λ ending. DoesGoal v ending old e s s' k k' i i)
+    goal_does (Ok true) t ok err = does_at (went_does ok result t)
+    goal_does (Ok false) t ok err = does_at (end_does Failing Failed refl (λ h. h) ok result t)
+    goal_does (Err lack) t ok err = does_at (lacks_so lack err t)
+
+    pub goal_breaks : (r : Result Bool Lack) → ComesTo v r new e k k' result → IfOk r (λ found. Branches (TakesAt x mid) found mid new) → IfErr result (λ fault. Broken v fault old s s' k k' i i)
+    goal_breaks (Ok true) t ok = breaks_at (went_breaks ok result t)
+    goal_breaks (Ok false) t ok = breaks_at (end_breaks Failing Failed refl (λ h. h) ok result t)
+    goal_breaks (Err lack) t ok = breaks_at (lacks_so_breaks lack t)
+
+    pub stops_does : TellsSo v None new e k k' result → x ≡ Stop → Stops true mid new → IfOk result (λ ending. DoesGoal v ending old e s s' k k' i i)
+    stops_does t is h = does_at (went_does (subst (λ y. WentOn (TakesAt y mid) mid new) (sym is) h) result t)
+
+    pub stops_breaks : TellsSo v None new e k k' result → x ≡ Stop → Stops true mid new → IfErr result (λ fault. Broken v fault old s s' k k' i i)
+    stops_breaks t is h = breaks_at (went_breaks (subst (λ y. WentOn (TakesAt y mid) mid new) (sym is) h) result t)
+
+    pub stopped_does : TellsSo v (Some Stopped) new e k k' result → x ≡ Stop → Stops false mid new → IfOk result (λ ending. DoesGoal v ending old e s s' k k' i i)
+    stopped_does t is h = does_at (end_does (End Stopped) Stopped refl (λ h. h) (subst (λ y. HasEndedSo (TakesAt y mid) (End Stopped) mid new) (sym is) h) result t)
+
+    pub stopped_breaks : TellsSo v (Some Stopped) new e k k' result → x ≡ Stop → Stops false mid new → IfErr result (λ fault. Broken v fault old s s' k k' i i)
+    stopped_breaks t is h = breaks_at (end_breaks (End Stopped) Stopped refl (λ h. h) (subst (λ y. HasEndedSo (TakesAt y mid) (End Stopped) mid new) (sym is) h) result t)
+
+  pub goal_quits : x ≡ Quit → Reaches v old s k i i (HasEnded v Quit-Ending mid.left s k (left_told i i))
+  goal_quits is =
+      reads_nothing v old s k i (HasEnded v Quit-Ending mid.left s k (left_told i i))
+      (λ g w run start left st text.
+      finished_here v (End Quit-Ending) Quit-Ending mid.left mid.left s k (left_told i i) w run start (as_told i i w.typed left) text refl refl
+      (quits mid g mid.left w run (subst (λ y. TakesAt y mid g mid.left w run) is (takes_here g w run st))))
 
 -- ## One thing that is printed
 
-module _ (x : Goal) (e : Print) (old mid : Engine) (s s' : Spacer) (k k' : SinkView) (i : SourceView) (taken : Taken x old mid) (prints_it : (g : Game) (n : ℕ) (w : World) (run : Run) → TakesAt x mid g n w run → Then (Prints e ∷ []) w (λ v. StandsAt mid g n v run)) where
-  one_then : (g : Game) (n : ℕ) (w : World) (run : Run) → StandsAt old g (suc n) w run → Then (Prints e ∷ []) w (λ v. StandsAt mid g n v run)
-  one_then g n w run st = prints_it g n w run (taken.takes g n w run st)
-
-  pub one_done : ((es : List Print) → StandsFor s es → Added e es k k' s') → GoalDone old mid s s' k k' i i
-  one_done added = record {
-    ready = taken.ready;
-    limits = same_limits taken.limits;
-    left = taken.left;
-    added = e ∷ [];
-    taken = [];
-    gave = gave_nothing i;
-    leads = λ g n w run a st. stretched (Prints e ∷ []) w (λ v. StandsAt mid g n v run) (one_then g n w run st);
-    writes = λ start es text. text_added s s' start k k' es e text added;
-  }
-
-  pub one_lost : 0 < length old.here.goals.now → ((es : List Print) → StandsFor s es → BrokeOff k k' (growth es e)) → LosesOutput old s k k' i i
-  one_lost some broke = loses_here old s k k' i i (e ∷ []) [] some (omega (arith, taken.left)) (gave_nothing i) (λ g w run a st. happens mid (Prints e ∷ []) g 0 w run (one_then g 0 w run st)) (lost_one s k k' e broke)
+pub one_then : (x : Goal) (e : Print) (old mid : Engine) → Taken x old mid → ((g : Game) (n : ℕ) (w : World) (run : Run) → TakesAt x mid g n w run → Then (Prints e ∷ []) w (λ u. StandsAt mid g n u run)) → (g : Game) (n : ℕ) (w : World) (run : Run) → StandsAt old g (suc n) w run → Then (Prints e ∷ []) w (λ u. StandsAt mid g n u run)
+one_then x e old mid taken prints_it g n w run st = prints_it g n w run (taken.takes g n w run st)
 
 pub word_prints : (x : Goal) (name bytes : List ℕ) (e : Engine) → x ≡ Text name → bytes ≡ name → (g : Game) (n : ℕ) (w : World) (run : Run) → TakesAt x e g n w run → Then (Prints (Piece bytes) ∷ []) w (λ v. StandsAt e g n v run)
 word_prints x name bytes e is same g n w run st = prints_word bytes e g n w run (subst (λ y. TakesAt y e g n w run) (is ∙ ap Text (sym same)) st)
@@ -320,51 +569,5 @@ gap_prints x kind p e is same g n w run st = subst (λ q. Then (Prints q ∷ [])
 
 -- ## A printed value
 
-pub text_grown : (ps : List (List ℕ)) (s s' : Spacer) (start before now : SinkView) (es : List Print) → HasText s start before es → AddsAll ps s s' before now → HasText s' start now (es ++ as_prints ps)
-text_grown ps s s' start before now es h f =
-    let a = f es h.stands in
-    record { stands = a.stands; wrote = subst (Wrote start now) (sym (render_append es (as_prints ps))) (wrote_on start before now (render es) (growth_of es ps) h.wrote a.wrote) }
-
-module _ (x : Goal) (term : Term) (value : Ref) (old mid new : Engine) (s s' : Spacer) (k k' : SinkView) (i : SourceView) (taken : Taken x old mid) (is : x ≡ PrintGoal term) (wrote : WrotePrinted term value mid new) where
-  abbrev ps : List (List ℕ)
-  ps = pieces_at new value
-
-  abbrev happened : List Event
-  happened = map (λ piece. Prints (Piece piece)) ps
-
-  happened_prints : (ps : List (List ℕ)) → prints (map (λ piece. Prints (Piece piece)) ps) ≡ as_prints ps
-  happened_prints [] = refl
-  happened_prints (p ∷ ps) = ap (λ l. Piece p ∷ l) (happened_prints ps)
-
-  printed_then : (g : Game) (n : ℕ) (w : World) (run : Run) → StandsAt old g (suc n) w run → Then happened w (λ v. StandsAt new g n v run)
-  printed_then g n w run st = wrote.leads g n w run (subst (λ y. TakesAt y mid g n w run) is (taken.takes g n w run st))
-
-  pub value_done : AddsAll ps s s' k k' → GoalDone old new s s' k k' i i
-  value_done added = record {
-    ready = wrote.ready;
-    limits = same_on old mid new (same_limits taken.limits) (same_limits wrote.limits);
-    left = taken.left ∙ ap suc (sym wrote.left);
-    added = as_prints ps;
-    taken = [];
-    gave = gave_nothing i;
-    leads = λ g n w run a st. subst (λ l. Stretch l [] w (λ v. StandsAt new g n v run)) (happened_prints ps) (stretched happened w (λ v. StandsAt new g n v run) (printed_then g n w run st));
-    writes = λ start es text. text_grown ps s s' start k k' es text added;
-  }
-
-  pub value_lost : 0 < length old.here.goals.now → ((es : List Print) → StandsFor s es → BrokeOff k k' (growth_of es ps)) → LosesOutput old s k k' i i
-  value_lost some broke =
-      loses_here old s k k' i i (as_prints ps) [] some (omega (arith, taken.left)) (gave_nothing i) (λ g w run a st. subst (λ l. Stretch l [] w (λ v. Grows v run.world)) (happened_prints ps) (happens new happened g 0 w run (printed_then g 0 w run st)))
-      (λ start es text. subst (BrokeOff start k') (sym (render_append es (as_prints ps))) (broke_later start k k' (render es) (growth_of es ps) text.wrote (broke es text.stands)))
-
-pub goal_quits : (x : Goal) (old mid : Engine) (s : Spacer) (k : SinkView) (i : SourceView) → Taken x old mid → x ≡ Quit → Reaches old s k i i (HasEnded Quit-Ending mid.left s k (left_told i i))
-goal_quits x old mid s k i taken is =
-    reads_nothing old s k i (HasEnded Quit-Ending mid.left s k (left_told i i))
-    (λ g w run start left st text.
-    finished_so (End Quit-Ending) Quit-Ending mid.left mid.left s k (left_told i i) w run start (as_told i i w.typed left) text refl refl []
-    (quits mid g mid.left w run (subst (λ y. TakesAt y mid g mid.left w run) is (taken.takes g mid.left w run (subst (λ n. StandsAt old g n w run) taken.left st)))))
-
-pub goal_stops : (x : Goal) (old mid new : Engine) (s : Spacer) (k : SinkView) (i : SourceView) → 0 < length old.here.goals.now → Taken x old mid → x ≡ Stop → Stops true mid new → GoalDone old new s s k k i i
-goal_stops x old between new s k i some taken is h = goal_done x old between s k i some taken new (subst (λ y. WentOn (TakesAt y between) between new) (sym is) h)
-
-pub goal_stopped : (x : Goal) (old mid new : Engine) (s : Spacer) (k : SinkView) (i : SourceView) → 0 < length old.here.goals.now → Taken x old mid → x ≡ Stop → Stops false mid new → Reaches old s k i i (HasEnded Stopped new.left s k (left_told i i))
-goal_stopped x old between new s k i some taken is h = goal_ended x old between s k i some taken new (End Stopped) Stopped refl (subst (λ y. HasEndedSo (TakesAt y between) (End Stopped) between new) (sym is) h)
+pub value_then : (x : Goal) (term : Term) (value : Ref) (old mid new : Engine) → Taken x old mid → x ≡ PrintGoal term → WrotePrinted term value mid new → (g : Game) (n : ℕ) (w : World) (run : Run) → StandsAt old g (suc n) w run → Then (as_events (pieces_at new value)) w (λ u. StandsAt new g n u run)
+value_then x term value old mid new taken is wrote g n w run st = wrote.leads g n w run (subst (λ y. TakesAt y mid g n w run) is (taken.takes g n w run st))

@@ -1,5 +1,5 @@
 -- What a goal that prints spaces comes to.
-use Rattle.std.proofs.Common.{◌≡◌, ◌<◌, ℕ, suc, List, [], ◌∷◌, ◌++◌, Option, Some, None, refl, sym, ap, ◌∙◌, subst, arith, length}
+use Rattle.std.proofs.Common.{◌≡◌, ℕ, suc, List, [], ◌∷◌, ◌++◌, Option, Some, None, refl, sym, ap, ◌∙◌, subst}
 use Rattle.std.specs.declared.vec.Vec.{Vec}
 use Rattle.std.specs.declared.alloc.Global.{Global}
 use Rattle.dg_base.specs.declared.program.Goal.{Goal, out-Goal}
@@ -7,32 +7,24 @@ use Rattle.dg_base.specs.declared.program.Goal.TheVariants.{GapN, outs-GapN}
 use Rattle.dg_base.specs.declared.program.Term.{Term}
 use Rattle.dg_base.specs.declared.program.CoreProgram.{CoreProgram}
 use Rattle.dg_base.specs.Goals.{terms_held}
-use Rattle.dg_base.specs.Written.{SinkView, BrokeOff}
 use Rattle.dg_meaning.specs.Values.{Num, Value, Node, value_of}
 use Rattle.dg_meaning.specs.Substitutions.{walk}
 use Rattle.dg_meaning.specs.World.{Game, World, Print, Prints, SpacesOf, worked}
 use Rattle.dg_meaning.specs.Cells.{cells}
 use Rattle.dg_meaning.specs.Path.{Step, Act, Goes, Fails, Moves}
 use Rattle.dg_meaning.specs.Moves.{looked_up, outcome, move_of, path_of, printed, spaces}
-use Rattle.dg_meaning.specs.Render.{growth}
 use Rattle.dg_meaning.specs.Transcript.{Run}
 use Rattle.dg_meaning.specs.inside.Keeps.{Stands}
 use Rattle.dg_unify.specs.Store.{Saved, Kept, Made, told, or_nil}
 use Rattle.dg_unify.specs.declared.bindings.Ref.{Ref}
 use Rattle.dg_unify.specs.declared.list.ListBindings.{ListBindings}
-use Rattle.dg_spacing.specs.declared.spacer.Spacer.{Spacer}
-use Rattle.dg_spacing.specs.Spacer.{StandsFor}
 use Rattle.dg_interp.specs.declared.engine.Engine.{Engine}
 use Rattle.dg_interp.specs.inside.Frames.{values_in}
 use Rattle.dg_interp.specs.inside.Engine.{store_in, KeepsPlaces, steps_of, IsReady, TakesAt, StandsAt, Taken, Leads, Then, WentWrong}
 use Rattle.dg_terms.specs.Throwing.{number_in}
 use Rattle.dg_interp.specs.inside.Giving.{ActsAt, PrintsOne, TellsSpaces}
-use Rattle.dg_texts.specs.Printing.{Added}
-use Rattle.dg_interp.specs.inside.Running.{GoalDone, LosesOutput}
 use Rattle.dg_interp.proofs.Takes.{store_sound, store_ready}
-use Rattle.dg_interp.proofs.Places.{silent, same_limits, inside_in}
-use Rattle.dg_base.specs.Streams.{SourceView}
-use Rattle.dg_interp.proofs.Runs.{same_on, gave_nothing, stretched, text_added, happens, lost_one, loses_here}
+use Rattle.dg_interp.proofs.Places.{silent, inside_in}
 use Rattle.dg_interp.proofs.Giving.{with_store, steps_kept, kept_limits, written_acts}
 
 pub spaces_held : (term : Term) → terms_held (out-Goal (GapN term)) ≡ term ∷ []
@@ -105,21 +97,5 @@ module _ (term : Term) (old : Engine) (store : ListBindings) (stack : Vec Ref Gl
 
 -- ## Printing them
 
-module _ (x : Goal) (e : Print) (old mid new : Engine) (s s' : Spacer) (k k' : SinkView) (i : SourceView) (taken : Taken x old mid) (wrote : PrintsOne e x mid new) where
-  then_one : (g : Game) (n : ℕ) (w : World) (run : Run) → StandsAt old g (suc n) w run → Then (Prints e ∷ []) w (λ v. StandsAt new g n v run)
-  then_one g n w run st = wrote.leads g n w run (taken.takes g n w run st)
-
-  pub told_done : ((es : List Print) → StandsFor s es → Added e es k k' s') → GoalDone old new s s' k k' i i
-  told_done added = record {
-    ready = wrote.ready;
-    limits = same_on old mid new (same_limits taken.limits) (same_limits wrote.limits);
-    left = taken.left ∙ ap suc (sym wrote.left);
-    added = e ∷ [];
-    taken = [];
-    gave = gave_nothing i;
-    leads = λ g n w run a st. stretched (Prints e ∷ []) w (λ v. StandsAt new g n v run) (then_one g n w run st);
-    writes = λ start es text. text_added s s' start k k' es e text added;
-  }
-
-  pub told_lost : 0 < length old.here.goals.now → ((es : List Print) → StandsFor s es → BrokeOff k k' (growth es e)) → LosesOutput old s k k' i i
-  told_lost some broke = loses_here old s k k' i i (e ∷ []) [] some (omega (arith, taken.left)) (gave_nothing i) (λ g w run a st. happens new (Prints e ∷ []) g 0 w run (then_one g 0 w run st)) (lost_one s k k' e broke)
+pub spaces_then : (x : Goal) (e : Print) (old mid after : Engine) → Taken x old mid → PrintsOne e x mid after → (g : Game) (n : ℕ) (w : World) (run : Run) → StandsAt old g (suc n) w run → Then (Prints e ∷ []) w (λ u. StandsAt after g n u run)
+spaces_then x e old mid after taken wrote g n w run st = wrote.leads g n w run (taken.takes g n w run st)

@@ -3,6 +3,7 @@ pub mod Bodies
 pub mod Frames
 pub mod Engine
 pub mod Querying
+pub mod Showing
 pub mod Running
 pub mod Giving
 pub mod Wording

@@ -1,5 +1,5 @@
 // Open choices and linked frames, in place of the search's recursion.
-ghost use Rattle.std.specs.Prelude.{◌≡◌, ◌≢◌, ℕ, true, false, ◌+◌, ◌<◌, ◌≤◌, ◌^◌, IfOk, IfErr, OnOk, MatchResult, List, [], ◌∷◌, All, length, reverse, slice_get};
+ghost use Rattle.std.specs.Prelude.{◌≡◌, ◌≢◌, ℕ, true, false, ◌+◌, ◌<◌, ◌≤◌, ◌^◌, IfOk, IfErr, OnOk, OnErr, MatchResult, List, [], ◌∷◌, All, length, reverse, slice_get};
 ghost use Rattle.dg_base.specs.declared.program.Goal.TheVariants.{Ask, Print as PrintGoal, Fail as FailGoal, Just as JustGoal};
 ghost use Rattle.dg_meaning.specs.Moves.{rules_of as the_rules};
 ghost use Rattle.dg_base.specs.Sound.{IsSound as IsSoundProgram};
@@ -17,7 +17,8 @@ ghost use Rattle.dg_interp.specs.inside.Rules.{EntersRule, RuleFull, ArgsWritten
 ghost use Rattle.dg_terms.specs.Terms.{Overflows};
 ghost use Rattle.dg_lasting.specs.Lasting.{StartsLasting};
 ghost use Rattle.dg_terms.specs.Passing.{IsFirst, IsCandidate};
-ghost use Rattle.dg_texts.specs.Printing.{Printed};
+ghost use Rattle.dg_interp.specs.inside.Showing.{IsShown, as_events, calls_told};
+ghost use Rattle.dg_watch.specs.Watching.{Given, Lost};
 ghost use Rattle.dg_unify.specs.Store.{Saved, Kept, Holds, Charged};
 
 mod acting;
@@ -36,14 +37,13 @@ mod throwing;
 mod trying;
 mod wording;
 
-use dg_base::{CoreProgram, Ending, Goal, Items, Rule, Sink, Term, WriteFault};
+use crate::output::{Output, print_parts, show_calls};
+use dg_base::{CoreProgram, Ending, Failed, Goal, Items, Rule, RunFault, Term};
 use dg_choices::{Choice, Env, Frame, Left, Mark, Query, answered, cut, take, waiting};
 use dg_lasting::{Lack, Lasting, lacking};
-use dg_spacing::Spacer;
 use dg_terms::{choice_cells, new_variables, pass, unify_all, write_term, write_terms};
-use dg_texts::print_value;
 use dg_unify::{Bindings, Full, ListBindings, Mark as Place, Ref, View};
-use dg_watch::CallEvent;
+use dg_watch::{CallEvent, Showing};
 use std::alloc::{AllocError, Global};
 use telling::{tell_again, tell_retries};
 
@@ -210,6 +210,7 @@ impl<'p> Engine<'p> {
         requires entry { entry.now ≡ Ask program.now.entry [] false ∷ [] }
         ensures starts { (limits : TheLimits) → (dice : List ℕ) → limits.steps ≡ left → limits.heap ≡ heap → limits.trail ≡ trail →
             StartsLasting program.now limits dice lasting.entry → Starts program.now limits dice result }
+        ensures quiet { result.told.items ≡ [] }
     {
         Engine {
             program,
@@ -335,13 +336,6 @@ impl<'p> Engine<'p> {
             self.leave_frame();
         }
         Ok(Settled::Goal)
-    }
-
-    /// Forgets what was told.
-    pub fn forget(&mut self)
-        ensures { Forgets self.old self.new }
-    {
-        self.told.clear();
     }
 
     /// The frame at hand.
@@ -732,18 +726,32 @@ impl<'p> Engine<'p> {
     }
 
     /// Prints the value that stands at a Ref.
-    pub fn print<K: Sink>(
+    pub fn print<K, A: Showing<K>>(
         &mut self,
-        spacer: &mut Spacer,
+        output: &mut Output<A>,
         sink: &mut K,
         value: Ref,
-    ) -> Result<(), WriteFault>
+    ) -> Result<(), RunFault>
         requires { Holds (store_in self.old.store) value }
         ensures stays { StaysBut self.old self.new }
-        ensures printed { Printed (pieces_at self.old value) spacer.old spacer.new (K.view sink.old) (K.view sink.new) result }
+        ensures printed { IsShown A.watching (as_events (pieces_at self.old value)) output.old.printer.spacer output.new.printer.spacer
+            (output.old.printer.showing, sink.old) (output.new.printer.showing, sink.new) result }
     {
         let words = self.program.words.as_slice();
         let objects = self.program.objects.as_slice();
-        print_value(&mut self.store, words, objects, spacer, sink, value)
+        print_parts(&mut self.store, words, objects, output, sink, value)
+    }
+
+    /// Shows the calls that were told, and forgets them.
+    pub fn tell<K, A: Showing<K>>(&mut self, showing: &mut A, sink: &mut K) -> Result<(), Failed>
+        ensures forgets { OnOk result (Forgets self.old self.new) }
+        ensures ok { OnOk result (Given A.watching (showing.old, sink.old) (showing.new, sink.new) (calls_told self.old.told.items)) }
+        ensures err { OnErr result (Lost A.watching (showing.old, sink.old) (showing.new, sink.new) (calls_told self.old.told.items)) }
+    {
+        if let Err(fault) = show_calls(showing, sink, self.told.as_slice()) {
+            return Err(fault);
+        }
+        self.told.clear();
+        Ok(())
     }
 }

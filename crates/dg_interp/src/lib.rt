@@ -6,8 +6,10 @@ mod engine;
 mod finding;
 mod interpreter;
 mod laws;
+mod output;
+mod printing;
 mod run;
 
 pub use dg_watch::CallEvent;
-pub use interpreter::interpret;
+pub use interpreter::{interpret, interpret_seen};
 pub use laws::programs_are_runnable;

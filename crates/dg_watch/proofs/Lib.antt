@@ -1,3 +1,5 @@
 pub mod Telling
 pub mod Plain
 pub mod Printed
+pub mod Seen
+pub mod Events

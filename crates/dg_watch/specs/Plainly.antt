@@ -31,7 +31,8 @@ plainly view = record {
   refuses = λ a ts. MayBreak (view a) ts;
   faults = λ a. (view a).faults;
   nothing = λ a. wrote_nothing (calm (view a));
-  on = λ a b c xs ys h k. subst (Wrote (calm (view a)) (calm (view c))) (sym (taken_on xs ys)) (wrote_on (calm (view a)) (calm (view b)) (calm (view c)) (taken xs) (taken ys) h k);
+  on = λ a b c xs ys h k. subst (Wrote (calm (view a)) (calm (view c))) (sym (taken_on xs ys))
+      (wrote_on (calm (view a)) (calm (view b)) (calm (view c)) (taken xs) (taken ys) h k);
   behind = λ a b xs ys h m. record {
     view = m.view;
     broke = subst (BrokeOff (calm (view a)) m.view) (sym (taken_on xs ys)) (broke_later (calm (view a)) (calm (view b)) m.view (taken xs) (taken ys) h m.broke);

@@ -46,3 +46,7 @@ told_closing es line = all_told (Wrote (ending_line es line) ∷ [])
 -- What a whole run is told as up to some events.
 abbrev pub told_events : List Event → List Told
 told_events es = all_told (entries nothing_met es)
+
+-- What events are told as, behind these things.
+abbrev pub told_behind : List Print → List Event → List Told
+told_behind es more = all_told (entries (met_from nothing_met es) more)

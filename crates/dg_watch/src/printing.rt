@@ -38,7 +38,8 @@ pub fn print<K, A: Showing<K>>(
         Given A.watching (printer.old.showing, sink.old) (printer.new.showing, sink.new) (told_growth es (print_of event.entry))) }
     ensures refused { IsErrOf result Unprinted.Refused → (es : List Print) → StandsFor printer.old.spacer es →
         Lost A.watching (printer.old.showing, sink.old) (printer.new.showing, sink.new) (told_growth es (print_of event.entry)) }
-    ensures memory { IsErrOf result Unprinted.OutOfMemory → (printer.new.spacer ≡ printer.old.spacer) × (printer.new.showing ≡ printer.old.showing) × (sink.new ≡ sink.old) }
+    ensures memory { IsErrOf result Unprinted.OutOfMemory →
+        (printer.new.spacer ≡ printer.old.spacer) × (printer.new.showing ≡ printer.old.showing) × (sink.new ≡ sink.old) }
 {
     printer.row.clear();
     let before = printer.spacer;

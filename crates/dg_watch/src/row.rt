@@ -1,8 +1,8 @@
 // The bytes of one piece.
-ghost use Rattle.std.specs.Prelude.{◌≡◌, [], ◌++◌, Some, None};
+ghost use Rattle.std.specs.Prelude.{◌≡◌, [], ◌++◌, Some, None, OnOk};
 
 use dg_base::{Failed, Sink};
-use std::alloc::Global;
+use std::alloc::{AllocError, Global};
 
 /// The bytes of one piece, in memory that grows.
 #[derive(Drop)]
@@ -26,6 +26,17 @@ impl Row {
         ensures { self.new.bytes.items ≡ [] }
     {
         self.bytes.clear();
+    }
+
+    /// Takes a piece in place of its bytes.
+    pub fn fill(&mut self, piece: &[u8]) -> Result<(), AllocError>
+        ensures { OnOk result (self.new.bytes.items ≡ piece.now) }
+    {
+        self.bytes.clear();
+        match self.bytes.extend_from_slice(piece) {
+            Ok(()) => Ok(()),
+            Err(fault) => Err(fault),
+        }
     }
 
     pub fn bytes(&self) -> &[u8]

@@ -1,12 +1,11 @@
--- What an engine, a spacer and a sink come to together. Hold it against the Dialog manual, chapter "Output".
+-- What an engine, a spacer and what a run is shown to come to together. Hold it against the Dialog manual, chapter "Output".
 use Rattle.std.specs.Prelude.{ℕ, suc, ◌+◌, ◌≡◌, ◌<◌, ◌≤◌, ◌⊎◌, ◌++◌, List, [], Option, Some, None, Bool, true, false, Result, Ok, Err, length}
 use Rattle.dg_base.specs.declared.run.Ending.{Ending}
 use Rattle.dg_base.specs.declared.run.Ending.TheVariants.{Failed, InputEnded, StepLimit, HeapLimit, TrailLimit, AuxLimit, KeepLimit}
 use Rattle.dg_base.specs.declared.run.RunFault.{RunFault}
 use Rattle.dg_base.specs.declared.run.RunFault.TheVariants.{Read, Write, OutOfMemory}
-use Rattle.dg_meaning.specs.World.{Game, World, Print, prints}
-use Rattle.dg_meaning.specs.Render.{render}
-use Rattle.dg_meaning.specs.Transcript.{Run, text_of}
+use Rattle.dg_meaning.specs.World.{Game, World, Event, prints}
+use Rattle.dg_meaning.specs.Transcript.{Run}
 use Rattle.dg_meaning.specs.inside.OneRun.{Grows}
 use Rattle.dg_base.specs.Begins.{Begins, EndsWith}
 use Rattle.dg_meaning.specs.Peaks.{Area, Heap, Trail, Aux, Keep, greatest, limit_ending}
@@ -17,19 +16,21 @@ use Rattle.dg_lasting.specs.Lacks.{area_of}
 use Rattle.dg_base.specs.Causes.{Rose}
 use Rattle.dg_base.specs.Streams.{SourceView}
 use Rattle.dg_meaning.specs.Shows.{IsLeft}
-use Rattle.dg_base.specs.Written.{SinkView, Wrote, BrokeOff}
+use Rattle.dg_watch.specs.Told.{told_events}
+use Rattle.dg_watch.specs.Watching.{Watching, Given, Lost}
 use Rattle.dg_spacing.specs.Spacer.{StandsFor}
 use Rattle.dg_meaning.specs.Engines.{left_told}
-use Rattle.dg_interp.specs.inside.Engine.{limit_in, IsReady, StandsAt, SameLimits}
+use Rattle.dg_interp.specs.inside.Engine.{limit_in, IsReady, StandsAt, SameLimits, Forgets}
+use Rattle.dg_interp.specs.inside.Showing.{calls_told}
 
--- Since the start the sink took the text of these things, and the spacer stands for them.
-pub record HasText (s : Spacer) (start now : SinkView) (es : List Print) : Type 0 where
-  pub stands : StandsFor s es
-  pub wrote : Wrote start now (render es)
+-- Since the start what a run is shown to was told these things, and the spacer stands for them.
+pub record HasText {P : Type 0} (v : Watching P) (s : Spacer) (start now : P) (es : List Event) : Type 0 where
+  pub stands : StandsFor s (prints es)
+  pub given : Given v start now (told_events es)
 
--- Whatever these things were added to, their text was written.
-abbrev pub Writes : Spacer → Spacer → SinkView → SinkView → List Print → Type 0
-Writes s s' before now added = (start : SinkView) (es : List Print) → HasText s start before es → HasText s' start now (es ++ added)
+-- Whatever these things were added to, they were told.
+abbrev pub Writes : {P : Type 0} → Watching P → Spacer → Spacer → P → P → List Event → Type 0
+Writes {P = P} v s s' before now added = (start : P) (es : List Event) → HasText v s start before es → HasText v s' start now (es ++ added)
 
 -- These bytes are left: nothing where the end was met, and else what the source has left.
 abbrev pub LeftBehind : Bool → SourceView → List ℕ → Type 0
@@ -47,68 +48,70 @@ pub record Awaits (now : SourceView) (ended : Bool) (taken : List ℕ) (w : Worl
   pub left : LeftBehind ended now rest
   pub typed : w.typed ≡ taken ++ rest
 
--- A stretch of the run printed these things and took these typed bytes, and then this holds.
-pub record Stretch (added : List Print) (taken : List ℕ) (w : World) (P : World → Type 0) : Type 0 where
+-- In a stretch of the run these things happened, and it took these typed bytes, and then this holds.
+pub record Stretch (added : List Event) (taken : List ℕ) (w : World) (P : World → Type 0) : Type 0 where
   pub world : World
-  pub prints_are : prints world.events ≡ prints w.events ++ added
+  pub events_are : world.events ≡ w.events ++ added
   pub typed : w.typed ≡ taken ++ world.typed
   pub holds : P world
 
 -- Whatever run comes from where the engine is, with as much of its budget left, all that it printed so far written,
 -- and the typed bytes that the source gives up to its end, this holds of it.
-pub record Reaches (e : Engine) (s : Spacer) (before : SinkView) (from to : SourceView) (P : World → Run → SinkView → Type 0) : Type 0 where
+pub record Reaches {P : Type 0} (v : Watching P) (e : Engine) (s : Spacer) (before : P) (from to : SourceView) (Q : World → Run → P → Type 0) : Type 0 where
   pub taken : List ℕ
   pub ended : Bool
   pub gave : Gave from to ended taken
-  pub reaches : (g : Game) (w : World) (run : Run) (start : SinkView) → Awaits to ended taken w → StandsAt e g e.left w run →
-      HasText s start before (prints w.events) → P w run start
+  pub reaches : (g : Game) (w : World) (run : Run) (start : P) → Awaits to ended taken w → StandsAt e g e.left w run →
+      HasText v s start before w.events → Q w run start
 
 -- A goal was taken and done, and each run goes on from where the engine is; what was added to it was written.
-pub record GoalDone (old new : Engine) (s s' : Spacer) (before now : SinkView) (from to : SourceView) : Type 0 where
+pub record GoalDone {P : Type 0} (v : Watching P) (old new : Engine) (s s' : Spacer) (before now : P) (from to : SourceView) : Type 0 where
   pub ready : IsReady new
   pub limits : SameLimits old new
   pub left : old.left ≡ suc new.left
-  pub added : List Print
+  pub added : List Event
   pub taken : List ℕ
   pub gave : Gave from to false taken
   pub leads : (g : Game) (n : ℕ) (w : World) (run : Run) → Awaits to false taken w → StandsAt old g (suc n) w run →
       Stretch added taken w (λ v. StandsAt new g n v run)
-  pub writes : Writes s s' before now added
+  pub writes : Writes v s s' before now added
+  pub silent : new.told.items ≡ []
 
 -- Some goals were taken, and each run goes on from where the engine is; what was added to it was written.
-pub record GoesOn (old new : Engine) (s s' : Spacer) (before now : SinkView) (from to : SourceView) : Type 0 where
+pub record GoesOn {P : Type 0} (v : Watching P) (old new : Engine) (s s' : Spacer) (before now : P) (from to : SourceView) : Type 0 where
   pub ready : IsReady new
   pub goal : 0 < length new.here.goals.now
   pub limits : SameLimits old new
   pub goals : ℕ
   pub left : old.left ≡ goals + new.left
-  pub added : List Print
+  pub added : List Event
   pub taken : List ℕ
   pub gave : Gave from to false taken
   pub leads : (g : Game) (n : ℕ) (w : World) (run : Run) → Awaits to false taken w → StandsAt old g (goals + n) w run →
       Stretch added taken w (λ v. StandsAt new g n v run)
-  pub writes : Writes s s' before now added
+  pub writes : Writes v s s' before now added
+  pub silent : new.told.items ≡ []
 
 -- The run has ended so, with this much of its budget left, all that it printed was written, and what the source tells is
 -- what the run has left.
-pub record HasEnded (ending : Ending) (left : ℕ) (s : Spacer) (now : SinkView) (told : Option (List ℕ)) (w : World) (run : Run)
-    (start : SinkView) : Type 0 where
+pub record HasEnded {P : Type 0} (v : Watching P) (ending : Ending) (left : ℕ) (s : Spacer) (now : P) (told : Option (List ℕ)) (w : World) (run : Run)
+    (start : P) : Type 0 where
   pub world : World
   pub typed : IsLeft told world.typed
   pub is : run ≡ record { left = left; world = world; ending = ending }
-  pub text : HasText s start now (prints world.events)
+  pub text : HasText v s start now world.events
 
 -- A run has printed no more than a world and these things, and has left what is left here, or more.
-pub record IsNoFurther (added : List Print) (rest : List ℕ) (w : World) (run : Run) : Type 0 where
-  pub prints : Begins (prints run.world.events) (prints w.events ++ added)
+pub record IsNoFurther (added : List Event) (rest : List ℕ) (w : World) (run : Run) : Type 0 where
+  pub events : Begins run.world.events (w.events ++ added)
   pub typed : EndsWith run.world.typed rest
 
 -- A limit was met behind some goals, with this much of the budget left: the run with a budget of these goals passes it and comes
 -- later than what was written and taken, and the run with a budget of one less is no further.
-pub record MeetsLimit (area : Area) (left : ℕ) (old : Engine) (s s' : Spacer) (before now : SinkView) (from to : SourceView) : Type 0 where
+pub record MeetsLimit {P : Type 0} (v : Watching P) (area : Area) (left : ℕ) (old : Engine) (s s' : Spacer) (before now : P) (from to : SourceView) : Type 0 where
   pub goals : ℕ
   pub left_is : old.left ≡ suc goals + left
-  pub added : List Print
+  pub added : List Event
   pub taken : List ℕ
   pub gave : Gave from to false taken
   pub passed : (g : Game) (w : World) (run : Run) → Awaits to false taken w → StandsAt old g (suc goals) w run →
@@ -117,23 +120,25 @@ pub record MeetsLimit (area : Area) (left : ℕ) (old : Engine) (s s' : Spacer) 
       Stretch added taken w (λ v. Grows v run.world)
   pub since : (g : Game) (w : World) (run : Run) (awaits : Awaits to false taken w) → StandsAt old g goals w run →
       IsNoFurther added awaits.rest w run
-  pub writes : Writes s s' before now added
+  pub writes : Writes v s s' before now added
 
 -- How a run has ended: at a limit, or as its search ends.
-abbrev pub Ended : Ending → ℕ → Engine → Spacer → Spacer → SinkView → SinkView → SourceView → SourceView → Type 0
-Ended HeapLimit left old s s' before now from to = MeetsLimit Heap left old s s' before now from to
-Ended TrailLimit left old s s' before now from to = MeetsLimit Trail left old s s' before now from to
-Ended AuxLimit left old s s' before now from to = MeetsLimit Aux left old s s' before now from to
-Ended KeepLimit left old s s' before now from to = MeetsLimit Keep left old s s' before now from to
-Ended ending left old s s' before now from to = Reaches old s before from to (HasEnded ending left s' now (left_told from to))
+abbrev pub Ended : {P : Type 0} → Watching P → Ending → ℕ → Engine → Spacer → Spacer → P → P → SourceView → SourceView → Type 0
+Ended v HeapLimit left old s s' before now from to = MeetsLimit v Heap left old s s' before now from to
+Ended v TrailLimit left old s s' before now from to = MeetsLimit v Trail left old s s' before now from to
+Ended v AuxLimit left old s s' before now from to = MeetsLimit v Aux left old s s' before now from to
+Ended v KeepLimit left old s s' before now from to = MeetsLimit v Keep left old s s' before now from to
+Ended v ending left old s s' before now from to = Reaches v old s before from to (HasEnded v ending left s' now (left_told from to))
 
--- Some moment of the run comes later than a world; what was printed up to it was written, and what the source tells is what it has left.
-pub record HasPart (s : Spacer) (now : SinkView) (told : Option (List ℕ)) (w : World) (run : Run) (start : SinkView) : Type 0 where
-  pub moment : World
-  pub taken : EndsWith w.typed moment.typed
-  pub until : Grows moment run.world
-  pub text : HasText s start now (prints moment.events)
-  pub left : IsLeft told moment.typed
+-- A part of what happens in the run, later than a world, was told; and what the source tells is left between the two.
+pub record HasPart {P : Type 0} (v : Watching P) (s : Spacer) (now : P) (told : Option (List ℕ)) (w : World) (run : Run) (start : P) : Type 0 where
+  pub part : List Event
+  pub until : Begins part run.world.events
+  pub text : HasText v s start now part
+  pub rest : List ℕ
+  pub left : IsLeft told rest
+  pub taken : EndsWith w.typed rest
+  pub typed : EndsWith rest run.world.typed
 
 -- A run ended at its budget, with this world.
 pub record IsLimited (w : World) (run : Run) : Type 0 where
@@ -148,10 +153,10 @@ TakesMore taken more w run = (run.ending ≡ InputEnded) ⊎
 
 -- The input failed at the goal behind some others. What these printed was written; that goal finds the input at its end, or takes more than they
 -- did, and all that the source gave.
-pub record LosesInput (old : Engine) (s s' : Spacer) (before now : SinkView) (from to : SourceView) : Type 0 where
+pub record LosesInput {P : Type 0} (v : Watching P) (old : Engine) (s s' : Spacer) (before now : P) (from to : SourceView) : Type 0 where
   pub goals : ℕ
   pub below : goals < old.left
-  pub added : List Print
+  pub added : List Event
   pub taken : List ℕ
   pub more : List ℕ
   pub gave : Gave from to false (taken ++ more)
@@ -160,37 +165,37 @@ pub record LosesInput (old : Engine) (s s' : Spacer) (before now : SinkView) (fr
       Stretch added taken w (λ v. IsLimited v run)
   pub reads : (g : Game) (w : World) (run : Run) → Awaits to false (taken ++ more) w → StandsAt old g (suc goals) w run →
       TakesMore (length taken) (length more) w run
-  pub writes : Writes s s' before now added
+  pub writes : Writes v s s' before now added
 
 -- The output failed at the goal behind some others, within what is printed up to that goal: it leaves no more than what is left here, and the others
 -- no less.
-pub record LosesOutput (old : Engine) (s : Spacer) (before now : SinkView) (from to : SourceView) : Type 0 where
+pub record LosesOutput {P : Type 0} (v : Watching P) (old : Engine) (s : Spacer) (before now : P) (from to : SourceView) : Type 0 where
   pub goals : ℕ
   pub below : goals < old.left
   pub taken : List ℕ
   pub gave : Gave from to false taken
-  pub breaks : (g : Game) (w : World) (run : Run) (start : SinkView) → Awaits to false taken w → StandsAt old g (suc goals) w run →
-      HasText s start before (prints w.events) → BrokeOff start now (text_of run.world.events)
+  pub breaks : (g : Game) (w : World) (run : Run) (start : P) → Awaits to false taken w → StandsAt old g (suc goals) w run →
+      HasText v s start before w.events → Lost v start now (told_events run.world.events)
   pub until : (g : Game) (w : World) (run : Run) (awaits : Awaits to false taken w) → StandsAt old g (suc goals) w run →
       EndsWith awaits.rest run.world.typed
   pub since : (g : Game) (w : World) (run : Run) (awaits : Awaits to false taken w) → StandsAt old g goals w run →
       EndsWith run.world.typed awaits.rest
 
--- The run was broken off: the input failed, or the sink within the run's text, or memory ran out.
-abbrev pub Broken : RunFault → Engine → Spacer → Spacer → SinkView → SinkView → SourceView → SourceView → Type 0
-Broken Read old s s' before now from to = LosesInput old s s' before now from to
-Broken Write old s s' before now from to = LosesOutput old s before now from to
-Broken OutOfMemory old s s' before now from to = Reaches old s before from to (HasPart s' now to.left)
+-- The run was broken off: the input failed, or what it was shown to within the run, or memory ran out.
+abbrev pub Broken : {P : Type 0} → Watching P → RunFault → Engine → Spacer → Spacer → P → P → SourceView → SourceView → Type 0
+Broken v Read old s s' before now from to = LosesInput v old s s' before now from to
+Broken v Write old s s' before now from to = LosesOutput v old s before now from to
+Broken v OutOfMemory old s s' before now from to = Reaches v old s before from to (HasPart v s' now to.left)
 
 -- The goal at hand was done, or the run has ended so.
-abbrev pub DoesGoal : Option Ending → Engine → Engine → Spacer → Spacer → SinkView → SinkView → SourceView → SourceView → Type 0
-DoesGoal None old new s s' before now from to = GoalDone old new s s' before now from to
-DoesGoal (Some ending) old new s s' before now from to = Ended ending new.left old s s' before now from to
+abbrev pub DoesGoal : {P : Type 0} → Watching P → Option Ending → Engine → Engine → Spacer → Spacer → P → P → SourceView → SourceView → Type 0
+DoesGoal v None old new s s' before now from to = GoalDone v old new s s' before now from to
+DoesGoal v (Some ending) old new s s' before now from to = Ended v ending new.left old s s' before now from to
 
 -- The next goal is at hand, or the run has ended so.
-abbrev pub Does : Option Ending → Engine → Engine → Spacer → Spacer → SinkView → SinkView → SourceView → SourceView → Type 0
-Does None old new s s' before now from to = GoesOn old new s s' before now from to × (old.left ≡ suc new.left)
-Does (Some ending) old new s s' before now from to = Ended ending new.left old s s' before now from to
+abbrev pub Does : {P : Type 0} → Watching P → Option Ending → Engine → Engine → Spacer → Spacer → P → P → SourceView → SourceView → Type 0
+Does v None old new s s' before now from to = GoesOn v old new s s' before now from to × (old.left ≡ suc new.left)
+Does v (Some ending) old new s s' before now from to = Ended v ending new.left old s s' before now from to
 
 -- The ending of a run that met the limit of an area; want of memory is a fault.
 abbrev pub ending_at : Option Area → Result Ending RunFault
@@ -205,8 +210,26 @@ abbrev pub over : Result Ending RunFault → Result (Option Ending) RunFault
 over (Ok ending) = Ok (Some ending)
 over (Err fault) = Err fault
 
+-- The calls that were told were shown, and are forgotten; the run goes on, or has ended, as it did before.
+pub record AllTold {P : Type 0} (v : Watching P) (ending result : Option Ending) (old new : Engine) (before now : P) : Type 0 where
+  pub is : result ≡ ending
+  pub forgets : Forgets old new
+  pub given : Given v before now (calls_told old.told.items)
+
+-- What comes of showing the calls that were told.
+abbrev pub TellsSo : {P : Type 0} → Watching P → Option Ending → Engine → Engine → P → P → Result (Option Ending) RunFault → Type 0
+TellsSo v ending old new before now (Ok result) = AllTold v ending result old new before now
+TellsSo v ending old new before now (Err Write) = Lost v before now (calls_told old.told.items)
+TellsSo v ending old new before now (Err other) = ⊥
+
+-- Something was lacking: nothing was shown.
+pub record LacksSo {P : Type 0} (lack : Lack) (old new : Engine) (before now : P) (result : Result (Option Ending) RunFault) : Type 0 where
+  pub is : result ≡ over (limit_of lack)
+  pub engine : new ≡ old
+  pub shown : now ≡ before
+
 -- What a goal comes to whose branch has begun, or which has failed, or lacked something.
-abbrev pub outcome_of : Result Bool Lack → Result (Option Ending) RunFault
-outcome_of (Ok true) = Ok None
-outcome_of (Ok false) = Ok (Some Failed)
-outcome_of (Err lack) = over (limit_of lack)
+abbrev pub ComesTo : {P : Type 0} → Watching P → Result Bool Lack → Engine → Engine → P → P → Result (Option Ending) RunFault → Type 0
+ComesTo v (Ok true) old new before now result = TellsSo v None old new before now result
+ComesTo v (Ok false) old new before now result = TellsSo v (Some Failed) old new before now result
+ComesTo v (Err lack) old new before now result = LacksSo lack old new before now result

@@ -1,0 +1,23 @@
+use Rattle.std.proofs.Common.{ℕ, List}
+use Rattle.dg_base.specs.declared.run.Outcome.{Outcome}
+use Rattle.dg_base.specs.declared.run.RunFault.{RunFault}
+use Rattle.dg_meaning.specs.Engines.{game, left_told}
+use Rattle.dg_meaning.specs.inside.Engines.{ForTyped}
+use Rattle.dg_meaning.proofs.Engines.{as_told, for_typed}
+use Rattle.dg_watch.specs.Seen.{HasSeen, HasSeenFault}
+use Rattle.dg_interp.proofs.Whole.{if_ok_map, if_err_map}
+use Rattle.dg_interp.proofs.interpreter.interpret_seen.Goals as goal
+
+pub returns-in-Err-clause-shows : goal.returns-in-Err-clause-shows
+returns-in-Err-clause-shows g c =
+    let i = g.S.Source.view c.args.source.now in
+    let told = i.left in
+    let P : Outcome → List ℕ → Type 0 = λ outcome typed. HasSeen g.A.Showing.watching (game c.args.program.now c.args.dice.now) typed c.args.limits.now outcome (left_told i i) (c.args.showing.now, c.args.sink.now) (c.show_lack.new.showing, c.show_lack.new.sink) in
+    if_ok_map c.show_lack.result _ (λ outcome. ForTyped told (P outcome)) (λ outcome h. for_typed told (P outcome) (λ typed is. h typed (left_told i i) (as_told i i typed is))) c.show_lack.ensures.shows
+
+pub returns-in-Err-clause-err : goal.returns-in-Err-clause-err
+returns-in-Err-clause-err g c =
+    let i = g.S.Source.view c.args.source.now in
+    let told = i.left in
+    let P : RunFault → List ℕ → Type 0 = λ fault typed. HasSeenFault g.A.Showing.watching fault (game c.args.program.now c.args.dice.now) typed c.args.limits.now i i (c.args.showing.now, c.args.sink.now) (c.show_lack.new.showing, c.show_lack.new.sink) in
+    if_err_map c.show_lack.result _ (λ fault. ForTyped told (P fault)) (λ fault h. for_typed told (P fault) (λ typed is. h typed i is)) c.show_lack.ensures.err
