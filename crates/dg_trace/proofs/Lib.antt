@@ -1,0 +1,4 @@
+pub mod Writing
+pub mod Naming
+pub mod Entries
+pub mod Erasures
