@@ -72,7 +72,7 @@ fn all(count: usize, alloc: Global) -> Result<Vec<bool>, AllocError>
 }
 
 /// For each predicate of a program, in order, whether it is single: by the forms of its rules it has at most one answer.
-pub fn singles(program: &CoreProgram, alloc: Global) -> Result<Vec<bool>, AllocError>
+pub fn singles(alloc: Global, program: &CoreProgram) -> Result<Vec<bool>, AllocError>
     ensures { IfOk result (λ set. AreSingles program.now.preds set.items) }
 {
     let preds = program.preds.as_slice();

@@ -1,7 +1,7 @@
 //! The program `dialog`: the commands over the words, files and streams of the system.
 #![tactic(auto)]
 
-use dialog_tool::{FileShelf, StdinSource, StdoutSink, dice_of, tool};
+use dialog_tool::{FileShelf, StdinSource, StdoutSink, dice_of, no_memory, tool};
 use std::io::ErrorKind;
 use std::process::ExitCode;
 use std::time::{SystemTime, UNIX_EPOCH};
@@ -43,6 +43,6 @@ fn run(rt: &HostRuntime) -> io::Result<u8> {
 fn main(rt: HostRuntime) -> ExitCode {
     match run(&rt) {
         Ok(status) => ExitCode::from(status),
-        Err(_) => ExitCode::from(6),
+        Err(_) => ExitCode::from(no_memory(&mut StdoutSink::new(io::writer(&rt)))),
     }
 }

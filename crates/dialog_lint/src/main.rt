@@ -2,7 +2,7 @@
 #![tactic(auto)]
 
 use dg_lint::lint_words;
-use dialog_tool::{FileShelf, StdoutSink};
+use dialog_tool::{FileShelf, StdoutSink, no_memory};
 use std::io::ErrorKind;
 use std::process::ExitCode;
 use std::{env, io};
@@ -31,6 +31,6 @@ fn run(rt: &HostRuntime) -> io::Result<u8> {
 fn main(rt: HostRuntime) -> ExitCode {
     match run(&rt) {
         Ok(status) => ExitCode::from(status),
-        Err(_) => ExitCode::from(6),
+        Err(_) => ExitCode::from(no_memory(&mut StdoutSink::new(io::writer(&rt)))),
     }
 }

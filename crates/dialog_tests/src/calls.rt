@@ -7,7 +7,7 @@ use std::process::Abort;
 use std::test::Fail;
 
 pub const USAGE: &str =
-    "usage: dialog debug FILE, build FILE OUT, play STORY, run FILE, singles FILE, make N\n";
+    "usage: dialog debug FILE, build FILE OUT, play STORY, run FILE, singles FILE, make N, list FILE, join LISTING OUT, trace FILE\n";
 
 // The status of a source that has no story.
 const NOT_BUILT: u8 = 7;

@@ -52,10 +52,10 @@ fn a_failing_output_ends_a_story(rt: HostRuntime) -> Result<(), Fail> {
 
 const SOURCE: &[u8] = b"(a) x (b)\n(a) y\n(b) (c)\n(program entry point) (a) z\n";
 
-// A shelf with one source, whose second call fails.
-fn failing_shelf(alloc: Global) -> Result<MapShelf, Fail> {
+// A shelf with one file, whose second call fails.
+fn failing_shelf(alloc: Global, file: &[u8]) -> Result<MapShelf, Fail> {
     let mut shelf = MapShelf::new(alloc, vec![in alloc; 1]?);
-    shelf.add("p.dg", SOURCE)?;
+    shelf.add("p.dg", file)?;
     Ok(shelf)
 }
 
@@ -76,7 +76,7 @@ const OUTPUTS: &[(usize, &str)] = &[(99, "p.dg: file fault\n"), (3, "x y")];
 #[test]
 fn failing_objects_are_named(rt: HostRuntime) -> Result<(), Fail> {
     let alloc = rt.alloc();
-    let mut shelf = failing_shelf(alloc)?;
+    let mut shelf = failing_shelf(alloc, SOURCE)?;
     fails_at_output(&rt, alloc, &mut shelf)?;
     for (room, text) in OUTPUTS {
         let (line, wanted) = ("debug p.dg", (5, *text));
@@ -86,13 +86,22 @@ fn failing_objects_are_named(rt: HostRuntime) -> Result<(), Fail> {
     Ok(())
 }
 
+// Calls that store a story, and their file.
+const STORES: &[(&str, &[u8])] = &[
+    ("build p.dg s.z8", SOURCE),
+    ("join p.dg s.z8", b"story 1\ndata 0 00\n"),
+];
+
 #[test]
 fn a_story_that_is_not_stored_is_named(rt: HostRuntime) -> Result<(), Fail> {
     let alloc = rt.alloc();
-    let mut shelf = failing_shelf(alloc)?;
-    let mut input = SureSource::new(Vec::new(alloc));
-    let (line, wanted) = ("build p.dg s.z8", (5, "s.z8: file fault\n"));
-    answers(&rt, alloc, line, &mut shelf, &mut input, 99, wanted)
+    for (line, file) in STORES {
+        let mut shelf = failing_shelf(alloc, file)?;
+        let mut input = SureSource::new(Vec::new(alloc));
+        let wanted = (5, "s.z8: file fault\n");
+        answers(&rt, alloc, line, &mut shelf, &mut input, 99, wanted)?;
+    }
+    Ok(())
 }
 
 // Calls that fail at the output, and what is written where a source isn't there.

@@ -42,6 +42,8 @@ mod strings;
 #[cfg(test)]
 mod tokens;
 #[cfg(test)]
+mod tracing;
+#[cfg(test)]
 mod transcripts;
 #[cfg(test)]
 mod typing;

@@ -1,6 +1,12 @@
-// Listings that are read back, and the first bad lines of others.
+// Listings that are read back, and the first bad lines of others; the listing of a source's story, joined, and played with a rule left out.
+use crate::calls::{answers, case_of, story_of, words};
 use crate::checks::same;
+use crate::typing::GAME;
+use dg_base::{SureShelf, SureSink, SureSource};
+use dg_compile::compile;
+use dialog_tool::tool;
 use std::alloc::Global;
+use std::process::Abort;
 use std::test::Fail;
 use z_list::{ListFault, listing, read_listing};
 
@@ -62,6 +68,110 @@ fn bad_line(alloc: Global, text: &str) -> u32 {
 fn the_first_bad_line_is_named(rt: HostRuntime) -> Result<(), Fail> {
     for (text, line) in BAD {
         same(&rt, &bad_line(rt.alloc(), text), line, text);
+    }
+    Ok(())
+}
+
+const SOURCE: &str = "(a) x (b)\n(a) y\n(b) (c)\n(program entry point) (a) z\n";
+
+// What `list` prints of a source.
+fn listed(rt: &impl Abort, alloc: Global, source: &str) -> Result<Vec<u8>, Fail> {
+    let words = words(alloc, "list p.dg")?;
+    let mut input = SureSource::new(Vec::new(alloc));
+    let mut shelf = SureShelf::new(alloc);
+    shelf.add("p.dg", source.as_bytes())?;
+    let mut out = SureSink::new(alloc, 4_000_000)?;
+    let status = tool(alloc, &words, &mut shelf, &mut input, &mut out, &[0]);
+    same(rt, &status, &0, "list");
+    Ok(Vec::from_slice(alloc, out.taken())?)
+}
+
+#[test]
+fn the_listing_of_a_source_is_joined_to_its_story(rt: HostRuntime) -> Result<(), Fail> {
+    let alloc = rt.alloc();
+    let game = GAME.trim_start().strip_prefix(">>> ").unwrap_or("");
+    let source = case_of(game).expect(&rt, GAME).source;
+    let text = listed(&rt, alloc, source)?;
+    let mut input = SureSource::new(Vec::new(alloc));
+    let mut shelf = SureShelf::new(alloc);
+    shelf.add("l.txt", &text)?;
+    let line = "join l.txt s.z8";
+    answers(&rt, alloc, line, &mut shelf, &mut input, 99, (0, ""))?;
+    let story = story_of(&rt, alloc, source)?;
+    same(
+        &rt,
+        &shelf.contents("s.z8"),
+        &Some(story.as_slice()),
+        "s.z8",
+    );
+    Ok(())
+}
+
+// The places of marks in a listing.
+fn places_of(alloc: Global, text: &[u8]) -> Result<Vec<usize>, Fail> {
+    let mut places = Vec::new(alloc);
+    for line in text.split(|byte| *byte == b'\n') {
+        if let [b'r', b'u', b'l', b'e', b' ', digits @ ..] = line {
+            places.push(number_of(digits))?;
+        }
+    }
+    Ok(places)
+}
+
+// The number with which a text begins.
+fn number_of(text: &[u8]) -> usize {
+    let mut number = 0_usize;
+    for digit in text.iter().take_while(|byte| byte.is_ascii_digit()) {
+        number = number
+            .wrapping_mul(10)
+            .wrapping_add((*digit - b'0') as usize);
+    }
+    number
+}
+
+#[test]
+fn each_rule_has_a_mark(rt: HostRuntime) -> Result<(), Fail> {
+    let alloc = rt.alloc();
+    let program = compile(alloc, SOURCE.as_bytes())?;
+    let mut rules = 0_usize;
+    for pred in program.preds.as_slice() {
+        rules = rules.wrapping_add(pred.rules.len());
+    }
+    let places = places_of(alloc, &listed(&rt, alloc, SOURCE)?)?;
+    same(&rt, &places.len(), &rules, "marks");
+    Ok(())
+}
+
+// What a story may print whose routine of a rule quits at once: of the rules of the source in order, and of each one behind them.
+const WITHOUT: &[&[&str]] = &[&[""], &["", "x"], &["", "x"], &[""]];
+
+const ALL: &[&str] = &["x y z\n"];
+
+// Plays a story.
+fn printed(rt: &impl Abort, alloc: Global, story: &[u8]) -> Result<Vec<u8>, Fail> {
+    let words = words(alloc, "play s.z8")?;
+    let mut input = SureSource::new(Vec::new(alloc));
+    let mut shelf = SureShelf::new(alloc);
+    shelf.add("s.z8", story)?;
+    let mut out = SureSink::new(alloc, 99)?;
+    let status = tool(alloc, &words, &mut shelf, &mut input, &mut out, &[0]);
+    same(rt, &status, &0, "play");
+    Ok(Vec::from_slice(alloc, out.taken())?)
+}
+
+#[test]
+fn a_mark_is_where_the_routine_of_its_rule_stands(rt: HostRuntime) -> Result<(), Fail> {
+    let alloc = rt.alloc();
+    let places = places_of(alloc, &listed(&rt, alloc, SOURCE)?)?;
+    for (number, place) in places.iter().enumerate() {
+        let mut story = story_of(&rt, alloc, SOURCE)?;
+        if let Some(first) = story.get_mut(place.wrapping_add(1)) {
+            *first = 0xBA;
+        }
+        let text = printed(&rt, alloc, &story)?;
+        let wanted = WITHOUT.get(number).unwrap_or(&ALL);
+        let found = wanted.iter().any(|one| one.as_bytes() == text.as_slice());
+        same(&rt, &found, &true, "what is printed without a rule");
     }
     Ok(())
 }

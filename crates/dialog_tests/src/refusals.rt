@@ -112,6 +112,25 @@ p.dg:1: no rule for (program entry point)
 (program entry point) (a) z
 === 4
 p.dg: story too short
+>>> list p.dg
+(a
+=== 1
+p.dg:1: unclosed construct
+>>> join p.dg p.z8
+story 1
+data 0 0g
+
+=== 4
+p.dg:2: not a listing
+>>> join p.dg p.z8
+story 1
+data 0 00
+=== 4
+p.dg:2: not a listing
+>>> join p.dg p.z8
+(program entry point) x
+=== 4
+p.dg:1: not a listing
 "#;
 
 #[test]
@@ -134,6 +153,11 @@ const NO_COMMANDS: &[&str] = &[
     "build p.dg",
     "build p.dg --p.z8",
     "build p.dg p.z8 --steps 5",
+    "list p.dg --steps 5",
+    "list p.dg p.txt",
+    "join p.dg",
+    "join p.dg --p.z8",
+    "join p.dg p.z8 --steps 5",
     "run p.dg --heap 5",
     "play p.dg --heap 1",
 ];

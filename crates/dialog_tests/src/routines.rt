@@ -29,9 +29,9 @@ fn routine_of(alloc: Global, body: &[Act]) -> Result<Routine, AllocError>
 
 // The heap and the trail, and no words, in front of the routines: one to begin with, those of the run-time, and one to go on with.
 fn parts_of(alloc: Global, main: &[Act], next: &[Act]) -> Result<Parts, AllocError>
-    requires main { AreFit (record { routines = 137; tables = 2; texts = 0 }) (ops_of_acts main.now) main.now }
+    requires main { AreFit (record { routines = 138; tables = 2; texts = 0 }) (ops_of_acts main.now) main.now }
     requires main_short { body_bytes main.now < 8000 }
-    requires next { AreFit (record { routines = 137; tables = 2; texts = 0 }) (ops_of_acts next.now) next.now }
+    requires next { AreFit (record { routines = 138; tables = 2; texts = 0 }) (ops_of_acts next.now) next.now }
     requires next_short { body_bytes next.now < 8000 }
     ensures { IfOk result (λ parts. AreParts parts) }
 {
@@ -67,9 +67,9 @@ fn printed(
     next: &[Act],
     text: &str,
 ) -> Result<(), Fail>
-    requires main { AreFit (record { routines = 137; tables = 2; texts = 0 }) (ops_of_acts main.now) main.now }
+    requires main { AreFit (record { routines = 138; tables = 2; texts = 0 }) (ops_of_acts main.now) main.now }
     requires main_short { body_bytes main.now < 8000 }
-    requires next { AreFit (record { routines = 137; tables = 2; texts = 0 }) (ops_of_acts next.now) next.now }
+    requires next { AreFit (record { routines = 138; tables = 2; texts = 0 }) (ops_of_acts next.now) next.now }
     requires next_short { body_bytes next.now < 8000 }
 {
     let parts = parts_of(alloc, main, next)?;
@@ -106,7 +106,7 @@ macro_rules! unify {
 }
 
 // The routine behind those of the run-time.
-const NEXT: u16 = 136;
+const NEXT: u16 = 137;
 
 const A: u16 = 16_384;
 

@@ -3,7 +3,7 @@
 use crate::calls::{play_all, run_all};
 use std::test::Fail;
 
-const SOURCES: &str = r#"
+pub const SOURCES: &str = r#"
 >>> debug p.dg
 (program entry point) (stoppable) { a (stop) b } (line) (exhaust) { { c (or) d } } (1 < 2) e
 === 0

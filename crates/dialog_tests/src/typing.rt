@@ -2,7 +2,7 @@
 use crate::calls::{gives, play_all, run_all};
 use std::test::Fail;
 
-const TYPED: &str = r#"
+pub const TYPED: &str = r#"
 >>> debug p.dg
 (program entry point) (get input $W) $W
 <<<

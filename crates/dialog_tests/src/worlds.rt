@@ -2,7 +2,7 @@
 use crate::calls::{play_all, run_all};
 use std::test::Fail;
 
-const WORLDS: &str = r#"
+pub const WORLDS: &str = r#"
 >>> debug p.dg
 (global variable (score 0))
 (program entry point) { (now) (score 5) (fail) (or) (score $S) $S }

@@ -15,7 +15,7 @@ use Rattle.dg_machine.specs.Program.{IsUntouched}
 use Rattle.z_model.specs.Story.{story_refusal}
 use Rattle.z_model.specs.declared.story.StoryRefusal.{StoryRefusal}
 use Rattle.z_model.specs.declared.story.StoryRefusal.TheVariants.{BadLength}
-use Rattle.dialog_tool.specs.Command.{Command, debug, play, run, build, singles, make, Task}
+use Rattle.dialog_tool.specs.Command.{Command, debug, play, run, build, singles, make, list, join, trace, Task}
 use Rattle.dialog_tool.specs.layer.Statuses.{source_named}
 use Rattle.dialog_tool.specs.Call.{Call, Outside, Finds, IsAsTold}
 use Rattle.dialog_tool.specs.inside.Calls.{IsFetched}
@@ -117,6 +117,9 @@ reading c o result (Some (run t)) name e r = subst (λ (n : List ℕ). Reads c o
 reading c o result (Some (build n to)) name e r = subst (λ (m : List ℕ). Reads c o m (λ p. Promise.HasNone c n p result) result) (let same : name ≡ n = cc in same) (r (λ p. Promise.HasNone c n p result))
 reading c o result (Some (singles n)) name e r = subst (λ (m : List ℕ). Reads c o m (λ p. Promise.Lists c p result) result) (let same : name ≡ n = cc in same) (r (λ p. Promise.Lists c p result))
 reading c o result (Some (make n)) name e r = cc
+reading c o result (Some (list n)) name e r = subst (λ (m : List ℕ). Reads c o m (λ p. Promise.ListsAny c n p result) result) (let same : name ≡ n = cc in same) (r (λ p. Promise.ListsAny c n p result))
+reading c o result (Some (join n to)) name e r = cc
+reading c o result (Some (trace t)) name e r = subst (λ (n : List ℕ). Reads c o n (λ p. Promise.TracesProgram c o t p result) result) (let same : name ≡ t.name = cc in same) (r (λ p. Promise.TracesProgram c o t p result))
 
 -- the shelf failed at the source
 pub source_lost : (c : Call) (name : List ℕ) (result : ℕ) → source_named c.command ≡ Some name → Keeps c → Rose c.shelf.faults c.shelf_after.faults
@@ -215,7 +218,7 @@ story_refused c t file result r words f is same says =
     let o = outside_of c t.name file h in
     answers c o result (found_file c t.name file h) (by_words c o result (Some (play t)) words h.kept (no_story r (subst (λ (l : List ℕ). story_refusal l ≡ Some r) h.is is) (prints c 4 (story_line t.name r) result same says)))
 
-long_story : (file : List ℕ) → 524288 < length file → story_refusal file ≡ Some BadLength
+pub long_story : (file : List ℕ) → 524288 < length file → story_refusal file ≡ Some BadLength
 unfolding story_refusal
 long_story file more = let test : nat_lt 524288 (length file) ≡ true = grind (arith, nat_tests) in rw test refl
 

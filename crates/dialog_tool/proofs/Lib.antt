@@ -7,6 +7,8 @@ pub mod SeedLemmas
 pub mod OptionLemmas
 pub mod AnswerLemmas
 pub mod BuildLemmas
+pub mod ListLemmas
 pub mod DecideLemmas
 pub mod PlayLemmas
 pub mod RunLemmas
+pub mod TraceLemmas

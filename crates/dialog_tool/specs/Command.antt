@@ -20,7 +20,8 @@ pub record Task : Type 0 where
   pub dice : Option (List ℕ)
 
 -- what is to be done: a source is run, a story is played, a source is built and its story played, the story of a source is stored under another
--- name, the predicates of a source are listed, or a source is made of a number and run
+-- name, the predicates of a source are listed, a source is made of a number and run, the story of a source is listed, that of a listing is stored under
+-- another name, or a source is run and its calls are listed
 pub data Command : Type 0 where
   debug : Task → Command
   play : Task → Command
@@ -28,6 +29,9 @@ pub data Command : Type 0 where
   build : List ℕ → List ℕ → Command
   singles : List ℕ → Command
   make : ℕ → Command
+  list : List ℕ → Command
+  join : List ℕ → List ℕ → Command
+  trace : Task → Command
 
 -- a file name isn't empty and doesn't begin with two dashes
 abbrev pub is_file_name : List ℕ → Bool
@@ -128,6 +132,10 @@ task_of usual name values =
 abbrev pub debug_with : List ℕ → OptionWords → Option Command
 debug_with name values = option_map debug (task_of 100000000 name values)
 
+-- a source is run as its options say, and its calls are listed
+abbrev pub trace_with : List ℕ → OptionWords → Option Command
+trace_with name values = option_map trace (task_of 100000000 name values)
+
 -- a story is played as its options say; it has limits of heap and trail of its own
 abbrev pub story_task : List ℕ → OptionWords → Option Task
 story_task name values = if is_some values.heap || is_some values.trail then None else task_of 1000000000 name values
@@ -148,6 +156,17 @@ abbrev pub make_with : List ℕ → List (List ℕ) → Option Command
 make_with word [] = option_map make (number_within 1 400 word)
 make_with word (option ∷ others) = None
 
+-- the story of a source is listed; there are no options
+abbrev pub list_with : List ℕ → List (List ℕ) → Option Command
+list_with name [] = Some (list name)
+list_with name (option ∷ others) = None
+
+-- the story of a listing is stored under a name; there are no options
+abbrev pub join_with : List ℕ → List (List ℕ) → Option Command
+join_with name [] = None
+join_with name (to ∷ []) = if is_file_name to then Some (join name to) else None
+join_with name (to ∷ other ∷ others) = None
+
 -- the limits of a task
 abbrev pub limits_of : Task → Limits
 limits_of task = record { steps = task.steps; heap = task.heap; trail = task.trail; aux = 100000; keep = 10000 }
@@ -164,14 +183,17 @@ abbrev pub with_options : List ℕ → List ℕ → List (List ℕ) → Option C
 with_options command name options =
     if bytes_eq command (codes "debug") then option_and_then (debug_with name) (options_of options)
     else if bytes_eq command (codes "play") then option_and_then (λ values. option_map play (story_task name values)) (options_of options)
-    else if bytes_eq command (codes "run") then option_and_then (λ values. option_map run (story_task name values)) (options_of options) else None
+    else if bytes_eq command (codes "run") then option_and_then (λ values. option_map run (story_task name values)) (options_of options)
+    else if bytes_eq command (codes "trace") then option_and_then (trace_with name) (options_of options) else None
 
 -- the command of this word
 abbrev pub command_named : List ℕ → List ℕ → List (List ℕ) → Option Command
 command_named command name options =
     if bytes_eq command (codes "build") then build_with name options
     else if bytes_eq command (codes "singles") then singles_with name options
-    else if bytes_eq command (codes "make") then make_with name options else with_options command name options
+    else if bytes_eq command (codes "make") then make_with name options
+    else if bytes_eq command (codes "list") then list_with name options
+    else if bytes_eq command (codes "join") then join_with name options else with_options command name options
 
 -- the command that these words are
 abbrev pub command_of : List (List ℕ) → Option Command

@@ -26,13 +26,17 @@ text_of_build StoryTooLarge = codes "story too large"
 abbrev pub build_line : List ℕ → BuildRefusal → List ℕ
 build_line name r = name ++ (codes ": " ++ (text_of_build r ++ codes "\n"))
 
+-- FILE:LINE: TEXT
+abbrev pub listing_line : List ℕ → ℕ → List ℕ
+listing_line name line = name ++ (codes ":" ++ (decimal line ++ (codes ": " ++ (codes "not a listing" ++ codes "\n"))))
+
 -- FILE: file fault
 abbrev pub file_fault_line : List ℕ → List ℕ
 file_fault_line name = name ++ codes ": file fault\n"
 
 -- what is printed for words that are no command
 abbrev pub usage_line : List ℕ
-usage_line = codes "usage: dialog debug FILE, build FILE OUT, play STORY, run FILE, singles FILE, make N\n"
+usage_line = codes "usage: dialog debug FILE, build FILE OUT, play STORY, run FILE, singles FILE, make N, list FILE, join LISTING OUT, trace FILE\n"
 
 -- A line was written and this status answered, or out failed within the line.
 pub data Says (status : ℕ) (line : List ℕ) (old new : SinkView) (result : ℕ) : Type 0 where

@@ -1,6 +1,6 @@
 -- What the program promises of a call, command by command: hold it against the table of statuses in man/dialog.1. From it alone follows which status
 -- comes where.
-use Rattle.std.specs.Prelude.{◌≡◌, ◌<◌, ℕ, List, [], length, codes, Option, Some, None, Bool, IsTrue, IsSome, Ok, Err}
+use Rattle.std.specs.Prelude.{◌≡◌, ◌<◌, ◌≤◌, ℕ, List, [], length, map, codes, Option, Some, None, Bool, IsTrue, IsSome, Ok, Err}
 use Rattle.dg_base.specs.Causes.{Rose}
 use Rattle.dg_base.specs.Shelves.{WhereTold, KeepsAll, KeepsOthers}
 use Rattle.dg_base.specs.Written.{Wrote}
@@ -10,15 +10,23 @@ use Rattle.dg_base.specs.declared.run.Ending.{Ending}
 use Rattle.dg_base.specs.declared.run.Ending.TheVariants.{Done, Quit, Failed, Stopped, InputEnded, StepLimit, HeapLimit, TrailLimit, AuxLimit, KeepLimit}
 use Rattle.dg_base.specs.declared.run.Limits.{Limits}
 use Rattle.dg_base.specs.declared.run.Outcome.{Outcome}
+use Rattle.dg_base.specs.declared.run.RunFault.{RunFault}
+use Rattle.dg_base.specs.declared.run.RunFault.TheVariants.{Read, Write, OutOfMemory}
 use Rattle.dg_make.specs.Made.{made_source}
 use Rattle.dg_meaning.specs.Shows.{IsLeft, Shows}
 use Rattle.dg_meaning.specs.Transcript.{no_memory_line, input_fault_line}
 use Rattle.dg_meaning.specs.World.{Game}
-use Rattle.dg_meaning.specs.Engines.{game}
+use Rattle.dg_meaning.specs.Engines.{game, left_told}
 use Rattle.dg_single.specs.Singles.{AreSingles}
+use Rattle.dg_trace.specs.Traced.{HasTraced, HasTracedFault}
 use Rattle.dg_chain.specs.Agrees.{Agrees}
+use Rattle.dg_story.specs.Marks.{rule_names, mark_name}
 use Rattle.dg_story.specs.Refusals as build
 use Rattle.dg_story.specs.declared.refusal.BuildRefusal.{BuildRefusal}
+use Rattle.z_list.specs.declared.mark.Mark.{Mark}
+use Rattle.z_list.specs.Listing.{AreMarks}
+use Rattle.z_list.specs.Reads.{IsListing, IsBadAt}
+use Rattle.z_list.specs.Texts.{listed}
 use Rattle.z_model.specs.Closing.{played_text}
 use Rattle.z_model.specs.Run.{ZRun}
 use Rattle.z_model.specs.Story.{story_refusal, story_run}
@@ -26,9 +34,9 @@ use Rattle.z_model.specs.declared.end.ZEnd.{ZEnd}
 use Rattle.z_model.specs.declared.end.ZEnd.TheVariants as ends
 use Rattle.z_model.specs.declared.story.StoryRefusal.{StoryRefusal}
 use Rattle.z_play.specs.Output.{BrokeBehind}
-use Rattle.dialog_tool.specs.Command.{Command, debug, play, run, build, singles, make, Task, limits_of}
+use Rattle.dialog_tool.specs.Command.{Command, debug, play, run, build, singles, make, list, join, trace, Task, limits_of}
 use Rattle.dialog_tool.specs.Call.{Call, Outside, Finds, file_at, dice_for}
-use Rattle.dialog_tool.specs.Lines.{Says, usage_line, refusal_line, story_line, build_line, file_fault_line}
+use Rattle.dialog_tool.specs.Lines.{Says, usage_line, refusal_line, story_line, build_line, listing_line, file_fault_line}
 use Rattle.dialog_tool.specs.Making.{made_limits, most_output, made_report, too_long_line}
 use Rattle.dialog_tool.specs.Report.{report}
 use Rattle.dialog_tool.specs.Running.{Run, run_of_game, run_of_story, LosesInput, IsWriting}
@@ -104,6 +112,21 @@ EndsProgram g typed limits status text rest = (outcome : Outcome) × (status ≡
 abbrev pub RunsProgram : Call → Outside → Task → Core → ℕ → Type 0
 RunsProgram c o t p result = let g = game p (dice_for c t) in Runs c (run_of_game g o.typed) t.steps (EndsProgram g o.typed (limits_of t)) result
 
+-- the status of a trace that a fault has broken off
+abbrev pub status_of_fault : RunFault → ℕ
+status_of_fault Read = 5
+status_of_fault Write = 5
+status_of_fault OutOfMemory = 6
+
+-- A program's run on the typed bytes is traced, with the dice and within the limits of a task: out took lines that show it, at the status of its ending;
+-- or a fault broke it off: the input failed, and out took the lines up to there, or out failed within lines that may be written, at 5; or memory ran
+-- out, and out took the lines up to there, at 6.
+pub data TracesProgram (c : Call) (o : Outside) (t : Task) (p : Core) (result : ℕ) : Type 0 where
+  has_traced : (outcome : Outcome) → result ≡ status_of outcome.ending
+      → HasTraced (game p (dice_for c t)) o.typed (limits_of t) outcome (left_told c.input c.input_after) c.out c.out_after → TracesProgram c o t p result
+  has_lost : (fault : RunFault) → result ≡ status_of_fault fault → (fault ≡ Read → Rose c.input.faults c.input_after.faults)
+      → HasTracedFault fault (game p (dice_for c t)) o.typed (limits_of t) c.input c.input_after c.out c.out_after → TracesProgram c o t p result
+
 -- The predicates of a program are listed, at 0: out took the report, by which those of the set are single.
 pub record Lists (c : Call) (p : Core) (result : ℕ) : Type 0 where
   pub set : List Bool
@@ -165,6 +188,34 @@ pub record HasNone (c : Call) (name : List ℕ) (p : Core) (result : ℕ) : Type
   pub refused : build.build_refusal p ≡ Some refusal
   pub prints : Prints c 7 (build_line name refusal) result
 
+-- ---- listings
+
+-- Each rule of a program has a mark, in order, and the marks are apart and within this story. That each is where its rule's routine stands says
+-- dg_story/specs/Marks.antt.
+pub record AreItsMarks (p : Core) (bytes : List ℕ) (marks : List Mark) : Type 0 where
+  pub rules : map mark_name marks ≡ rule_names 0 p.preds
+  pub apart : AreMarks 0 (length bytes) marks
+
+-- The story of a program is listed, at 0, with a mark for each rule.
+pub record ListsStory (c : Call) (p : Core) (result : ℕ) : Type 0 where
+  pub bytes : List ℕ
+  pub marks : List Mark
+  pub story : HasStory p bytes
+  pub are : AreItsMarks p bytes marks
+  pub prints : Prints c 0 (listed bytes marks) result
+
+-- A program has no story, at 7, or its story is listed.
+pub data ListsAny (c : Call) (name : List ℕ) (p : Core) (result : ℕ) : Type 0 where
+  none_to_list : HasNone c name p result → ListsAny c name p result
+  one_to_list : ListsStory c p result → ListsAny c name p result
+
+-- A listing is read: its file is lost, at 5, or it is none, at 4, with its first bad line, which is 1 where it is too long.
+pub data IsUnjoined (c : Call) (o : Outside) (name : List ℕ) (result : ℕ) : Type 0 where
+  lost_listing : LostFile c name → Prints c 5 (file_fault_line name) result → IsUnjoined c o name result
+  no_listing : (line : ℕ) → IsBadAt (file_at o name) line → length (file_at o name) ≤ 33554432 → Prints c 4 (listing_line name line) result
+      → IsUnjoined c o name result
+  long_listing : 33554432 < length (file_at o name) → Prints c 4 (listing_line name 1) result → IsUnjoined c o name result
+
 -- ---- the call
 
 -- What a call of this command comes to, where the shelf keeps what it holds.
@@ -176,6 +227,9 @@ Does c o (Some (run t)) result = Reads c o t.name (λ p. Builds c o t p result) 
 Does c o (Some (build name to)) result = Reads c o name (λ p. HasNone c name p result) result
 Does c o (Some (singles name)) result = Reads c o name (λ p. Lists c p result) result
 Does c o (Some (make n)) result = Reports c n result
+Does c o (Some (list name)) result = Reads c o name (λ p. ListsAny c name p result) result
+Does c o (Some (join name to)) result = IsUnjoined c o name result
+Does c o (Some (trace t)) result = Reads c o t.name (λ p. TracesProgram c o t p result) result
 
 -- How a story came to the shelf: it is held there, at 0, and nothing is printed; or the shelf failed, at 5, or found no memory, at 6.
 pub data IsStored (c : Call) (to story : List ℕ) (result : ℕ) : Type 0 where
@@ -194,11 +248,20 @@ pub record Stores (c : Call) (o : Outside) (name to : List ℕ) (result : ℕ) :
   pub keeps : IsStored c to bytes result
   pub others : KeepsOthers to c.shelf.contents c.shelf_after.contents
 
+-- A file is the listing of a story, which is handed to the shelf, which keeps all else.
+pub record Joins (c : Call) (o : Outside) (name to : List ℕ) (result : ℕ) : Type 0 where
+  pub bytes : List ℕ
+  pub listing : IsListing (file_at o name) bytes
+  pub short : length (file_at o name) ≤ 33554432
+  pub keeps : IsStored c to bytes result
+  pub others : KeepsOthers to c.shelf.contents c.shelf_after.contents
+
 -- No memory was found before anything was done, at 6; or what the command comes to.
 pub data ComesTo (c : Call) (o : Outside) (result : ℕ) : Type 0 where
   no_memory : Keeps c → Prints c 6 no_memory_line result → ComesTo c o result
   does : Keeps c → Does c o c.command result → ComesTo c o result
   stores : (name to : List ℕ) → c.command ≡ Some (build name to) → Stores c o name to result → ComesTo c o result
+  joins : (name to : List ℕ) → c.command ≡ Some (join name to) → Joins c o name to result → ComesTo c o result
 
 -- What a call comes to, for some outside as far as it is told.
 pub record Answers (c : Call) (result : ℕ) : Type 0 where

@@ -1,15 +1,16 @@
 // Builds the stories of sources, and stores or plays them.
-ghost use Rattle.std.specs.Prelude.{◌≡◌, ◌<◌, ℕ, List, None, Some, Ok, IfOk, IfErr, OnOk, length};
-ghost use Rattle.dg_base.specs.Shelves.{ShelfView};
+ghost use Rattle.std.specs.Prelude.{◌≡◌, ◌<◌, ℕ, List, Option, None, Some, Ok, IfOk, IfErr, OnOk, length};
+ghost use Rattle.dg_base.specs.Shelves.{ShelfView, KeepsOthers};
 ghost use Rattle.dg_base.specs.Sound.{IsSound};
 ghost use Rattle.dg_base.specs.Streams.{SourceView};
 ghost use Rattle.dg_base.specs.declared.program.CoreProgram.{CoreProgram as Core};
 ghost use Rattle.dg_meaning.specs.Few.{AllHoldFew, HeadsAreFew};
 ghost use Rattle.dg_fits.specs.Once.{StandOnce};
-ghost use Rattle.dialog_tool.specs.Promise.{Answers, HasStory};
+ghost use Rattle.dg_story.specs.Built.{IsBuilt};
+ghost use Rattle.dialog_tool.specs.Promise.{Answers, HasStory, IsStored};
 ghost use Rattle.dialog_tool.specs.inside.Building.{HasNoStory};
 ghost use Rattle.dialog_tool.specs.inside.Calls.{call, IsFetched};
-ghost use Rattle.dialog_tool.specs.Command.{build as build_command, run as run_command};
+ghost use Rattle.dialog_tool.specs.Command.{Command, build as build_command, run as run_command};
 ghost use Rattle.dialog_tool.specs.inside.CommandView.{task_view, HasDice};
 ghost use Rattle.dg_compile.specs.Source.{Compiles};
 
@@ -18,37 +19,39 @@ use crate::lines::{DONE, file_fault, no_memory, refuse_build};
 use crate::playing::run_player;
 use crate::reading::program_in;
 use dg_base::{CoreProgram, Shelf, Sink, Source, StoreFault};
-use dg_story::{BuildFault, build_story};
+use dg_story::{BuildFault, Built, build_story};
 use std::alloc::Global;
 use z_play::Player;
 
-// The story of a program, or the status with which the call ends.
-fn story_of<K: Sink>(
+/// The story of a program, or the status with which the call ends.
+pub fn story_of<K: Sink>(
     alloc: Global,
     name: &str,
     program: CoreProgram,
     out: &mut K,
-) -> Result<Vec<u8>, u8>
+) -> Result<Built, u8>
     requires sound { IsSound program }
     requires once { StandOnce program }
     requires goals { AllHoldFew 12 program }
     requires heads { HeadsAreFew 12 program }
-    ensures story { IfOk result (λ bytes. HasStory program bytes.items) }
+    ensures story { IfOk result (λ built. HasStory program built.story.items) }
+    ensures built { IfOk result (IsBuilt program) }
     ensures silent { OnOk result (K.view out.new ≡ K.view out.old) }
     ensures none { IfErr result (HasNoStory program name.now (K.view out.old) (K.view out.new)) }
 {
     match build_story(alloc, program) {
-        Ok(built) => Ok(built.story),
+        Ok(built) => Ok(built),
         Err(BuildFault::Refused(refusal)) => Err(refuse_build(name, refusal, out)),
         Err(BuildFault::OutOfMemory) => Err(no_memory(out)),
     }
 }
 
-// Hands a story to the shelf.
-fn store<F: Shelf, K: Sink>(to: &str, story: &[u8], shelf: &mut F, out: &mut K) -> u8
-    ensures { (before : ShelfView) → (name file dice : List ℕ) → (input : SourceView) → (p : Core) →
-        IsFetched before (F.view shelf.old) name file → Compiles file (Ok p) → HasStory p story.now →
-        Answers (call (Some (build_command name to.now)) dice before (F.view shelf.new) input input (K.view out.old) (K.view out.new)) result }
+/// Hands a story to the shelf, from which a file was fetched before.
+pub fn store<F: Shelf, K: Sink>(to: &str, story: &[u8], shelf: &mut F, out: &mut K) -> u8
+    ensures stored { (command : Option Command) → (before : ShelfView) → (name file dice : List ℕ) → (input : SourceView) →
+        IsFetched before (F.view shelf.old) name file →
+        IsStored (call command dice before (F.view shelf.new) input input (K.view out.old) (K.view out.new)) to.now story.now result }
+    ensures others { KeepsOthers to.now (F.view shelf.old).contents (F.view shelf.new).contents }
 {
     match shelf.store(to, story) {
         Ok(()) => DONE,
@@ -74,7 +77,7 @@ pub fn build<F: Shelf, K: Sink>(
         Err(status) => return status,
     };
     match story_of(alloc, name, program, out) {
-        Ok(story) => store(to, &story, shelf, out),
+        Ok(built) => store(to, &built.story, shelf, out),
         Err(status) => status,
     }
 }
@@ -120,7 +123,7 @@ pub fn run<F: Shelf, S: Source, K: Sink>(
         Err(status) => return status,
     };
     match story_of(alloc, task.name, program, out) {
-        Ok(story) => play_story(alloc, task, story, input, out, dice),
+        Ok(built) => play_story(alloc, task, built.story, input, out, dice),
         Err(status) => status,
     }
 }

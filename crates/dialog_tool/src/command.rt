@@ -1,11 +1,12 @@
 // Reads the words of a command line.
-ghost use Rattle.std.specs.Prelude.{◌≡◌, ◌≤◌, ◌<◌, ◌^◌, Some, IfOk, IfSome, length, string_bytes};
+ghost use Rattle.std.specs.Prelude.{◌≡◌, ◌≤◌, ◌<◌, ◌^◌, Some, IfOk, IfSome, length};
 ghost use Rattle.std.specs.Option.{option_map};
 ghost use Rattle.dialog_tool.specs.Command as spec;
-ghost use Rattle.dialog_tool.specs.Command.{texts};
+ghost use Rattle.dialog_tool.specs.Command.{texts, limits_of};
 ghost use Rattle.dialog_tool.specs.inside.CommandView.{task_view, command_view, values_view, HasDice, CommandHasDice};
 
 use crate::numbers::{dice_of, number_of};
+use crate::options::{Values, values_of};
 use dg_base::Limits;
 use std::alloc::{AllocError, Global};
 
@@ -31,7 +32,8 @@ pub struct Task<'a> {
 }
 
 /// What is to be done: a source is run, a story is played, a source is built and its story played, the story of a source is stored
-/// under another name, the predicates of a source are listed, or a source is made of a number and run.
+/// under another name, the predicates of a source are listed, a source is made of a number and run, the story of a source is listed,
+/// that of a listing is stored under another name, or a source is run and its calls are listed.
 #[derive(Drop)]
 pub enum Command<'a> {
     Debug(Task<'a>),
@@ -40,15 +42,21 @@ pub enum Command<'a> {
     Build(&'a str, &'a str),
     Singles(&'a str),
     Make(u16),
+    List(&'a str),
+    Join(&'a str, &'a str),
+    Trace(Task<'a>),
 }
 
-// The words behind the options.
-#[derive(Clone, Copy)]
-struct Values<'a> {
-    steps: Option<&'a str>,
-    heap: Option<&'a str>,
-    trail: Option<&'a str>,
-    dice: Option<&'a str>,
+/// The limits of a run of the source of a task.
+pub fn limits_of(task: &Task<'_>) -> Limits
+    ensures { result ≡ limits_of (task_view task.now) }
+{
+    Limits {
+        steps: task.steps,
+        heap: task.heap,
+        trail: task.trail,
+        ..Limits::debug()
+    }
 }
 
 fn is_file_name(name: &str) -> bool
@@ -59,69 +67,6 @@ fn is_file_name(name: &str) -> bool
         [b'-', b'-', ..] => false,
         _ => true,
     }
-}
-
-// One more option with its word, where there was none before.
-fn with_option<'a>(values: Values<'a>, option: &String, word: &'a str) -> Option<Values<'a>>
-    ensures { option_map values_view result ≡ spec.with_option (values_view values.entry) (string_bytes option.now) word.now }
-{
-    match option.as_str() {
-        "--steps" => match values.steps {
-            None => Some(Values {
-                steps: Some(word),
-                ..values
-            }),
-            Some(_) => None,
-        },
-        "--heap" => match values.heap {
-            None => Some(Values {
-                heap: Some(word),
-                ..values
-            }),
-            Some(_) => None,
-        },
-        "--trail" => match values.trail {
-            None => Some(Values {
-                trail: Some(word),
-                ..values
-            }),
-            Some(_) => None,
-        },
-        "--dice" => match values.dice {
-            None => Some(Values {
-                dice: Some(word),
-                ..values
-            }),
-            Some(_) => None,
-        },
-        _ => None,
-    }
-}
-
-// These options and those that the words are, in any order, each followed by its word.
-fn values_behind<'a>(values: Values<'a>, options: &'a [String]) -> Option<Values<'a>>
-    ensures { option_map values_view result ≡ spec.values_behind (values_view values.entry) (texts options.now) }
-{
-    match options {
-        [] => Some(values),
-        [option, word, others @ ..] => match with_option(values, option, word.as_str()) {
-            Some(more) => values_behind(more, others),
-            None => None,
-        },
-        _ => None,
-    }
-}
-
-fn values_of(options: &[String]) -> Option<Values<'_>>
-    ensures { option_map values_view result ≡ spec.options_of (texts options.now) }
-{
-    let none = Values {
-        steps: None,
-        heap: None,
-        trail: None,
-        dice: None,
-    };
-    values_behind(none, options)
 }
 
 fn number_or(usual: u64, most: u64, word: Option<&str>) -> Option<u64>
@@ -219,6 +164,21 @@ fn debug<'a>(
     }
 }
 
+fn trace<'a>(
+    alloc: Global,
+    name: &'a str,
+    values: Values<'_>,
+) -> Result<Option<Command<'a>>, AllocError>
+    ensures command { IfOk result (λ command. option_map command_view command ≡ spec.trace_with name.now (values_view values.entry)) }
+    ensures dice { IfOk result (λ command. IfSome command CommandHasDice) }
+{
+    match task_of(alloc, USUAL_GOALS, name, values) {
+        Ok(Some(task)) => Ok(Some(Command::Trace(task))),
+        Ok(None) => Ok(None),
+        Err(error) => Err(error),
+    }
+}
+
 // The task of a story's run.
 fn story_task<'a>(
     alloc: Global,
@@ -298,6 +258,27 @@ fn make<'a>(word: &str, options: &[String]) -> Option<Command<'a>>
     Some(Command::Make(number as u16))
 }
 
+fn list<'a>(name: &'a str, options: &[String]) -> Option<Command<'a>>
+    ensures command { option_map command_view result ≡ spec.list_with name.now (texts options.now) }
+    ensures dice { IfSome result CommandHasDice }
+{
+    if options.is_empty() {
+        Some(Command::List(name))
+    } else {
+        None
+    }
+}
+
+fn join<'a>(name: &'a str, options: &'a [String]) -> Option<Command<'a>>
+    ensures command { option_map command_view result ≡ spec.join_with name.now (texts options.now) }
+    ensures dice { IfSome result CommandHasDice }
+{
+    match options {
+        [to] if is_file_name(to.as_str()) => Some(Command::Join(name, to.as_str())),
+        _ => None,
+    }
+}
+
 // The command with options that this word names.
 fn with_options<'a>(
     alloc: Global,
@@ -315,6 +296,7 @@ fn with_options<'a>(
         "debug" => debug(alloc, name, values),
         "play" => play(alloc, name, values),
         "run" => run(alloc, name, values),
+        "trace" => trace(alloc, name, values),
         _ => Ok(None),
     }
 }
@@ -333,6 +315,8 @@ fn command_named<'a>(
         "build" => Ok(build(name, options)),
         "singles" => Ok(singles(name, options)),
         "make" => Ok(make(name, options)),
+        "list" => Ok(list(name, options)),
+        "join" => Ok(join(name, options)),
         _ => with_options(alloc, command, name, options),
     }
 }

@@ -4,32 +4,24 @@ ghost use Rattle.dg_base.specs.Shelves.{ShelfView};
 ghost use Rattle.dg_base.specs.Sound.{IsSound};
 ghost use Rattle.dialog_tool.specs.Promise.{Answers};
 ghost use Rattle.dialog_tool.specs.inside.Calls.{call, IsFetched};
-ghost use Rattle.dialog_tool.specs.Command.{texts, command_of, debug as debug_command, limits_of};
+ghost use Rattle.dialog_tool.specs.Command.{texts, command_of, debug as debug_command};
 ghost use Rattle.dialog_tool.specs.inside.CommandView.{task_view, HasDice};
 ghost use Rattle.dg_compile.specs.Source.{Compiles};
 
 use crate::building::{build, run};
-use crate::command::{Command, Task, command_of};
+use crate::command::{Command, Task, command_of, limits_of};
+use crate::joining::join;
 use crate::lines::{FAULT, no_memory, usage};
-use crate::listing::list_file;
+use crate::listing::list;
 use crate::making::make;
 use crate::playing::{play, thrown};
 use crate::reading::program_in;
+use crate::singles::list_file;
 use crate::statuses::status_of;
-use dg_base::{CoreProgram, Limits, RunFault, Shelf, Sink, Source};
+use crate::tracing::trace;
+use dg_base::{CoreProgram, RunFault, Shelf, Sink, Source};
 use dg_machine::run_program;
 use std::alloc::Global;
-
-fn limits_of(task: &Task<'_>) -> Limits
-    ensures { result ≡ limits_of (task_view task.now) }
-{
-    Limits {
-        steps: task.steps,
-        heap: task.heap,
-        trail: task.trail,
-        ..Limits::debug()
-    }
-}
 
 // Runs the program of a source.
 fn run_source<S: Source, K: Sink>(
@@ -76,9 +68,9 @@ fn debug<F: Shelf, S: Source, K: Sink>(
     }
 }
 
-/// Does what the words behind the program's name ask for, and answers the exit status: 0 the run ended, the report is written or the story is stored,
-/// 1 the source is refused, 2 the words are no command, 3 a limit was met, 4 the story is refused or broke, 5 the shelf, the input or the
-/// output failed, 6 memory ran out, 7 the source has no story.
+/// Does what the words behind the program's name ask for, and answers the exit status: 0 the run ended, the report or the listing is written or
+/// the story is stored, 1 the source is refused, 2 the words are no command, 3 a limit was met, 4 the story is refused or broke or the listing is
+/// refused, 5 the shelf, the input or the output failed, 6 memory ran out, 7 the source has no story.
 pub fn tool<F: Shelf, S: Source, K: Sink>(
     alloc: Global,
     words: &[String],
@@ -106,6 +98,9 @@ pub fn tool<F: Shelf, S: Source, K: Sink>(
         Ok(Some(Command::Build(name, to))) => build(alloc, name, to, shelf, out),
         Ok(Some(Command::Singles(name))) => list_file(alloc, name, shelf, out),
         Ok(Some(Command::Make(n))) => make(alloc, n, out, dice),
+        Ok(Some(Command::List(name))) => list(alloc, name, shelf, out),
+        Ok(Some(Command::Join(name, to))) => join(alloc, name, to, shelf, out),
+        Ok(Some(Command::Trace(task))) => trace(alloc, &task, shelf, input, out, dice),
         Ok(None) => usage(out),
         Err(_) => no_memory(out),
     }

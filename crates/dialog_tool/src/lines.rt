@@ -3,9 +3,9 @@ ghost use Rattle.std.specs.Prelude.{◌≡◌, ◌++◌, codes};
 ghost use Rattle.dg_base.specs.Written.{texts, joined};
 ghost use Rattle.dg_meaning.specs.Transcript.{no_memory_line};
 ghost use Rattle.z_model.specs.Story.{text_of_story};
-ghost use Rattle.dialog_tool.specs.Lines.{Says, usage_line, refusal_line, story_line, text_of_build, build_line, file_fault_line};
+ghost use Rattle.dialog_tool.specs.Lines.{Says, usage_line, refusal_line, story_line, text_of_build, build_line, listing_line, file_fault_line};
 
-use dg_base::{Refusal, Sink, text_of, write_pieces};
+use dg_base::{Refusal, Sink, text_of, write_all, write_pieces};
 use dg_story::BuildRefusal;
 use itoa::Buffer;
 use z_model::StoryRefusal;
@@ -27,7 +27,7 @@ pub const NO_MEMORY: u8 = 6;
 pub const NO_STORY: u8 = 7;
 
 const USAGE_LINE: &[u8] =
-    b"usage: dialog debug FILE, build FILE OUT, play STORY, run FILE, singles FILE, make N\n";
+    b"usage: dialog debug FILE, build FILE OUT, play STORY, run FILE, singles FILE, make N, list FILE, join LISTING OUT, trace FILE\n";
 
 // Writes a line of these pieces, and answers this status.
 fn say<K: Sink>(out: &mut K, status: u8, pieces: &[&[u8]]) -> u8
@@ -53,6 +53,16 @@ pub fn usage<K: Sink>(out: &mut K) -> u8
     say(out, USAGE, &[USAGE_LINE])
 }
 
+/// Writes a whole text.
+pub fn say_text<K: Sink>(out: &mut K, status: u8, text: &[u8]) -> u8
+    ensures { Says status text.now (K.view out.old) (K.view out.new) result }
+{
+    match write_all(out, text) {
+        Ok(()) => status,
+        Err(_) => FAULT,
+    }
+}
+
 /// Writes the line of a file that failed.
 pub fn file_fault<K: Sink>(name: &str, out: &mut K) -> u8
     ensures { Says 5 (file_fault_line name.now) (K.view out.old) (K.view out.new) result }
@@ -60,11 +70,17 @@ pub fn file_fault<K: Sink>(name: &str, out: &mut K) -> u8
     say(out, FAULT, &[name.as_bytes(), b": file fault\n"])
 }
 
-// Writes a refusal's line from its parts.
-fn say_refusal<'a, K: Sink>(out: &mut K, name: &'a [u8], line: &'a [u8], text: &'a [u8]) -> u8
-    ensures { Says 1 (name.now ++ (codes ":" ++ (line.now ++ (codes ": " ++ (text.now ++ codes "\n"))))) (K.view out.old) (K.view out.new) result }
+// Writes the line of a refusal from its parts.
+fn say_refusal<'a, K: Sink>(
+    out: &mut K,
+    status: u8,
+    name: &'a [u8],
+    line: &'a [u8],
+    text: &'a [u8],
+) -> u8
+    ensures { Says status (name.now ++ (codes ":" ++ (line.now ++ (codes ": " ++ (text.now ++ codes "\n"))))) (K.view out.old) (K.view out.new) result }
 {
-    say(out, REFUSED, &[name, b":", line, b": ", text, b"\n"])
+    say(out, status, &[name, b":", line, b": ", text, b"\n"])
 }
 
 /// Writes the line of a source's refusal.
@@ -73,7 +89,22 @@ pub fn refuse<K: Sink>(name: &str, refusal: &Refusal, out: &mut K) -> u8
 {
     let mut buffer = Buffer::new();
     let line = buffer.format(refusal.line).as_bytes();
-    say_refusal(out, name.as_bytes(), line, text_of(refusal.kind).as_bytes())
+    say_refusal(
+        out,
+        REFUSED,
+        name.as_bytes(),
+        line,
+        text_of(refusal.kind).as_bytes(),
+    )
+}
+
+/// Writes the line of a text that is no listing.
+pub fn refuse_listing<K: Sink>(name: &str, line: u32, out: &mut K) -> u8
+    ensures { Says 4 (listing_line name.now line) (K.view out.old) (K.view out.new) result }
+{
+    let mut buffer = Buffer::new();
+    let line = buffer.format(line).as_bytes();
+    say_refusal(out, STORY, name.as_bytes(), line, b"not a listing")
 }
 
 fn story_text(refusal: StoryRefusal) -> &'static [u8]

@@ -1,106 +1,48 @@
-// Lists the predicates of a source, and which of them have at most one answer.
-ghost use Rattle.std.specs.Prelude.{◌≡◌, ◌++◌, ℕ, List, Bool, Some, Ok, IfOk, OnOk, length, zip, flat_map};
+// Lists the stories of sources.
+ghost use Rattle.std.specs.Prelude.{◌≤◌, ℕ, List, Some, Ok, length};
 ghost use Rattle.dg_base.specs.Shelves.{ShelfView};
 ghost use Rattle.dg_base.specs.Streams.{SourceView};
-ghost use Rattle.dg_single.specs.Singles.{AreSingles};
-ghost use Rattle.dialog_tool.specs.Promise.{Answers};
+ghost use Rattle.dg_base.specs.declared.program.CoreProgram.{CoreProgram as Core};
+ghost use Rattle.dialog_tool.specs.Promise.{Answers, HasStory, AreItsMarks};
 ghost use Rattle.dialog_tool.specs.inside.Calls.{call, IsFetched};
-ghost use Rattle.dialog_tool.specs.Command.{singles as singles_command};
-ghost use Rattle.dialog_tool.specs.Lines.{Says};
-ghost use Rattle.dialog_tool.specs.Report.{answers_word, is_listed, report_line, report};
+ghost use Rattle.dialog_tool.specs.Command.{list as list_command};
+ghost use Rattle.z_list.specs.Listing.{AreMarks};
 ghost use Rattle.dg_compile.specs.Source.{Compiles};
 
-use crate::lines::{DONE, FAULT, no_memory};
+use crate::building::story_of;
+use crate::lines::{DONE, no_memory, say_text};
 use crate::reading::program_in;
-use dg_base::{CoreProgram, Pred, Shelf, Sink, write_all};
-use dg_core::let_go;
-use dg_single::singles;
-use std::alloc::{AllocError, Global};
+use dg_base::{Shelf, Sink};
+use dg_story::Built;
+use std::alloc::Global;
+use z_list::listing;
 
-fn answers_word(single: bool) -> &'static [u8]
-    ensures { result.now ≡ answers_word single }
+// Makes the whole listing of a story, and writes it then.
+fn list_story<K: Sink>(alloc: Global, built: &Built, out: &mut K) -> u8
+    requires short { length built.now.story.items ≤ 524288 }
+    requires apart { AreMarks 0 (length built.now.story.items) built.now.marks.items }
+    ensures { (before after : ShelfView) → (name file dice : List ℕ) → (input : SourceView) → (p : Core) →
+        IsFetched before after name file → Compiles file (Ok p) → HasStory p built.now.story.items →
+        AreItsMarks p built.now.story.items built.now.marks.items →
+        Answers (call (Some (list_command name)) dice before after input input (K.view out.old) (K.view out.new)) result }
 {
-    if single { b"single " } else { b"many " }
-}
-
-fn is_listed(pred: &Pred) -> bool
-    ensures { result ≡ is_listed pred.now }
-{
-    pred.from_source && !pred.rules.as_slice().is_empty()
-}
-
-// Puts the line of a predicate behind a text, if it is listed.
-fn push_line(text: &mut Vec<u8>, pred: &Pred, single: bool) -> Result<(), AllocError>
-    ensures { OnOk result (text.new.items ≡ text.old.items ++ report_line (pred.now, single)) }
-{
-    if !is_listed(pred) {
-        return Ok(());
-    }
-    text.extend_from_slice(answers_word(single))?;
-    text.extend_from_slice(pred.name.as_slice())?;
-    text.extend_from_slice(b"\n")?;
-    Ok(())
-}
-
-// The lines of predicates, of which these are single.
-#[tactic(auto, using(crate::proofs::ReportLemmas::none_left))]
-fn lines_of(alloc: Global, preds: &[Pred], set: &[bool]) -> Result<Vec<u8>, AllocError>
-    ensures { IfOk result (λ text. text.items ≡ flat_map report_line (zip preds.now set.now)) }
-{
-    let mut text = Vec::new(alloc);
-    let mut preds = preds;
-    let mut set = set;
-    'lines: while let [pred, others @ ..] = preds {
-        let [single, behind @ ..] = set else {
-            return Ok(text);
-        };
-        push_line(&mut text, pred, *single)?;
-        preds = others;
-        set = behind;
-    }
-    Ok(text)
-}
-
-// The whole report on a program.
-fn report_on(alloc: Global, program: &CoreProgram) -> Result<Vec<u8>, AllocError>
-    ensures { IfOk result (λ text. (set : List Bool) × AreSingles program.now.preds set × (text.items ≡ report program.now set)) }
-{
-    let set = singles(program, alloc)?;
-    lines_of(alloc, program.preds.as_slice(), &set)
-}
-
-fn say_report<K: Sink>(text: &[u8], out: &mut K) -> u8
-    ensures { Says 0 text.now (K.view out.old) (K.view out.new) result }
-{
-    match write_all(out, text) {
-        Ok(()) => DONE,
-        Err(_) => FAULT,
-    }
-}
-
-// Makes the whole report on a source's program, and writes it then.
-fn list<K: Sink>(alloc: Global, program: &CoreProgram, out: &mut K) -> u8
-    ensures { (before after : ShelfView) → (name file dice : List ℕ) → (input : SourceView) →
-        IsFetched before after name file → Compiles file (Ok program.now) →
-        Answers (call (Some (singles_command name)) dice before after input input (K.view out.old) (K.view out.new)) result }
-{
-    match report_on(alloc, program) {
-        Ok(text) => say_report(&text, out),
+    match listing(alloc, &built.story, &built.marks) {
+        Ok(text) => say_text(out, DONE, &text),
         Err(_) => no_memory(out),
     }
 }
 
-/// Fetches and reads a source, and lists its predicates.
-pub fn list_file<F: Shelf, K: Sink>(alloc: Global, name: &str, shelf: &mut F, out: &mut K) -> u8
+/// Fetches, reads and builds a source, and lists its story.
+pub fn list<F: Shelf, K: Sink>(alloc: Global, name: &str, shelf: &mut F, out: &mut K) -> u8
     ensures { (dice : List ℕ) → (input : SourceView) →
-        Answers (call (Some (singles_command name.now)) dice (F.view shelf.old) (F.view shelf.new) input input (K.view out.old) (K.view out.new)) result }
+        Answers (call (Some (list_command name.now)) dice (F.view shelf.old) (F.view shelf.new) input input (K.view out.old) (K.view out.new)) result }
 {
-    match program_in(alloc, name, shelf, out) {
-        Ok(program) => {
-            let status = list(alloc, &program, out);
-            let_go(alloc, program);
-            status
-        }
+    let program = match program_in(alloc, name, shelf, out) {
+        Ok(program) => program,
+        Err(status) => return status,
+    };
+    match story_of(alloc, name, program, out) {
+        Ok(built) => list_story(alloc, &built, out),
         Err(status) => status,
     }
 }

@@ -7,16 +7,14 @@ ghost use Rattle.dg_make.specs.Made.{made_source};
 ghost use Rattle.dialog_tool.specs.Promise.{status_of, Answers, Makes};
 ghost use Rattle.dialog_tool.specs.inside.Calls.{call};
 ghost use Rattle.dialog_tool.specs.Command.{make as make_command};
-ghost use Rattle.dialog_tool.specs.Lines.{Says};
 ghost use Rattle.dialog_tool.specs.Making as spec;
 ghost use Rattle.dialog_tool.specs.Making.{made_report, too_long_line};
 ghost use Rattle.dg_compile.specs.Source.{Compiles};
 
-use crate::lines::{FAULT, LIMIT, no_memory, refuse};
+use crate::lines::{LIMIT, no_memory, refuse, say_text};
 use crate::statuses::status_of;
 use dg_base::{
     CoreProgram, Ending, Limits, Outcome, ReadFault, RunFault, Sink, SureSink, SureSource,
-    write_all,
 };
 use dg_compile::compile;
 use dg_machine::run_program;
@@ -155,15 +153,6 @@ fn report_of(
     }
 }
 
-fn say_report<K: Sink>(status: u8, text: &[u8], out: &mut K) -> u8
-    ensures { Says status text.now (K.view out.old) (K.view out.new) result }
-{
-    match write_all(out, text) {
-        Ok(()) => status,
-        Err(_) => FAULT,
-    }
-}
-
 // Makes the whole report on a made program, and writes it then.
 fn make_program<K: Sink>(
     alloc: Global,
@@ -178,7 +167,7 @@ fn make_program<K: Sink>(
         Answers (call (Some (make_command n)) dice.now shelf shelf input input (K.view out.old) (K.view out.new)) result }
 {
     match report_of(alloc, source, program, dice) {
-        Ok(report) => say_report(report.status, &report.text, out),
+        Ok(report) => say_text(out, report.status, &report.text),
         Err(_) => no_memory(out),
     }
 }

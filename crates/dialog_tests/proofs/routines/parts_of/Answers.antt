@@ -13,7 +13,7 @@ use Rattle.dg_rt.specs.RunTime.{runtime}
 use Rattle.dialog_tests.proofs.routines.parts_of.Goals as goal
 
 abbrev counts : Counts
-counts = record { routines = 137; tables = 2; texts = 0 }
+counts = record { routines = 138; tables = 2; texts = 0 }
 
 is_fit : (r : Routine) → IsFit counts r → IsRoutine counts r
 is_fit r f = record { few = f.few; short = f.short; fit = f.fit }
@@ -26,7 +26,7 @@ with_last : (rs : List Routine) (last : Routine) → AreRoutines counts rs → I
 with_last [] last f g = (g, tt)
 with_last (r ∷ rs) last f g = (f.0, with_last rs last f.1 g)
 
-so_many : length runtime ≡ 135
+so_many : length runtime ≡ 136
 so_many = refl
 
 one_more : (n m : ℕ) → n ≡ m + 1 → suc n ≡ suc m + 1
@@ -36,7 +36,7 @@ length_with : (rs : List Routine) (last : Routine) → length (rs ++ (last ∷ [
 length_with [] last = refl
 length_with (r ∷ rs) last = one_more (length (rs ++ (last ∷ []))) (length rs) (length_with rs last)
 
-all_counted : (n m : ℕ) → n ≡ m + 1 → m ≡ 135 → suc n ≡ 137
+all_counted : (n m : ℕ) → n ≡ m + 1 → m ≡ 136 → suc n ≡ 138
 all_counted n m e k = omega arith
 
 is_routine : (r : Routine) (body : List Act) → r ≡ record { locals = 0; body = body } → AreFit counts (ops_of_acts body) body → body_bytes body < 8000 → IsRoutine counts r
@@ -44,7 +44,7 @@ is_routine r body e fit short = subst (λ (x : Routine). IsRoutine counts x) (sy
 
 are_parts : RuntimeFits → (p : Parts) (t u : Table) (a b : Routine) → p.tables ≡ t ∷ u ∷ [] → p.strings ≡ [] → p.routines ≡ a ∷ (runtime ++ (b ∷ [])) → IsRoutine counts a → IsRoutine counts b → AreParts p
 are_parts fits p t u a b et es er fa fb =
-    let many : length (a ∷ (runtime ++ (b ∷ []))) ≡ 137 = all_counted (length (runtime ++ (b ∷ []))) (length runtime) (length_with runtime b) so_many in
+    let many : length (a ∷ (runtime ++ (b ∷ []))) ≡ 138 = all_counted (length (runtime ++ (b ∷ []))) (length runtime) (length_with runtime b) so_many in
     let all : AreRoutines counts (a ∷ (runtime ++ (b ∷ []))) = (fa, with_last runtime b (all_fit runtime (fits counts (let many = so_many in omega arith) (omega arith))) fb) in
     let base : AreParts (record { tables = t ∷ u ∷ []; strings = []; routines = a ∷ (runtime ++ (b ∷ [])) }) =
     record { some = omega arith; routines = subst (λ (n : ℕ). AreRoutines (record { routines = n; tables = 2; texts = 0 }) (a ∷ (runtime ++ (b ∷ [])))) (sym many) all; texts = tt } in

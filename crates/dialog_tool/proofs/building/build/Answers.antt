@@ -4,15 +4,18 @@ use Rattle.dialog_tool.specs.Promise.{Answers, HasStory}
 use Rattle.dialog_tool.specs.inside.Building.{HasNoStory}
 use Rattle.dialog_tool.specs.inside.Calls.{call}
 use Rattle.dialog_tool.specs.Command.{build as build_command}
-use Rattle.dialog_tool.proofs.BuildLemmas.{none_to_store}
+use Rattle.dialog_tool.proofs.BuildLemmas.{handed, none_to_store}
 use Rattle.dialog_tool.proofs.building.build.Goals as goal
 
 pub returns-in-Ok-story_of : goal.returns-in-Ok-story_of
 returns-in-Ok-story_of g c = λ dice input.
     let from = c.in-Ok.ensures.program in
+    let command = Some (build_command c.args.name.now c.args.to.now) in
     let has = subst (λ (l : List ℕ). HasStory c.in-Ok.program l) (sym c.deref.ensures.value) c.in-Ok-story_of.ensures.story in
-    let stores = c.store.ensures (g.F.Shelf.view c.args.shelf.now) c.args.name.now from.0 dice input c.in-Ok.program from.1 from.2 has in
-    subst (λ (before : SinkView). Answers (call (Some (build_command c.args.name.now c.args.to.now)) dice (g.F.Shelf.view c.args.shelf.now) (g.F.Shelf.view c.store.new.shelf)
+    let stored = c.store.ensures.stored command (g.F.Shelf.view c.args.shelf.now) c.args.name.now from.0 dice input from.1 in
+    let stored_by = call command dice (g.F.Shelf.view c.args.shelf.now) (g.F.Shelf.view c.store.new.shelf) input input (g.K.Sink.view c.story_of.new.out) (g.K.Sink.view c.store.new.out) in
+    let stores = handed stored_by c.args.name.now c.args.to.now from.0 _ c.in-Ok.program _ (g.F.Shelf.view c.program_in.new.shelf) refl from.1 from.2 has c.store.ensures.others stored in
+    subst (λ (before : SinkView). Answers (call command dice (g.F.Shelf.view c.args.shelf.now) (g.F.Shelf.view c.store.new.shelf)
     input input before (g.K.Sink.view c.store.new.out)) c.store.result) (c.in-Ok-story_of.ensures.silent ∙ c.in-Ok.ensures.silent) stores
 
 pub returns-in-Err-story_of : goal.returns-in-Err-story_of

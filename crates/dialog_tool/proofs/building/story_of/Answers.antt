@@ -12,6 +12,9 @@ returns-in-Ok-clause-story g c =
     let fits = rw c.in-Ok.is at c.build_story.ensures.fits in
     record { fits = fits; taken = c.in-Ok.ensures.built.story.assembled.header.accepted; agrees = c.in-Ok.ensures.agrees }
 
+pub returns-in-Ok-clause-built : goal.returns-in-Ok-clause-built
+returns-in-Ok-clause-built g c = c.in-Ok.ensures.built
+
 pub returns-in-Err-Refused-clause-none : goal.returns-in-Err-Refused-clause-none
 returns-in-Err-Refused-clause-none g c =
     let refused = c.build_story.ensures.refused c.in-Err-Refused.refusal (c.in-Err-Refused.is ∙ ap failed c.in-Err-Refused.field-0-is) in

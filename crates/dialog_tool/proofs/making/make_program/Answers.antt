@@ -5,7 +5,7 @@ use Rattle.dialog_tool.proofs.making.make_program.Goals as goal
 
 pub returns-in-Ok : goal.returns-in-Ok
 returns-in-Ok g c = λ n shelf input source compiles.
-    let says = subst (λ (text : List ℕ). Says c.in-Ok.report.status text (g.K.Sink.view c.args.out.now) (g.K.Sink.view c.say_report.new.out) c.say_report.result) c.deref.ensures.value c.say_report.ensures in
+    let says = subst (λ (text : List ℕ). Says c.in-Ok.report.status text (g.K.Sink.view c.args.out.now) (g.K.Sink.view c.say_text.new.out) c.say_text.result) c.deref.ensures.value c.say_text.ensures in
     says_made n c.args.dice.now shelf input _ _ c.in-Ok.report.status _ c.in-Ok.report.text.items (c.in-Ok.ensures n source compiles) says
 
 pub returns-in-Err : goal.returns-in-Err

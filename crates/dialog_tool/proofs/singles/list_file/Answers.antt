@@ -3,7 +3,7 @@ use Rattle.dg_base.specs.Written.{SinkView}
 use Rattle.dialog_tool.specs.Promise.{Answers}
 use Rattle.dialog_tool.specs.inside.Calls.{call}
 use Rattle.dialog_tool.specs.Command.{singles as singles_command}
-use Rattle.dialog_tool.proofs.listing.list_file.Goals as goal
+use Rattle.dialog_tool.proofs.singles.list_file.Goals as goal
 
 pub returns-in-Ok : goal.returns-in-Ok
 returns-in-Ok g c = λ dice input.

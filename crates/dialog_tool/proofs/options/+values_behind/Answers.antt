@@ -1,7 +1,7 @@
 use Rattle.std.proofs.Common.{sym, ◌∙◌}
 use Rattle.dialog_tool.specs.inside.CommandView.{values_view}
 use Rattle.dialog_tool.proofs.OptionLemmas.{two_more}
-use Rattle.dialog_tool.proofs.command.+values_behind.Goals as goal
+use Rattle.dialog_tool.proofs.options.+values_behind.Goals as goal
 
 pub returns-in-Some : goal.returns-in-Some
 returns-in-Some t c =
