@@ -15,6 +15,7 @@ pub mod Takes
 pub mod Asks
 pub mod Goals
 pub mod Runs
+pub mod Doing
 pub mod Waiting
 pub mod Rounds
 pub mod Whole

@@ -57,7 +57,8 @@ pub record Stretch (added : List Event) (taken : List ℕ) (w : World) (P : Worl
 
 -- Whatever run comes from where the engine is, with as much of its budget left, all that it printed so far written,
 -- and the typed bytes that the source gives up to its end, this holds of it.
-pub record Reaches {P : Type 0} (v : Watching P) (e : Engine) (s : Spacer) (before : P) (from to : SourceView) (Q : World → Run → P → Type 0) : Type 0 where
+pub record Reaches {P : Type 0} (v : Watching P) (e : Engine) (s : Spacer) (before : P) (from to : SourceView)
+    (Q : World → Run → P → Type 0) : Type 0 where
   pub taken : List ℕ
   pub ended : Bool
   pub gave : Gave from to ended taken
@@ -108,7 +109,8 @@ pub record IsNoFurther (added : List Event) (rest : List ℕ) (w : World) (run :
 
 -- A limit was met behind some goals, with this much of the budget left: the run with a budget of these goals passes it and comes
 -- later than what was written and taken, and the run with a budget of one less is no further.
-pub record MeetsLimit {P : Type 0} (v : Watching P) (area : Area) (left : ℕ) (old : Engine) (s s' : Spacer) (before now : P) (from to : SourceView) : Type 0 where
+pub record MeetsLimit {P : Type 0} (v : Watching P) (area : Area) (left : ℕ) (old : Engine) (s s' : Spacer) (before now : P)
+    (from to : SourceView) : Type 0 where
   pub goals : ℕ
   pub left_is : old.left ≡ suc goals + left
   pub added : List Event
@@ -188,7 +190,8 @@ Broken v Write old s s' before now from to = LosesOutput v old s before now from
 Broken v OutOfMemory old s s' before now from to = Reaches v old s before from to (HasPart v s' now to.left)
 
 -- The goal at hand was done, or the run has ended so.
-abbrev pub DoesGoal : {P : Type 0} → Watching P → Option Ending → Engine → Engine → Spacer → Spacer → P → P → SourceView → SourceView → Type 0
+abbrev pub DoesGoal : {P : Type 0} → Watching P → Option Ending → Engine → Engine → Spacer → Spacer → P → P →
+    SourceView → SourceView → Type 0
 DoesGoal v None old new s s' before now from to = GoalDone v old new s s' before now from to
 DoesGoal v (Some ending) old new s s' before now from to = Ended v ending new.left old s s' before now from to
 

@@ -2,7 +2,8 @@ use Rattle.std.proofs.Common.{◌∷◌, [], ◌∙◌}
 use Rattle.dg_meaning.specs.World.{Piece, Prints}
 use Rattle.dg_spacing.specs.Gaps.{print_of}
 use Rattle.dg_interp.proofs.Places.{same_limits}
-use Rattle.dg_interp.proofs.Runs.{shown_done, shown_breaks, one_then, word_prints, gap_prints, is_act, goal_does, goal_breaks, goal_quits, stops_does, stops_breaks, stopped_does, stopped_breaks}
+use Rattle.dg_interp.proofs.Runs.{shown_done, shown_breaks}
+use Rattle.dg_interp.proofs.Doing.{one_then, word_prints, gap_prints, is_act, goal_does, goal_breaks, goal_quits, stops_does, stops_breaks, stopped_does, stopped_breaks}
 use Rattle.dg_interp.proofs.run.do_goal.Goals as goal
 
 pub returns-in-Ok-clause-ok : goal.returns-in-Ok-clause-ok

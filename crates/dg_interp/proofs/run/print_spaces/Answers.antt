@@ -6,7 +6,8 @@ use Rattle.dg_interp.specs.inside.Engine.{store_in, FailsAt, TakesAt, Branches}
 use Rattle.dg_interp.specs.inside.Giving.{TellsSpaces}
 use Rattle.dg_interp.proofs.Branches.{full_made_by, back_by}
 use Rattle.dg_interp.proofs.Places.{same_limits}
-use Rattle.dg_interp.proofs.Runs.{same_on, shown_done, shown_breaks, lack_from, stored_done, stored_lacks, goal_does, goal_breaks}
+use Rattle.dg_interp.proofs.Runs.{same_on, shown_done, shown_breaks, lack_from, stored_done, stored_lacks}
+use Rattle.dg_interp.proofs.Doing.{goal_does, goal_breaks}
 use Rattle.dg_interp.proofs.Spaces.{spaces_then}
 use Rattle.dg_interp.proofs.run.print_spaces.Goals as goal
 

@@ -4,7 +4,8 @@ use Rattle.dg_base.specs.declared.program.Goal.TheVariants.{Print}
 use Rattle.dg_interp.specs.inside.Engine.{TakesAt, pieces_at}
 use Rattle.dg_interp.specs.inside.Showing.{ShowsAll, as_events}
 use Rattle.dg_interp.proofs.Places.{same_limits}
-use Rattle.dg_interp.proofs.Runs.{same_on, shown_done, shown_breaks, value_then, lack_from, goal_does, goal_breaks}
+use Rattle.dg_interp.proofs.Runs.{same_on, shown_done, shown_breaks, lack_from}
+use Rattle.dg_interp.proofs.Doing.{value_then, goal_does, goal_breaks}
 use Rattle.dg_interp.proofs.Waiting.{wrote_still, pieces_still}
 use Rattle.dg_interp.proofs.run.print_term.Goals as goal
 

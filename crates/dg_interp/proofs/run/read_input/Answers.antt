@@ -2,7 +2,8 @@ use Rattle.std.proofs.Common.{◌∙◌}
 use Rattle.std.specs.Prelude.{Err}
 use Rattle.dg_base.specs.declared.program.Goal.TheVariants.{Input}
 use Rattle.dg_interp.specs.inside.Engine.{TakesAt}
-use Rattle.dg_interp.proofs.Runs.{lack_from, goal_does, goal_breaks}
+use Rattle.dg_interp.proofs.Runs.{lack_from}
+use Rattle.dg_interp.proofs.Doing.{goal_does, goal_breaks}
 use Rattle.dg_interp.proofs.run.read_input.Goals as goal
 
 pub returns-in-Err-clause-ok : goal.returns-in-Err-clause-ok
