@@ -24,8 +24,8 @@ impl From<AllocError> for NumberFault {
     }
 }
 
-/// The first routine of each predicate's rules, that of each block, the one that finds the bodies of closures, and the sites of selects, in order.
-/// The first routine of each predicate's rules, that of each block, the one that finds the bodies of closures, and the one that prints an object.
+/// The first routine of each predicate's rules, that of each block, the one that finds the bodies of closures, the sites of selects in order, and the
+/// routine that prints an object.
 #[derive(Drop)]
 pub struct Numbers {
     pub preds: Items<u16>,

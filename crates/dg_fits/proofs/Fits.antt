@@ -85,10 +85,6 @@ pub fits_append : (c : Counts) (xs ys : List Routine) → AllFit c xs → AllFit
 fits_append c [] ys f g = g
 fits_append c (x ∷ xs) ys f g = (f.0, fits_append c xs ys f.1 g)
 
--- where labels stand in a routine, it is short
-short_if : (c : Counts) (r : Routine) → body_bytes r.body ≤ 100 → (l : ℕ) → body_bytes r.body < 8000
-short_if c r le l = omega arith
-
 -- an instruction of few variables, which begins a rule
 abbrev pub EntersFew : Op → Type 0
 EntersFew (op.Enter vars head) = vars ≤ 65

@@ -78,9 +78,6 @@ pub rooms_append : (xs ys : List Routine) → rooms (xs ++ ys) ≡ rooms xs + ro
 rooms_append [] ys = omega arith
 rooms_append (x ∷ xs) ys = omega (arith, rooms_append xs ys)
 
-room_most : (r : Routine) → room r ≤ 8 + body_bytes r.body
-room_most r = omega arith
-
 -- ## Acts
 
 matches_few : (v x n : ℕ) → body_bytes (match_acts v x n) ≤ 6 * n

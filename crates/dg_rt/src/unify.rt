@@ -96,7 +96,7 @@ pub const UNIFY_ACTS: [Act; 96] = [
     when!(1, Less, Atom::Num(FIRST_BOX), true, 4),
     Act::Label(1),
     when!(2, Less, Atom::Num(FIRST_BOX), true, 9),
-    // no variables: what is one word is equal, and of others a box's header tells what it is
+    // neither is a variable: equal words unify, other simple values clash, and two boxes with one header go on
     Act::Label(2),
     when!(1, Equal, Atom::Var(2), true, 20),
     when!(1, Less, Atom::Num(0), false, 21),
