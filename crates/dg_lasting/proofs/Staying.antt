@@ -1,5 +1,5 @@
 -- What lasts stays as large.
-use Rattle.std.proofs.Common.{◌≡◌, ℕ, sym, ap, ◌∙◌, length, map}
+use Rattle.std.proofs.Common.{◌≡◌, ℕ, sym, ap, ◌∙◌, length}
 use Rattle.std.proofs.lemmas.List.{length-map, length-set}
 use Rattle.std.specs.declared.vec.Vec.{Vec}
 use Rattle.std.specs.declared.alloc.Global.{Global}
@@ -7,7 +7,7 @@ use Rattle.dg_base.specs.declared.cells.Cell.{Cell}
 use Rattle.dg_base.specs.declared.program.Mode.{Mode}
 use Rattle.dg_choose.specs.Site.{picks_of}
 use Rattle.dg_lists.specs.Gathered.{Gathered}
-use Rattle.dg_meaning.specs.Choosing.{Picks, picked, picks_at}
+use Rattle.dg_meaning.specs.Choosing.{picked, picks_at}
 use Rattle.dg_meaning.specs.Values.{Value}
 use Rattle.dg_world.specs.Worlds.{shape_of}
 use Rattle.dg_world.specs.declared.world.World.{World}

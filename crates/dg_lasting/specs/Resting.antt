@@ -1,6 +1,7 @@
 -- How large what lasts is, whatever runs do to it, and when runs of a program may begin with it. Hold it against docs/LANGUAGE.md, "The world" and "Limits".
-use Rattle.std.specs.Prelude.{ℕ, ◌≡◌, ◌≤◌, length}
+use Rattle.std.specs.Prelude.{ℕ, ◌≡◌, ◌<◌, ◌≤◌, List, Option, Some, None, length}
 use Rattle.dg_base.specs.declared.program.CoreProgram.{CoreProgram}
+use Rattle.dg_base.specs.declared.program.Place.{Place}
 use Rattle.dg_base.specs.declared.run.Limits.{Limits}
 use Rattle.dg_meaning.specs.Facts.{kinds_of, kept_size, start_facts}
 use Rattle.dg_world.specs.Worlds.{Shape, shape_of, shape_in}
@@ -31,3 +32,14 @@ pub record RestsFor (program : CoreProgram) (limits : Limits) (r : Resting) : Ty
   pub starts : StartsWorld program limits.keep r.start
   pub begins : kept_size (kinds_of program) (start_facts program.places) ≤ limits.keep
   pub large : extent_resting r ≡ extent_for program limits
+
+-- What lasts between runs is that of a program; there is nothing where more of it starts kept than may be.
+abbrev pub Rests : CoreProgram → Limits → Option Resting → Type 0
+Rests program limits None = limits.keep < kept_size (kinds_of program) (start_facts program.places)
+Rests program limits (Some resting) = RestsFor program limits resting
+
+-- A program has these places, and so many objects and selects.
+pub record HasParts (program : CoreProgram) (here : List Place) (many selects : ℕ) : Type 0 where
+  pub places : program.places ≡ here
+  pub objects : length program.objects ≡ many
+  pub sites : program.sites ≡ selects

@@ -32,7 +32,7 @@ pub struct Lasting<'p> {
 }
 
 /// So many sites, at which nothing was picked.
-fn new_sites(alloc: Global, count: u16) -> Result<Vec<Site>, AllocError>
+pub fn new_sites(alloc: Global, count: u16) -> Result<Vec<Site>, AllocError>
     ensures { IfOk result (λ sites. map picks_of sites.items ≡ replicate count no_picks) }
 {
     let mut sites = Vec::new(alloc);
@@ -53,7 +53,7 @@ fn site_at(sites: &[Site], site: usize) -> Site
 }
 
 /// A row of so many cells.
-fn new_row(alloc: Global, count: u32) -> Result<Vec<Cell>, AllocError>
+pub fn new_row(alloc: Global, count: u32) -> Result<Vec<Cell>, AllocError>
     ensures { IfOk result (λ row. length row.items ≡ count) }
 {
     vec![in alloc; Cell::Nil; count as usize]
@@ -68,7 +68,7 @@ pub fn objects_of(program: &CoreProgram) -> u16
 }
 
 /// The world at the start of a program.
-pub fn start_world(alloc: Global, program: &CoreProgram, keep: u32) -> Result<World, Lack>
+fn start_world(alloc: Global, program: &CoreProgram, keep: u32) -> Result<World, Lack>
     requires sound { IsSound program.now }
     ensures starts { IfOk result (StartsWorld program.now keep) }
     ensures begins { OnOk result (kept_size (kinds_of program.now) (start_facts program.now.places) ≤ keep) }

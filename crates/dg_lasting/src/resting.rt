@@ -1,20 +1,19 @@
 // What lasts, between the runs of a program.
-ghost use Rattle.std.specs.Prelude.{◌≡◌, ◌<◌, IfOk, IfErr, length, map, replicate};
-ghost use Rattle.dg_base.specs.Sound.{IsSound};
+ghost use Rattle.std.specs.Prelude.{◌≡◌, ◌<◌, IfOk, All, length, map, replicate};
 ghost use Rattle.dg_base.specs.declared.program.CoreProgram.{CoreProgram as TheProgram};
 ghost use Rattle.dg_base.specs.declared.run.Limits.{Limits as TheLimits};
 ghost use Rattle.dg_choose.specs.Site.{picks_of};
 ghost use Rattle.dg_meaning.specs.Choosing.{no_picks};
-ghost use Rattle.dg_lasting.specs.Lasting.{StartsLasting, LacksAtStart};
-ghost use Rattle.dg_lasting.specs.Resting.{extent_of, extent_resting, RestsFor};
+ghost use Rattle.dg_world.specs.Starts.{HasStarts};
+ghost use Rattle.dg_lasting.specs.Lasting.{StartsLasting};
+ghost use Rattle.dg_lasting.specs.Resting.{extent_of, extent_resting, HasParts, RestsFor, Rests};
 
-use crate::lack::Lack;
-use crate::lasting::{Lasting, start_world};
-use dg_base::{Cell, CoreProgram, Limits};
+use crate::lasting::{Lasting, new_row, new_sites};
+use dg_base::{Cell, Limits, Place};
 use dg_choose::{Dice, Site};
 use dg_lists::{Gather, GatherMark};
 use dg_world::World;
-use std::alloc::Global;
+use std::alloc::{AllocError, Global};
 
 /// What lasts, but for the dice words, as a run has left it, and the world that a run starts with.
 #[derive(Drop)]
@@ -37,19 +36,34 @@ fn empty_sites(sites: &mut [Site])
 }
 
 impl Resting {
-    /// What lasts, before the first run of a program.
-    pub fn new(alloc: Global, program: &CoreProgram, limits: &Limits) -> Result<Resting, Lack>
-        requires sound { IsSound program.now }
-        ensures may { IfOk result (RestsFor program.now limits.now) }
-        ensures lacks { IfErr result (LacksAtStart program.now limits.now.keep) }
+    /// What lasts, before the first run of a program with these places, so many objects and so many selects; nothing, where more starts kept
+    /// than may be.
+    pub fn new(
+        alloc: Global,
+        places: &[Place],
+        objects: u16,
+        sites: u16,
+        limits: &Limits,
+    ) -> Result<Option<Resting>, AllocError>
+        requires starts { All (HasStarts objects) places.now }
+        ensures { IfOk result (λ rests. (p : TheProgram) → HasParts p places.now objects sites → Rests p limits.now rests) }
     {
-        match Lasting::new(alloc, program, limits, &[0]) {
-            Err(lack) => Err(lack),
-            Ok(lasting) => match start_world(alloc, program, limits.keep) {
-                Err(lack) => Err(lack),
-                Ok(start) => Ok(lasting.rest(start)),
-            },
+        let within = World::starts_within(alloc, places, objects, limits.keep)?;
+        if !within {
+            return Ok(None);
         }
+        let world = World::new(alloc, places, objects, limits.keep)?;
+        let start = World::new(alloc, places, objects, limits.keep)?;
+        let gathered = Gather::new(alloc, limits.aux)?;
+        let sites = new_sites(alloc, sites)?;
+        let row = new_row(alloc, limits.keep)?;
+        Ok(Some(Resting {
+            world,
+            start,
+            gathered,
+            sites,
+            row,
+        }))
     }
 
     /// What lasts, at the start of a run with these dice words, and the world that it starts with: what starts set is set again, no

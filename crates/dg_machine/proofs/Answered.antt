@@ -212,7 +212,7 @@ module _ (code : Code) (g : Game) (l : Limits) (m : Mid) (place : Option ℕ) (v
     sought_other s = asks_so (walk m.state.subst u) refl ∙ ap (λ x. seeks (setting g code l) (find_of place vs many next) x m) (other_fails g place (walk m.state.subst u) u us (registers_of m) looked s)
 
 -- all objects are tried
-pub tries_all : (code : Code) (g : Game) (l : Limits) (m : Mid) (t : Tables) (k : Search) (end : ℕ) (vs : List Value) (r : Memory) → IsOf g.program t → end ≡ length t.objects.items → RefsAt (meaning_of r.arena) r.args.items vs → Holds code l r m → Stands code l (with_way r (Tries k 0 end)) Resumes (ResumesOf (TriesOf (find_of k.place vs k.many k.next) (numbers 0 g.program.objects)) m)
+pub tries_all : (code : Code) (g : Game) (l : Limits) (m : Mid) (t : Tables) (k : Search) (end : ℕ) (vs : List Value) (r : Memory) → IsOf g.program t → end ≡ length t.objects → RefsAt (meaning_of r.arena) r.args.items vs → Holds code l r m → Stands code l (with_way r (Tries k 0 end)) Resumes (ResumesOf (TriesOf (find_of k.place vs k.many k.next) (numbers 0 g.program.objects)) m)
 tries_all code g l m t k end vs r is_of count at h =
     let all : end - 0 ≡ length g.program.objects = let n = ap length is_of.objects in omega (arith, n, count) in
     ((record { place = refl; args = at; many = refl; next = refl }, numbers_counted 0 g.program.objects ∙ ap (counted 0) (sym all)), way_held code l r m (Tries k 0 end) h)

@@ -1,8 +1,7 @@
 -- Failures, behind which the newest choice goes on.
-use Rattle.std.proofs.Common.{◌≡◌, ◌<◌, ℕ, List, [], false, refl, sym, ap, ◌∙◌, subst, arith}
+use Rattle.std.proofs.Common.{◌≡◌, ◌<◌, ℕ, List, false, refl, ◌∙◌, subst, arith}
 use Rattle.std.specs.Borrow.{Bor}
 use Rattle.dg_base.specs.declared.run.Limits.{Limits}
-use Rattle.dg_base.specs.declared.run.Ending.{Ending}
 use Rattle.dg_mid.specs.declared.code.Op.{Op}
 use Rattle.dg_mid.specs.declared.code.Code.{Code}
 use Rattle.dg_mid.specs.State.{Mid}
@@ -17,7 +16,7 @@ use Rattle.dg_machine.specs.declared.tables.Tables.{Tables}
 use Rattle.dg_machine.specs.Built.{IsBuilt}
 use Rattle.dg_machine.specs.Layout.{HasRoom, Holds}
 use Rattle.dg_machine.specs.Measure.{left_of, with_way}
-use Rattle.dg_machine.specs.Standing.{GoesOn, FailsTo, IsThere, HasStatus}
+use Rattle.dg_machine.specs.Standing.{GoesOn, FailsTo, IsThere}
 use Rattle.dg_machine.specs.inside.Running.{rests, IsFailing, DoesMarks, Settles, IsSomewhereWith}
 use Rattle.dg_machine.proofs.Goals.{IsHeld, held_of, marks_fail, marks_miss, marks_resume, there_in}
 use Rattle.dg_machine.proofs.Leads.{way_held}

@@ -3,9 +3,9 @@ use Rattle.std.proofs.Common.{◌≡◌, ℕ, zero, suc, ◌+◌, ◌*◌, ◌<�
 use Rattle.std.specs.Prelude.{Bool, Result, Ok, Err, OnOk}
 use Rattle.std.specs.List.{zip}
 use Rattle.std.proofs.lemmas.List.{length-append, drop_more, drop_all}
-use Rattle.dg_base.specs.declared.program.Term.{Term, out-Term, roll-Term, roll-out-Term}
+use Rattle.dg_base.specs.declared.program.Term.{Term, out-Term}
 use Rattle.dg_base.specs.declared.program.Term.TheOpen as term
-use Rattle.dg_base.specs.declared.program.Term.TheVariants.{Pair as Pair-Term, rolls-Pair, outs-Pair}
+use Rattle.dg_base.specs.declared.program.Term.TheVariants.{Pair as Pair-Term}
 use Rattle.dg_base.specs.declared.program.CoreProgram.{CoreProgram}
 use Rattle.dg_meaning.specs.Cells.{cells}
 use Rattle.dg_meaning.specs.Moves.{new_vars}

@@ -48,7 +48,7 @@ use Rattle.dg_machine.proofs.Opens.{left_more}
 use Rattle.dg_mid.proofs.RulesLeft.{EndsIn, ends_on, selected_end, next_end, no_longer}
 use Rattle.dg_machine.proofs.PassedRules.{codes_selected, last_end, AreLast, are_last}
 use Rattle.dg_machine.proofs.Hands.{some_frame, no_frame, no_jump, few, at_most_one}
-use Rattle.dg_machine.proofs.Leads.{was_cut, charged_led, charged_within, charged_stands, full_stands, height_now, way_held, call_held}
+use Rattle.dg_machine.proofs.Leads.{was_cut, charged_within, charged_stands, full_stands, height_now, way_held, call_held}
 
 -- ## The answer of a rule
 

@@ -7,6 +7,7 @@ pub mod Putting
 pub mod RowLemmas
 pub mod TermLemmas
 pub mod TableLemmas
+pub mod Making
 pub mod PathLemmas
 pub mod WriteSteps
 pub mod RegisterLemmas

@@ -180,7 +180,7 @@ module _ (tb : Tables) (code : Code) (old : Memory) (ops : List Op) (t : Term) (
 
     -- a line is read
     module _ (new : Memory) (now : Now) (into : Ref) (spelling : List ℕ) (arg : (vs : List Value) → RefsAt (meaning_of mid.arena) mid.args.items vs → (meaning_of mid.arena).value into ≡ Some (get_or vs 0 (leaf Nil)))
-        (given : (letters : List ℕ) → IsShort letters → spelling ≡ encode_utf8_all letters → Gives code (spelled_list tb.words.items (spellings_of letters)) mid into rest new now) where
+        (given : (letters : List ℕ) → IsShort letters → spelling ≡ encode_utf8_all letters → Gives code (spelled_list tb.words (spellings_of letters)) mid into rest new now) where
       pub line_goal : (out : Lasting) (s s' : Spacer) (k k' : SinkView) (i i' : SourceView) → Took i.left i'.left (IsLine spelling) → i.faults ≤ i'.faults → ((start : SinkView) (ps : List Print) → HasText s start k ps → HasText s' start k' (followed ps (line_behind now))) → ReadsGoal tb code old out ops new out now s s' k k' i i'
       line_goal out s s' k k' i i' took later text = record {
         gave = record { taken = took.taken; ended = false; over = λ e. absurd (cc (e)); left = took.gave; told = λ bytes h. as_told i i' bytes h; later = later };

@@ -1,5 +1,5 @@
 -- What is made of the parts of a list is made of it, and a row has no more cells than its list takes.
-use Rattle.std.proofs.Common.{◌≡◌, ℕ, ◌+◌, ◌*◌, ◌≤◌, List, [], ◌∷◌, suc, ap, subst, arith, length, length-append}
+use Rattle.std.proofs.Common.{◌+◌, ◌*◌, ◌≤◌, List, [], ◌∷◌, suc, ap, subst, arith, length, length-append}
 use Rattle.std.specs.Prelude.{Ok, Err, MatchResult}
 use Rattle.std.specs.Prelude.{Result as Answer}
 use Rattle.std.specs.List.{All, flat_map}

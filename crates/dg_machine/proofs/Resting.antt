@@ -1,18 +1,18 @@
 -- What rests between the runs of a machine.
-use Rattle.std.proofs.Common.{◌≡◌, ◌∙◌, ◌<◌, Option, Some, None, Result, Ok, Err, IfOk, IfErr, sym, subst}
+use Rattle.std.proofs.Common.{◌≡◌, ◌∙◌, ◌<◌, Option, Some, None, Result, Ok, Err, IfOk, sym, subst}
 use Rattle.dg_base.specs.declared.program.CoreProgram.{CoreProgram}
 use Rattle.dg_base.specs.declared.run.Limits.{Limits}
 use Rattle.dg_base.specs.declared.run.Fault.{Fault}
 use Rattle.dg_base.specs.declared.run.Outcome.{Outcome}
 use Rattle.dg_meaning.specs.Facts.{kinds_of, kept_size, start_facts}
 use Rattle.dg_lasting.specs.Lasting.{StartsWorld}
-use Rattle.dg_lasting.specs.Resting.{extent_resting, RestsFor}
+use Rattle.dg_lasting.specs.Resting.{extent_resting, RestsFor, Rests}
 use Rattle.dg_lasting.specs.declared.resting.Resting.{Resting}
 use Rattle.dg_mid.specs.Codes.{Codes}
 use Rattle.dg_mid.specs.Potential.{Tidy}
 use Rattle.dg_mid.specs.declared.code.Code.{Code}
 use Rattle.dg_machine.specs.Built.{IsBuilt}
-use Rattle.dg_machine.specs.Program.{Rests, IsReady}
+use Rattle.dg_machine.specs.Program.{IsReady}
 use Rattle.dg_machine.specs.Tables.{IsOf}
 use Rattle.dg_machine.specs.declared.tables.Tables.{Tables}
 

@@ -17,7 +17,6 @@ use Rattle.dg_meaning.specs.Cells.{captured_count, node_cells, cells}
 use Rattle.dg_unify.specs.Store.{State, Store, Kept, Charged, Made, told, told_parts, Holds}
 use Rattle.dg_unify.specs.declared.bindings.Ref.{Ref}
 use Rattle.dg_unify.proofs.StoreLemmas.{told_is, holds_some}
-use Rattle.dg_machine.specs.declared.now.Captured.{Captured}
 use Rattle.dg_machine.specs.declared.tables.Tables.{Tables}
 use Rattle.dg_machine.specs.Built.{IsNoPair}
 use Rattle.dg_mid.specs.Heads.{IsPlain}
@@ -33,17 +32,17 @@ abbrev pub captured_in : Option ClosureBody → List ℕ
 captured_in None = []
 captured_in (Some c) = c.captured
 
-same_items : (o : Option Captured) (q : Option ClosureBody) → option_map (λ (v : Captured). v.vars.items) o ≡ option_map (λ (c : ClosureBody). c.captured) q → items_in o ≡ captured_in q
+same_items : (o : Option (List ℕ)) (q : Option ClosureBody) → o ≡ option_map (λ (c : ClosureBody). c.captured) q → items_in o ≡ captured_in q
 same_items None None e = refl
 same_items (Some v) None e = absurd (cc)
 same_items None (Some c) e = absurd (cc)
-same_items (Some v) (Some c) e = let same : v.vars.items ≡ c.captured = cc in same
+same_items (Some v) (Some c) e = let same : v ≡ c.captured = cc in same
 
 -- the table has what the program's closure captures
 pub captured_is : (p : CoreProgram) (t : Tables) (place : ℕ) → IsOf p t → captured_at t place ≡ captured_in (slice_get p.closures place)
 captured_is p t place is =
-    same_items (slice_get t.captured.items place) (slice_get p.closures place)
-    (sym (slice_get-map (λ (v : Captured). v.vars.items) t.captured.items place) ∙ ap (λ (l : List (List ℕ)). slice_get l place) is.captured ∙ slice_get-map (λ (c : ClosureBody). c.captured) p.closures place)
+    same_items (slice_get t.captured place) (slice_get p.closures place)
+    (ap (λ (l : List (List ℕ)). slice_get l place) is.captured ∙ slice_get-map (λ (c : ClosureBody). c.captured) p.closures place)
 
 captured_parts : (vs : List Value) (o : Option ClosureBody) → captured_values vs o ≡ node_parts (map (value_of_var vs) (captured_in o))
 captured_parts vs None = refl
@@ -125,11 +124,11 @@ slice_length ys ds h n k is e count = ap length (slice_is ys ds h n is e) ∙ le
 -- ## A program with these tables
 
 pub a_program : Tables → CoreProgram
-a_program t = record { preds = []; closures = map (λ (v : Captured). record { captured = v.vars.items; own = 0; body = [] }) t.captured.items; places = map (λ (k : PlaceKind). record { kind = k; start = [] }) t.kinds.items; objects = t.objects.items; words = t.words.items; sites = 0; entry = 0 }
+a_program t = record { preds = []; closures = map (λ (v : List ℕ). record { captured = v; own = 0; body = [] }) t.captured; places = map (λ (k : PlaceKind). record { kind = k; start = [] }) t.kinds.items; objects = t.objects; words = t.words; sites = 0; entry = 0 }
 
-map_both : (vs : List Captured) → map (λ (v : Captured). v.vars.items) vs ≡ map (λ (c : ClosureBody). c.captured) (map (λ (v : Captured). record { captured = v.vars.items; own = 0; body = [] }) vs)
+map_both : (vs : List (List ℕ)) → vs ≡ map (λ (c : ClosureBody). c.captured) (map (λ (v : List ℕ). record { captured = v; own = 0; body = [] }) vs)
 map_both [] = refl
-map_both (v ∷ vs) = ap (λ l. v.vars.items ∷ l) (map_both vs)
+map_both (v ∷ vs) = ap (λ l. v ∷ l) (map_both vs)
 
 kinds_both : (ks : List PlaceKind) → ks ≡ map (λ (place : Place). place.kind) (map (λ (k : PlaceKind). record { kind = k; start = [] }) ks)
 kinds_both [] = refl
@@ -137,7 +136,7 @@ kinds_both (k ∷ ks) = ap (λ l. k ∷ l) (kinds_both ks)
 
 pub a_program_is : (t : Tables) → IsOf (a_program t) t
 unfolding a_program
-a_program_is t = record { kinds = kinds_both t.kinds.items; words = refl; objects = refl; captured = map_both t.captured.items }
+a_program_is t = record { kinds = kinds_both t.kinds.items; words = refl; objects = refl; captured = map_both t.captured }
 
 -- ## Terms that are no pair
 

@@ -1,14 +1,11 @@
 -- The values of plain terms, and what they take.
 use Rattle.std.proofs.Common.{◌≡◌, ℕ, zero, suc, ◌+◌, ◌-◌, ◌<◌, ◌≤◌, List, [], ◌∷◌, ◌++◌, Option, Some, None, refl, sym, ap, ◌∙◌, subst, arith, length, get_or}
-use Rattle.std.specs.List.{sum_by}
-use Rattle.dg_base.specs.declared.program.Term.{Term, Pair', out-Term, roll-Term, roll-out-Term}
+use Rattle.dg_base.specs.declared.program.Term.{Term, out-Term, roll-Term, roll-out-Term}
 use Rattle.dg_base.specs.declared.program.Term.TheOpen as term
 use Rattle.dg_base.specs.declared.program.Term.TheVariants.{Num as Num-Term, Word as Word-Term, Object as Object-Term, Nil as Nil-Term, Var as Var-Term, rolls-Num, rolls-Word, rolls-Object, rolls-Nil, rolls-Var, outs-Var}
 use Rattle.dg_base.specs.declared.program.CoreProgram.{CoreProgram}
-use Rattle.dg_base.specs.Terms.{nodes}
 use Rattle.dg_meaning.specs.Values.{Value, Values, NoMore, More, Num, Word, Object, Nil, Closure, Node, leaf, value_of, value_of_var}
 use Rattle.dg_meaning.specs.Copies.{values_of}
-use Rattle.dg_meaning.specs.Cells.{node_cells}
 use Rattle.dg_unify.specs.Store.{Store, Shows, IsTold, IsClosureAt, IsPart, part_at, count_of}
 use Rattle.dg_base.specs.declared.cells.Simple.TheVariants as simple
 use Rattle.dg_unify.specs.declared.bindings.View.{View}

@@ -1,5 +1,5 @@
 -- What a run of a whole program has and promises. Hold it against the README.
-use Rattle.std.specs.Prelude.{ℕ, ◌≡◌, ◌+◌, ◌<◌, List, Option, Some, None}
+use Rattle.std.specs.Prelude.{ℕ, ◌≡◌, ◌+◌, ◌<◌, List, Option}
 use Rattle.dg_base.specs.declared.program.CoreProgram.{CoreProgram}
 use Rattle.dg_base.specs.declared.run.Ending.TheVariants.{StepLimit}
 use Rattle.dg_base.specs.declared.run.Limits.{Limits}
@@ -11,8 +11,7 @@ use Rattle.dg_meaning.specs.World.{Game}
 use Rattle.dg_meaning.specs.Transcript.{run, text_of}
 use Rattle.dg_meaning.specs.Shows.{LeftBetween, MayBegin, Shows, ShowsInputFault}
 use Rattle.dg_meaning.specs.Engines.{left_told}
-use Rattle.dg_meaning.specs.Facts.{kinds_of, kept_size, start_facts}
-use Rattle.dg_lasting.specs.Resting.{RestsFor}
+use Rattle.dg_lasting.specs.Resting.{Rests}
 use Rattle.dg_lasting.specs.declared.resting.Resting.{Resting}
 use Rattle.dg_mid.specs.Codes.{Codes}
 use Rattle.dg_mid.specs.Potential.{Tidy}
@@ -20,11 +19,6 @@ use Rattle.dg_mid.specs.declared.code.Code.{Code}
 use Rattle.dg_machine.specs.Built.{IsBuilt}
 use Rattle.dg_machine.specs.Tables.{IsOf}
 use Rattle.dg_machine.specs.declared.tables.Tables.{Tables}
-
--- What lasts between runs is that of a program; there is nothing where more of it starts kept than may be.
-abbrev pub Rests : CoreProgram → Limits → Option Resting → Type 0
-Rests program limits None = limits.keep < kept_size (kinds_of program) (start_facts program.places)
-Rests program limits (Some resting) = RestsFor program limits resting
 
 -- Code, tables and what lasts are those of a program, and the code is code that a machine runs.
 pub record IsReady (program : CoreProgram) (limits : Limits) (code : Code) (tables : Tables) (resting : Option Resting) : Type 0 where

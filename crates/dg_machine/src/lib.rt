@@ -1,7 +1,6 @@
 //! A machine that runs register code in a memory that is taken once.
 #![tactic(auto)]
 
-mod built;
 mod choices;
 mod closures;
 mod copies;
@@ -34,6 +33,6 @@ mod writing;
 
 pub use machine::Machine;
 pub use memory::Memory;
-pub use now::{Call, Captured, Choice, Frame, Inner, Now, Row, Search, Side, Way};
+pub use now::{Call, Choice, Frame, Inner, Now, Row, Search, Side, Way};
 pub use program::run_program;
 pub use tables::Tables;

@@ -1,7 +1,9 @@
 // The machine: it runs its code from the start.
 ghost use Rattle.std.specs.Prelude.{◌≡◌, ◌<◌, ◌≤◌, IfOk, IsErrOf, List, ℕ, length};
 ghost use Rattle.dg_base.specs.Causes.{Rose};
+ghost use Rattle.dg_base.specs.Sound.{IsSound};
 ghost use Rattle.dg_base.specs.declared.program.CoreProgram.{CoreProgram};
+ghost use Rattle.dg_meaning.specs.Few.{AllHoldFew, HeadsAreFew};
 ghost use Rattle.dg_meaning.specs.Transcript.{line_of};
 ghost use Rattle.dg_base.specs.Streams.{SourceView};
 ghost use Rattle.dg_base.specs.declared.run.Limits.{Limits as TheLimits};
@@ -10,6 +12,7 @@ ghost use Rattle.dg_lasting.specs.Lasting.{StartsLasting};
 ghost use Rattle.dg_lasting.specs.Resting.{extent_of};
 ghost use Rattle.dg_mid.specs.Codes.{Codes};
 ghost use Rattle.dg_mid.specs.Potential.{Tidy};
+ghost use Rattle.dg_mid.specs.Programs.{IsMidOf};
 ghost use Rattle.dg_machine.specs.Built.{IsBuilt};
 ghost use Rattle.dg_machine.specs.Tables.{IsOf};
 ghost use Rattle.dg_machine.specs.Layout.{Roomy};
@@ -17,7 +20,6 @@ ghost use Rattle.dg_machine.specs.Program.{IsReady, HasLostText};
 ghost use Rattle.dg_meaning.specs.Engines.{game, left_told, HasShown, HasLostInput};
 ghost use Rattle.dg_meaning.specs.inside.Engines.{ForTyped};
 
-use crate::built::is_built;
 use crate::doing::code_at;
 use crate::memory::Memory;
 use crate::now::Now;
@@ -25,7 +27,7 @@ use crate::steps::go;
 use crate::tables::Tables;
 use dg_base::{Ending, Fault, Limits, Outcome, Sink, Source, write_all};
 use dg_lasting::{Lasting, Resting};
-use dg_mid::{Code, let_go};
+use dg_mid::{Code, MidProgram, let_go, let_go_places};
 use dg_spacing::Spacer;
 use std::alloc::{AllocError, Global};
 
@@ -77,36 +79,37 @@ fn write_keep<K: Sink>(sink: &mut K) -> Result<Outcome, Fault>
 }
 
 impl Machine {
-    /// A machine for this code, these tables and these limits, and with what lasts, which takes all its memory. There is none for code with an
-    /// instruction that isn't built, or with more arguments than a register has room for.
-    pub fn new(
-        alloc: Global,
-        code: Code,
-        tables: Tables,
-        resting: Option<Resting>,
-        limits: &Limits,
-    ) -> Result<Machine, AllocError>
-        ensures built { IfOk result (λ m. IsBuilt m.code) }
-        ensures code { IfOk result (λ m. m.code ≡ code) }
-        ensures tables { IfOk result (λ m. m.tables ≡ tables) }
+    /// A machine for the runs of a sound program whose goals and heads hold few terms, with all the memory that they take.
+    pub fn new(alloc: Global, program: MidProgram, limits: &Limits) -> Result<Machine, AllocError>
+        requires sound { (p : CoreProgram) × IsSound p × AllHoldFew 12 p × HeadsAreFew 12 p × IsMidOf p program }
+        ensures ready { (p : CoreProgram) → IsMidOf p program → IfOk result (λ m. IsReady p m.limits m.code m.tables m.resting) }
         ensures limits { IfOk result (λ m. m.limits ≡ limits.now) }
-        ensures resting { IfOk result (λ m. m.resting ≡ resting) }
     {
-        if !is_built(&code) {
-            let_go(alloc, code);
-            return Err(AllocError);
-        }
-        match Memory::new(alloc, limits.heap, limits.trail) {
-            Ok(memory) => Ok(Machine {
+        let MidProgram {
+            code,
+            places,
+            objects,
+            words,
+            captured,
+            sites,
+            entry: _entry,
+        } = program;
+        let many = objects.len() as u16;
+        let resting = Resting::new(alloc, places.as_slice(), many, sites, limits);
+        let tables = Tables::of(alloc, places.as_slice(), objects, words, captured);
+        let memory = Memory::new(alloc, limits.heap, limits.trail);
+        let_go_places(alloc, places);
+        match (tables, resting, memory) {
+            (Ok(tables), Ok(resting), Ok(memory)) => Ok(Machine {
                 code,
                 tables,
                 limits: *limits,
                 memory,
                 resting,
             }),
-            Err(error) => {
+            _ => {
                 let_go(alloc, code);
-                Err(error)
+                Err(AllocError)
             }
         }
     }

@@ -17,13 +17,6 @@ pub struct Row {
     ghost low: { first + count ≤ 2147483648 },
 }
 
-/// The variables that a closure captures; a store can't keep more.
-#[derive(Drop)]
-pub struct Captured {
-    pub vars: Vec<u16>,
-    ghost few: { length vars.items ≤ 65535 },
-}
-
 /// A rule that is being run: the block behind its answer, whether all its answers are wanted, the height of the heap to which
 /// its (just) cuts, its variables, the inner constructs that are open behind it, and the frame behind it. A frame and an
 /// inner construct are named by their places, counted from 1.

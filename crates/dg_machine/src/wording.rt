@@ -50,7 +50,7 @@ impl Memory {
         requires into { Stored (meaning_of self.old.arena) into }
         requires spelling { SpellsSome IsShort spelling.now }
         ensures { (code : Code) → (letters : List ℕ) → IsShort letters → spelling.now ≡ encode_utf8_all letters →
-            Gives code (spelled_value tables.now.words.items letters) self.old into rest.now self.new result }
+            Gives code (spelled_value tables.now.words letters) self.old into rest.now self.new result }
     {
         match write_spelled(&mut self.arena, tables.words.as_slice(), spelling) {
             Err(_) => Now::Ended(Ending::HeapLimit),
@@ -69,7 +69,7 @@ impl Memory {
         requires into { Stored (meaning_of self.old.arena) into }
         requires spelling { SpellsSome AreSmall spelling.now }
         ensures { (code : Code) → (letters : List ℕ) → AreSmall letters → spelling.now ≡ encode_utf8_all letters →
-            Gives code (spelled_list tables.now.words.items (each_alone letters)) self.old into rest.now self.new result }
+            Gives code (spelled_list tables.now.words (each_alone letters)) self.old into rest.now self.new result }
     {
         match write_letters(&mut self.arena, tables.words.as_slice(), spelling) {
             Err(_) => Now::Ended(Ending::HeapLimit),
@@ -88,7 +88,7 @@ impl Memory {
         requires into { Stored (meaning_of self.old.arena) into }
         requires line { SpellsSome IsShort line.now }
         ensures { (code : Code) → (letters : List ℕ) → IsShort letters → line.now ≡ encode_utf8_all letters →
-            Gives code (spelled_list tables.now.words.items (spellings_of letters)) self.old into rest.now self.new result }
+            Gives code (spelled_list tables.now.words (spellings_of letters)) self.old into rest.now self.new result }
     {
         match write_line(&mut self.arena, tables.words.as_slice(), line) {
             Err(_) => Now::Ended(Ending::HeapLimit),

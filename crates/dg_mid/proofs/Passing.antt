@@ -12,7 +12,6 @@ use Rattle.dg_base.specs.Goals.{all_goals_of, terms_held}
 use Rattle.dg_base.specs.Terms.{nodes}
 use Rattle.dg_mid.specs.declared.code.Action.TheVariants as action
 use Rattle.dg_mid.specs.declared.code.Block.{Block}
-use Rattle.dg_mid.specs.declared.code.Code.{Code}
 use Rattle.dg_mid.specs.declared.code.Op.{Op}
 use Rattle.dg_mid.specs.declared.code.Op.TheVariants as op
 use Rattle.dg_mid.specs.Actions.{form_of}

@@ -1,5 +1,5 @@
 -- The code of rules, written from the last rule to the first.
-use Rattle.std.proofs.Common.{◌≡◌, ◌<◌, ◌≤◌, ◌+◌, ℕ, zero, suc, arith, inl, inr, List, [], ◌∷◌, ◌++◌, refl, sym, ap, ◌∙◌, subst, length, append_assoc}
+use Rattle.std.proofs.Common.{◌≡◌, ◌<◌, ◌≤◌, ◌+◌, ℕ, zero, suc, arith, inl, inr, List, [], ◌∷◌, ◌++◌, refl, sym, ap, ◌∙◌, subst, length, map, append_assoc}
 use Rattle.std.specs.Prelude.{reverse, false, Some, None}
 use Rattle.std.proofs.lemmas.Bool.{cases_lt}
 use Rattle.std.proofs.lemmas.Option.{slice_get_past}
@@ -26,8 +26,8 @@ use Rattle.dg_mid.specs.Tidying.{OpNeat, OpsNeat, BlockTidy, BlocksTidy}
 use Rattle.dg_mid.specs.Potential.{begins_goto, begins_return, OpTidy, OpsTidy, Tidy}
 use Rattle.dg_mid.specs.Writing.{StandsFor, Lands, PutsFirst, BodyFor, BodiesFor, RuleFor, RulesFor, PredsFor, starting}
 use Rattle.dg_mid.proofs.WritingLemmas.{reverse_put, block_made, made_begins, neat_tail, block_neat}
-use Rattle.dg_mid.specs.Weights.{Weights, ops_weight, blocks_weight, body_weight, rules_weight, preds_weight, closures_weight, IsLight}
-use Rattle.dg_mid.proofs.Weights.{ops_reverse, block_added, op_added, op_alone, blocks_append, rules_append, preds_append, closures_append}
+use Rattle.dg_mid.specs.Weights.{Weights, blocks_weight, rules_weight, preds_weight, closures_weight, IsLight}
+use Rattle.dg_mid.proofs.Weights.{ops_reverse, block_added, op_added, op_alone, rules_append, preds_append, closures_append}
 use Rattle.dg_mid.proofs.Opening.{begins_here}
 
 pub rule_stands : (old mid now : List Block) (rule : Rule) (c : RuleCode) (only ops put : List Op) → only ≡ op.Return ∷ [] → PutsFirst rule.body old mid (reverse only) (reverse ops) → put ≡ ops ++ op.Enter rule.vars rule.head ∷ [] →
@@ -128,23 +128,25 @@ preds_all first now all left codes h none code begins n = subst (λ l. RulesStan
 pub preds_light : (first now : List Block) (all left : List Pred) (codes : List (List RuleCode)) → PredsDone first now all left codes → left ≡ [] → (w : Weights) → blocks_weight w now ≤ blocks_weight w first + preds_weight w all
 preds_light first now all left codes h none w = let l = h.light w in omega (arith, ap (preds_weight w) none)
 
--- The same for the bodies of closures.
-pub record BodiesDone (first now : List Block) (all left : List ClosureBody) (codes : List BodyCode) : Type 0 where
+-- The same for the bodies of closures, and what these capture.
+pub record BodiesDone (first now : List Block) (all left : List ClosureBody) (codes : List BodyCode) (lists : List (List ℕ)) : Type 0 where
   pub blocks : Begins first now
   pub neat : BlocksTidy first → BlocksTidy now
   pub light : (w : Weights) → blocks_weight w now + closures_weight w left ≤ blocks_weight w first + closures_weight w all
   pub done : List ClosureBody
   pub is : all ≡ left ++ done
   pub stands : BodiesFor now (reverse codes) done
+  pub captured : reverse lists ≡ map (λ (x : ClosureBody). x.captured) done
 
-pub bodies_begun : (blocks : List Block) (all : List ClosureBody) (codes : List BodyCode) → codes ≡ [] → BodiesDone blocks blocks all all codes
-bodies_begun blocks all codes none = record {
+pub bodies_begun : (blocks : List Block) (all : List ClosureBody) (codes : List BodyCode) (lists : List (List ℕ)) → codes ≡ [] → lists ≡ [] → BodiesDone blocks blocks all all codes lists
+bodies_begun blocks all codes lists none no_list = record {
   blocks = begins_here blocks;
   neat = λ h. h;
   light = λ w. omega arith;
   done = [];
   is = sym (append-nil all);
   stands = λ code begins n. subst (λ l. BodyStands code (slice_get (reverse l) n) None) (sym none) tt;
+  captured = ap reverse no_list;
 }
 
 body_more : (code : Code) (codes : List BodyCode) (closures : List ClosureBody) (c : BodyCode) (x : ClosureBody) → BodyStands code (Some c) (Some x) → ((n : ℕ) → BodyStands code (slice_get codes n) (slice_get closures n)) →
@@ -152,9 +154,9 @@ body_more : (code : Code) (codes : List BodyCode) (closures : List ClosureBody) 
 body_more code codes closures c x f h zero = f
 body_more code codes closures c x f h (suc n) = h n
 
-pub bodies_more : (first old now : List Block) (all left others : List ClosureBody) (x : ClosureBody) (codes more : List BodyCode) (c : BodyCode) → BodiesDone first old all left codes → left ≡ others ++ x ∷ [] → Begins old now → (BlocksTidy old → BlocksTidy now) → ((w : Weights) → blocks_weight w now ≤ blocks_weight w old + closures_weight w (x ∷ [])) → BodyFor now c x →
-    more ≡ codes ++ c ∷ [] → BodiesDone first now all others more
-bodies_more first old now all left others x codes more c h e on neat light f put = record {
+pub bodies_more : (first old now : List Block) (all left others : List ClosureBody) (x : ClosureBody) (codes more : List BodyCode) (c : BodyCode) (lists further : List (List ℕ)) (vars : List ℕ) → BodiesDone first old all left codes lists → left ≡ others ++ x ∷ [] → Begins old now → (BlocksTidy old → BlocksTidy now) → ((w : Weights) → blocks_weight w now ≤ blocks_weight w old + closures_weight w (x ∷ [])) → BodyFor now c x →
+    more ≡ codes ++ c ∷ [] → vars ≡ x.captured → further ≡ lists ++ vars ∷ [] → BodiesDone first now all others more further
+bodies_more first old now all left others x codes more c lists further vars h e on neat light f put same added = record {
   blocks = begins_on first old now h.blocks on;
   neat = λ n. neat (h.neat n);
   light = λ w. let l = h.light w in let m = light w in omega (arith, ap (closures_weight w) e, closures_append w others (x ∷ []));
@@ -162,13 +164,17 @@ bodies_more first old now all left others x codes more c h e on neat light f put
   is = h.is ∙ ap (λ l. l ++ h.done) e ∙ append_assoc others (x ∷ []) h.done;
   stands = λ code begins n. subst (λ l. BodyStands code (slice_get l n) (slice_get (x ∷ h.done) n)) (sym (ap reverse put ∙ reverse-append codes (c ∷ [])))
       (body_more code (reverse codes) h.done c x (f code begins) (h.stands code (begins_on old now code.blocks on begins)) n);
+  captured = ap reverse added ∙ reverse-append lists (vars ∷ []) ∙ ap (λ l. l ∷ reverse lists) same ∙ ap (λ l. x.captured ∷ l) h.captured;
 }
 
-pub bodies_all : (first now : List Block) (all left : List ClosureBody) (codes : List BodyCode) → BodiesDone first now all left codes → left ≡ [] → BodiesFor now (reverse codes) all
-bodies_all first now all left codes h none code begins n = subst (λ l. BodyStands code (slice_get (reverse codes) n) (slice_get l n)) (sym (h.is ∙ ap (λ l. l ++ h.done) none)) (h.stands code begins n)
+pub bodies_all : (first now : List Block) (all left : List ClosureBody) (codes : List BodyCode) (lists : List (List ℕ)) → BodiesDone first now all left codes lists → left ≡ [] → BodiesFor now (reverse codes) all
+bodies_all first now all left codes lists h none code begins n = subst (λ l. BodyStands code (slice_get (reverse codes) n) (slice_get l n)) (sym (h.is ∙ ap (λ l. l ++ h.done) none)) (h.stands code begins n)
 
-pub bodies_light : (first now : List Block) (all left : List ClosureBody) (codes : List BodyCode) → BodiesDone first now all left codes → left ≡ [] → (w : Weights) → blocks_weight w now ≤ blocks_weight w first + closures_weight w all
-bodies_light first now all left codes h none w = let l = h.light w in omega (arith, ap (closures_weight w) none)
+pub bodies_captured : (first now : List Block) (all left : List ClosureBody) (codes : List BodyCode) (lists : List (List ℕ)) → BodiesDone first now all left codes lists → left ≡ [] → reverse lists ≡ map (λ (x : ClosureBody). x.captured) all
+bodies_captured first now all left codes lists h none = h.captured ∙ ap (map (λ (x : ClosureBody). x.captured)) (sym (h.is ∙ ap (λ l. l ++ h.done) none))
+
+pub bodies_light : (first now : List Block) (all left : List ClosureBody) (codes : List BodyCode) (lists : List (List ℕ)) → BodiesDone first now all left codes lists → left ≡ [] → (w : Weights) → blocks_weight w now ≤ blocks_weight w first + closures_weight w all
+bodies_light first now all left codes lists h none w = let l = h.light w in omega (arith, ap (closures_weight w) none)
 
 pub body_stands : (old mid now : List Block) (x : ClosureBody) (b : ℕ) (only ops : List Op) → only ≡ op.Return ∷ [] → PutsFirst x.body old mid (reverse only) (reverse ops) → Lands mid now (reverse ops) b → BodyFor now (record { own = x.own; block = b }) x
 body_stands old mid now x b only ops only_is puts lands code begins = (
@@ -203,6 +209,21 @@ codes_made program code first begun on preds bodies =
       starts = subst (λ l. Stands code l (goal.Ask program.entry [] false ∷ []) Finishes) (sym (ap (λ l. ops_of (slice_get l 1)) blocks))
           (ask program.entry [] false 2 [] [] Finishes (subst (λ l. Stands code l [] Finishes) (sym (ap (λ l. ops_of (slice_get l 2)) blocks)) (finishes [])));
     }
+
+-- so it is for the code of rules and closures that are a program's
+pub made_codes : (p : CoreProgram) (entry : ℕ) (ps : List Pred) (cs : List ClosureBody) (first mid last blocks : List Block) (preds : List (List RuleCode)) (closures : List BodyCode) → p.preds ≡ ps → p.closures ≡ cs → p.entry ≡ entry → first ≡ starting entry → Begins first mid → Begins mid last → PredsFor mid preds ps → BodiesFor last closures cs →
+    blocks ≡ last → Codes p (record { blocks = blocks; preds = preds; closures = closures })
+made_codes p entry ps cs first mid last blocks preds closures is_ps is_cs is_entry begun on further stand bodies is =
+    codes_made p (record { blocks = blocks; preds = preds; closures = closures }) first (begun ∙ ap starting (sym is_entry)) (subst (Begins first) (sym is) (begins_on first mid last on further))
+    (subst (λ (l : List Pred). PredsFor blocks preds l) (sym is_ps) (subst (λ (l : List Block). PredsFor l preds ps) (sym is) (preds_later mid last preds ps further stand)))
+    (subst (λ (l : List ClosureBody). BodiesFor blocks closures l) (sym is_cs) (subst (λ (l : List Block). BodiesFor l closures cs) (sym is) bodies))
+
+pub made_light : (w : Weights) (p : CoreProgram) (entry : ℕ) (ps : List Pred) (cs : List ClosureBody) (first mid last blocks : List Block) (preds : List (List RuleCode)) (closures : List BodyCode) → p.preds ≡ ps → p.closures ≡ cs → p.entry ≡ entry → first ≡ starting entry → blocks_weight w mid ≤ blocks_weight w first + preds_weight w ps →
+    blocks_weight w last ≤ blocks_weight w mid + closures_weight w cs → blocks ≡ last → IsLight w p (record { blocks = blocks; preds = preds; closures = closures })
+made_light w p entry ps cs first mid last blocks preds closures is_ps is_cs is_entry begun rules bodies is =
+    code_light w p (record { blocks = blocks; preds = preds; closures = closures }) first mid (begun ∙ ap starting (sym is_entry))
+    (subst (λ (l : List Pred). blocks_weight w mid ≤ blocks_weight w first + preds_weight w l) (sym is_ps) rules)
+    (subst (λ (l : List ClosureBody). blocks_weight w blocks ≤ blocks_weight w mid + closures_weight w l) (sym is_cs) (subst (λ (l : List Block). blocks_weight w l ≤ blocks_weight w mid + closures_weight w cs) (sym is) bodies))
 
 -- ## Tidy programs
 

@@ -18,7 +18,7 @@ use Rattle.dg_mid.specs.Potential.{begins_goto}
 use Rattle.dg_mid.specs.Codes.{End, Stands, selects, Branches, no_branch, a_branch}
 use Rattle.dg_mid.specs.Tidying.{OpsNeat, BlocksTidy, TailTidy, LevelsTidy, WorkTidy, LandsTidy}
 use Rattle.dg_mid.specs.Writing.{Lands, Leads, ComesTo, Moves, TailFor, BlockFor, Shares, EndsAt, AtBranch, tail_ops, with_goal, with_level}
-use Rattle.dg_mid.specs.Weights.{Weights, branches_of, chooses, ops_weight, blocks_weight, body_weight, lists_weight, levels_weight, work_weight}
+use Rattle.dg_mid.specs.Weights.{Weights, branches_of, chooses, body_weight, lists_weight, levels_weight, work_weight}
 use Rattle.dg_mid.proofs.Weights.{ops_reverse, block_added, op_alone, goal_added, lists_append, level_added, weight_select}
 use Rattle.dg_mid.proofs.WritingLemmas.{tail_neat_later, levels_later, neat_alone, neat_tail, blocks_put}
 use Rattle.dg_mid.proofs.Opening.{tail_weight, tail_stands, tail_later, leads_later, with_leads, block_stands}

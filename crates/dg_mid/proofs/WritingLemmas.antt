@@ -21,7 +21,6 @@ use Rattle.dg_mid.specs.declared.writing.Level.{Level}
 use Rattle.dg_mid.specs.declared.writing.Level.TheVariants as level
 use Rattle.dg_mid.specs.Potential.{begins_goto, begins_return}
 use Rattle.dg_mid.specs.Tidying.{OpNeat, OpsNeat, BlocksTidy, DoesMore, FirstTidy, Neat, IsPlain, TailTidy, IsThere, LevelTidy, LevelsTidy, LandsTidy}
-use Rattle.dg_mid.specs.Weights.{ops_weight, blocks_weight}
 use Rattle.dg_mid.proofs.Weights.{ops_reverse, op_added, op_alone, body_one, weight_ask, weight_query, action_light}
 use Rattle.dg_mid.specs.Writing.{PutsFirst, Lands, tail_ops}
 

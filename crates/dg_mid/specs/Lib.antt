@@ -21,4 +21,5 @@ pub mod Tidying
 pub mod Writing
 pub mod Weights
 pub mod Passing
+pub mod Programs
 pub mod inside

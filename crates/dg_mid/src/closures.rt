@@ -1,5 +1,6 @@
 // Queries of closures, and the code of their bodies.
-ghost use Rattle.std.specs.Prelude.{◌+◌, ◌≤◌, ◌≡◌, [], ◌∷◌, IfOk, OnOk, reverse};
+ghost use Rattle.std.specs.Prelude.{◌+◌, ◌≤◌, ◌≡◌, [], ◌∷◌, IfOk, OnOk, map, reverse};
+ghost use Rattle.dg_base.specs.declared.program.ClosureBody.{ClosureBody as TheClosure};
 ghost use Rattle.dg_base.specs.declared.program.Goal.TheVariants as goal;
 ghost use Rattle.dg_base.specs.Begins.{Begins};
 ghost use Rattle.dg_mid.specs.Tidying.{BlocksTidy};
@@ -47,41 +48,50 @@ impl Writer {
         }
     }
 
-    /// Writes the body of a closure.
-    fn body(&mut self, closure: ClosureBody) -> Result<BodyCode, AllocError>
+    /// Writes the body of a closure; what it captures is answered beside its code.
+    fn body(&mut self, closure: ClosureBody) -> Result<(BodyCode, Items<u16>), AllocError>
         ensures blocks { OnOk result (Begins self.old.blocks self.new.blocks) }
-        ensures stands { IfOk result (λ c. BodyFor self.new.blocks c closure) }
+        ensures stands { IfOk result (λ made. BodyFor self.new.blocks made.0 closure) }
+        ensures captured { IfOk result (λ made. made.1 ≡ closure.captured) }
         ensures neat { OnOk result (BlocksTidy self.old.blocks → BlocksTidy self.new.blocks) }
         ensures light { OnOk result ((w : Weights) →
             blocks_weight w self.new.blocks ≤ blocks_weight w self.old.blocks + closures_weight w (closure ∷ [])) }
     {
         let ClosureBody {
-            captured: _captured,
+            captured,
             own,
             body,
         } = closure;
         let end = one(self.alloc, Op::Return)?;
         let ops = self.write(body, end)?;
         let block = self.finish(ops)?;
-        Ok(BodyCode { own, block })
+        Ok((BodyCode { own, block }, captured))
     }
 
-    /// Writes the bodies of closures.
-    pub fn bodies(&mut self, closures: Items<ClosureBody>) -> Result<Items<BodyCode>, AllocError>
+    /// Writes the bodies of closures; what they capture is answered beside their code.
+    pub fn bodies(
+        &mut self,
+        closures: Items<ClosureBody>,
+    ) -> Result<(Items<BodyCode>, Items<Items<u16>>), AllocError>
         ensures blocks { OnOk result (Begins self.old.blocks self.new.blocks) }
-        ensures stand { IfOk result (λ codes. BodiesFor self.new.blocks codes closures) }
+        ensures stand { IfOk result (λ made. BodiesFor self.new.blocks made.0 closures) }
+        ensures captured { IfOk result (λ made. made.1 ≡ map (λ (closure : TheClosure). closure.captured) closures) }
         ensures neat { OnOk result (BlocksTidy self.old.blocks → BlocksTidy self.new.blocks) }
         ensures light { OnOk result ((w : Weights) →
             blocks_weight w self.new.blocks ≤ blocks_weight w self.old.blocks + closures_weight w closures) }
     {
         let mut closures = closures;
         let mut codes = Vec::new(self.alloc);
+        let mut captured = Vec::new(self.alloc);
         for _turn in 0..u64::MAX {
             let Some(closure) = closures.pop() else {
                 codes.reverse();
-                return Ok(Items::from_vec(codes));
+                captured.reverse();
+                return Ok((Items::from_vec(codes), Items::from_vec(captured)));
             };
-            codes.push(self.body(closure)?)?;
+            let (code, vars) = self.body(closure)?;
+            codes.push(code)?;
+            captured.push(vars)?;
         }
         Err(AllocError)
     }

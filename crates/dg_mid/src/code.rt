@@ -1,7 +1,7 @@
 // The instructions, and what they stand in.
 
 use crate::heads::Head;
-use dg_base::{ArithOp, CompareOp, GapKind, Items, Mode, Name, Term, TestKind};
+use dg_base::{ArithOp, CompareOp, GapKind, Items, Mode, Name, Place, Term, TestKind};
 
 /// What is done at once: a goal with no goals in it that makes no choice.
 #[derive(Drop)]
@@ -124,4 +124,17 @@ pub struct Code {
     pub blocks: Items<Block>,
     pub preds: Items<Items<RuleCode>>,
     pub closures: Items<BodyCode>,
+}
+
+/// The register code of a program, and what else a run takes of the program: its places with what they start with, the names of its objects and
+/// words, the variables that each closure captures, how many selects it has, and the predicate that is asked first.
+#[derive(Drop)]
+pub struct MidProgram {
+    pub code: Code,
+    pub places: Items<Place>,
+    pub objects: Items<Name>,
+    pub words: Items<Name>,
+    pub captured: Items<Items<u16>>,
+    pub sites: u16,
+    pub entry: u16,
 }

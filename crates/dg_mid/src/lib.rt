@@ -13,7 +13,7 @@ mod terms;
 mod writing;
 
 pub use branches::Branching;
-pub use code::{Action, Block, BodyCode, Code, Gathered, Key, Op, RuleCode};
+pub use code::{Action, Block, BodyCode, Code, Gathered, Key, MidProgram, Op, RuleCode};
 pub use heads::{Head, is_plain};
 pub use laws::{
     calls_cut_where_they_go_on, calls_fit_their_rules, code_costs_its_work, code_moves_on,
@@ -22,5 +22,5 @@ pub use laws::{
     singles_leave_no_choice, steps_come_to_a_goal, trails_order_places,
 };
 pub use programs::to_mid;
-pub use release::let_go;
+pub use release::{let_go, let_go_places};
 pub use writing::{Level, Work, Writer};

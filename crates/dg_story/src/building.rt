@@ -4,6 +4,10 @@ ghost use Rattle.dg_base.specs.Sound.{IsSound};
 ghost use Rattle.dg_base.specs.declared.program.ClosureBody.{ClosureBody as TheClosure};
 ghost use Rattle.dg_meaning.specs.Facts.{kinds_of};
 ghost use Rattle.dg_meaning.specs.Few.{AllHoldFew, HeadsAreFew};
+ghost use Rattle.dg_mid.specs.Codes.{Codes};
+ghost use Rattle.dg_mid.specs.Potential.{Tidy};
+ghost use Rattle.dg_mid.specs.Seeking.{BlocksLeave};
+ghost use Rattle.dg_mid.specs.Weights.{IsLight, Weights};
 ghost use Rattle.dg_turn.specs.Layout.{all_words};
 ghost use Rattle.dg_chain.specs.Agrees.{Agrees};
 ghost use Rattle.dg_emit.specs.Code.{CodeFits};
@@ -31,7 +35,7 @@ use crate::world::world_table;
 use dg_base::{ClosureBody, CoreProgram, Items, Pred};
 use dg_core::let_go as let_go_program;
 use dg_emit::{NumberFault, outline_of, routines_alike, sites_of};
-use dg_mid::{Code, let_go, to_mid};
+use dg_mid::{Code, MidProgram, let_go, let_go_places, to_mid};
 use dg_world::World;
 use std::alloc::{AllocError, Global};
 use z_asm::{AsmFault, Table};
@@ -225,6 +229,27 @@ fn with_marks(
     })
 }
 
+// The code of a program, without its tables.
+fn code_of(alloc: Global, program: CoreProgram) -> Result<Code, AllocError>
+    requires { IsSound program }
+    ensures codes { IfOk result (Codes program) }
+    ensures tidy { IfOk result Tidy }
+    ensures leave { IfOk result BlocksLeave }
+    ensures light { IfOk result (λ code. (w : Weights) → IsLight w program code) }
+{
+    let MidProgram {
+        code,
+        places,
+        objects: _objects,
+        words: _words,
+        captured: _captured,
+        sites: _sites,
+        entry: _entry,
+    } = to_mid(alloc, program)?;
+    let_go_places(alloc, places);
+    Ok(code)
+}
+
 // The story of a program that isn't refused.
 fn build_fitting(alloc: Global, program: CoreProgram) -> Result<Built, BuildFault>
     requires sound { IsSound program }
@@ -242,7 +267,7 @@ fn build_fitting(alloc: Global, program: CoreProgram) -> Result<Built, BuildFaul
     let left = left_of(alloc, &program);
     let rules = rule_names(alloc, program.preds.as_slice());
     let rule_routines = rule_count(program.preds.as_slice());
-    let code = to_mid(program, alloc)?;
+    let code = code_of(alloc, program)?;
     let story = match left {
         Ok(left) => story_with(alloc, left, &code),
         Err(_) => Err(BuildFault::OutOfMemory),

@@ -1,9 +1,8 @@
-use Rattle.std.proofs.Common.{◌≡◌, ◌-◌, ◌+◌, ◌<◌, ◌≤◌, refl, sym, subst, arith, length, get_or}
+use Rattle.std.proofs.Common.{◌≡◌, ◌-◌, ◌+◌, ◌<◌, subst, arith, length, get_or}
 use Rattle.dg_meaning.specs.Values.{Nil, leaf, pair}
 use Rattle.dg_unify.specs.Store.{told}
 use Rattle.dg_unify.proofs.StoreLemmas.{holds_some}
 use Rattle.dg_arena.specs.Held.{meaning_of}
-use Rattle.dg_machine.specs.Refs.{Keeps}
 use Rattle.dg_machine.proofs.Kept.{refs_kept}
 use Rattle.dg_machine.proofs.TermLemmas.{refs_get, refs_length}
 use Rattle.dg_machine.proofs.HeadLemmas.{keeps_same, keeps_on}

@@ -1,4 +1,4 @@
-use Rattle.std.proofs.Common.{◌≡◌, ◌+◌, ◌≤◌, List, length, ◌-◌, drop, map}
+use Rattle.std.proofs.Common.{◌+◌, ◌≤◌, List, length, ◌-◌, drop, map}
 use Rattle.dg_base.specs.declared.program.CoreProgram.{CoreProgram}
 use Rattle.dg_meaning.specs.Values.{Value, value_of}
 use Rattle.dg_arena.specs.Held.{meaning_of}

@@ -1,5 +1,4 @@
-use Rattle.std.proofs.Common.{◌≡◌, ◌+◌, ◌≤◌, [], ◌∷◌, refl, sym, ap, ◌∙◌, subst, arith}
-use Rattle.std.specs.Prelude.{Ok}
+use Rattle.std.proofs.Common.{◌≡◌, ◌+◌, [], ◌∷◌, refl, sym, ap, ◌∙◌, subst, arith}
 use Rattle.dg_base.specs.declared.program.Term.{out-Term}
 use Rattle.dg_base.specs.declared.program.Term.TheVariants.{Pair as Pair-Term}
 use Rattle.dg_meaning.specs.Values.{pair, value_of}

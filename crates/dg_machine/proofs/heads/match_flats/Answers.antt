@@ -1,6 +1,5 @@
-use Rattle.std.proofs.Common.{◌≡◌, ◌+◌, ◌≤◌, ap, ◌∙◌, arith}
+use Rattle.std.proofs.Common.{ap, ◌∙◌, arith}
 use Rattle.dg_unify.specs.Store.{State}
-use Rattle.dg_arena.specs.Held.{meaning_of}
 use Rattle.dg_machine.proofs.HeadMatching.{no_program}
 use Rattle.dg_machine.proofs.heads.match_flats.Goals as goal
 

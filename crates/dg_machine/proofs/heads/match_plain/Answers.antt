@@ -1,5 +1,4 @@
-use Rattle.std.proofs.Common.{◌≡◌, sym, subst}
-use Rattle.dg_meaning.specs.Values.{value_of}
+use Rattle.std.proofs.Common.{sym, subst}
 use Rattle.dg_meaning.specs.inside.Unify.{unify}
 use Rattle.dg_unify.specs.Store.{told, Follows}
 use Rattle.dg_arena.specs.Held.{meaning_of}

@@ -1,5 +1,5 @@
-use Rattle.std.proofs.Common.{◌≡◌, ◌+◌, ◌∙◌, Some, ap, subst, arith}
-use Rattle.dg_meaning.specs.Values.{Var, Nil, leaf, value_of_var}
+use Rattle.std.proofs.Common.{◌∙◌, Some, ap, subst}
+use Rattle.dg_meaning.specs.Values.{Nil, leaf, value_of_var}
 use Rattle.dg_meaning.specs.inside.Unify.{unify}
 use Rattle.dg_unify.specs.Store.{told, Follows}
 use Rattle.dg_unify.proofs.StoreLemmas.{told_is, holds_some, holds_told, kept_holds}

@@ -1,7 +1,6 @@
-use Rattle.std.proofs.Common.{◌≡◌, [], ◌∷◌, arith}
+use Rattle.std.proofs.Common.{[], ◌∷◌, arith}
 use Rattle.dg_meaning.specs.Values.{value_of}
 use Rattle.dg_meaning.specs.Cells.{cells}
-use Rattle.dg_unify.specs.Store.{told}
 use Rattle.dg_unify.proofs.StoreLemmas.{holds_some, kept_holds}
 use Rattle.dg_arena.specs.Held.{meaning_of}
 use Rattle.dg_machine.specs.Refs.{Keeps}

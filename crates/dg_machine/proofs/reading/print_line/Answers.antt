@@ -1,4 +1,4 @@
-use Rattle.std.proofs.Common.{refl, sym, ap, ◌∙◌, subst, ◌++◌, ◌∷◌, []}
+use Rattle.std.proofs.Common.{refl, sym, subst}
 use Rattle.std.proofs.lemmas.List.{append-nil}
 use Rattle.dg_base.proofs.WrittenLemmas.{wrote_on, broke_later}
 use Rattle.dg_base.specs.declared.program.GapKind.TheVariants.{Line}

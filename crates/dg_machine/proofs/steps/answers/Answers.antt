@@ -1,6 +1,5 @@
-use Rattle.std.proofs.Common.{rules, arith, ◌≡◌, ◌<◌, ◌≤◌, false, refl}
+use Rattle.std.proofs.Common.{arith, ◌≤◌, refl}
 use Rattle.dg_machine.specs.Measure.{left_of}
-use Rattle.dg_machine.specs.inside.Running.{rests}
 use Rattle.dg_machine.proofs.Runs.{settled_nowhere, settled_on, mark_falls}
 use Rattle.dg_machine.proofs.Turns.{somewhere_marked}
 use Rattle.dg_machine.proofs.steps.answers.Goals as goal

@@ -1,7 +1,6 @@
 use Rattle.std.proofs.Common.{◌≡◌, ◌+◌, ◌-◌, ◌∙◌, refl, subst, arith}
 use Rattle.dg_lasting.specs.Lasting.{MayPick, picks_in}
 use Rattle.dg_lasting.proofs.Picks.{may_fewer}
-use Rattle.dg_machine.specs.declared.now.Now.TheVariants.{Runs}
 use Rattle.dg_machine.specs.inside.Reading.{IsEnd}
 use Rattle.dg_machine.specs.inside.Running.{IsSomewhereAt, Takes}
 use Rattle.dg_machine.proofs.Selects.{may_on, keeps_sites}

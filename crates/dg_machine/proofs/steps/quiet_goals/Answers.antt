@@ -1,4 +1,4 @@
-use Rattle.std.proofs.Common.{◌≡◌, ◌<◌, ◌≤◌, ◌-◌, refl, subst, arith, ◌∙◌}
+use Rattle.std.proofs.Common.{◌-◌, refl, subst, arith, ◌∙◌}
 use Rattle.dg_machine.specs.declared.now.Now.TheVariants.{Runs}
 use Rattle.dg_machine.specs.inside.Reading.{IsEnd}
 use Rattle.dg_machine.specs.inside.Running.{IsSomewhereAt}

@@ -1,4 +1,4 @@
-use Rattle.std.proofs.Common.{◌∷◌, refl, subst, take, drop, length, ◌-◌}
+use Rattle.std.proofs.Common.{subst, take, drop, length, ◌-◌}
 use Rattle.dg_machine.specs.Built.{BeginsQuietly}
 use Rattle.dg_machine.proofs.Goals.{built_first, first_goal}
 use Rattle.dg_machine.proofs.Leaving.{split_list}

@@ -1,4 +1,4 @@
-use Rattle.std.proofs.Common.{◌≡◌, ◌∙◌, ap, List, length, map, replicate}
+use Rattle.std.proofs.Common.{◌∙◌, ap, List, length, map, replicate}
 use Rattle.std.proofs.lemmas.List.{with_items_is}
 use Rattle.std.specs.Vec.{with_items}
 use Rattle.dg_choose.specs.Site.{picks_of}

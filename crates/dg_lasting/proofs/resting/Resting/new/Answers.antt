@@ -1,11 +1,7 @@
-use Rattle.std.proofs.Common.{sym, subst}
-use Rattle.dg_lasting.specs.Lasting.{StartsWorld}
-use Rattle.dg_lasting.proofs.Beginning.{may_begin}
+use Rattle.dg_lasting.proofs.Beginning.{within_so, rests_at_first}
 use Rattle.dg_lasting.proofs.resting.Resting.new.Goals as goal
 
-pub returns-in-Ok-start_world-clause-may : goal.returns-in-Ok-start_world-clause-may
-returns-in-Ok-start_world-clause-may c =
-    let p = c.args.program.now in
-    let l = c.args.limits.now in
-    let starts = subst (StartsWorld p l.keep) (sym c.rest.ensures.start) c.in-Ok-start_world.ensures.starts in
-    may_begin p l _ c.in-Ok.lasting c.in-Ok.ensures.starts c.rest.result starts c.rest.ensures.extent
+pub returns : goal.returns
+returns c p h =
+    rests_at_first p c.args.limits.now c.args.places.now c.args.objects c.args.sites h (record { world = c.in_ok-world.world; start = c.in_ok-start.start; gathered = c.in_ok-gathered.gathered; sites = c.in_ok-sites.sites; row = c.in_ok-row.row })
+    (within_so _ _ c.in_ok-within.within c.in_ok-within.ensures c.if-not-within.false) c.in_ok-world.ensures c.in_ok-start.ensures c.in_ok-gathered.ensures c.in_ok-sites.ensures c.in_ok-row.ensures

@@ -1,5 +1,5 @@
 use Rattle.std.proofs.Common.{◌∙◌, sym, subst}
-use Rattle.dg_machine.specs.Program.{Rests}
+use Rattle.dg_lasting.specs.Resting.{Rests}
 use Rattle.dg_machine.proofs.Resting.{something, nothing, ready_again, if_answered, for_each_program}
 use Rattle.dg_machine.proofs.machine.Machine.run.Goals as goal
 

@@ -1,4 +1,4 @@
-use Rattle.std.proofs.Common.{◌≡◌, sym, ap, length, ◌∙◌, subst}
+use Rattle.std.proofs.Common.{sym, ap, length, ◌∙◌, subst}
 use Rattle.dg_mid.specs.Code.{rules_at}
 use Rattle.dg_machine.specs.Passing.{codes_from}
 use Rattle.dg_machine.proofs.Leaving.{asked_all}

@@ -1,4 +1,4 @@
-use Rattle.std.proofs.Common.{◌≡◌, sym, ap, ◌∙◌, subst, arith, take, drop, length, ◌-◌}
+use Rattle.std.proofs.Common.{sym, ap, ◌∙◌, subst, arith, length}
 use Rattle.dg_mid.specs.Step.{setting, begins}
 use Rattle.dg_machine.specs.Layout.{last_rules}
 use Rattle.dg_machine.specs.Standing.{CallBegins}

@@ -25,7 +25,7 @@ pub join-requires-clause-list : goal.join-requires-clause-list
 join-requires-clause-list c = let some = c.requires.args in holds_some (meaning_of c.args.self.now.arena) c.arg-list.result some.0 (c.arg-list.ensures (some.0 ∷ some.1 ∷ []) some.2)
 
 pub join-requires-clause-words : goal.join-requires-clause-words
-join-requires-clause-words c = subst (All IsSpelled) (sym c.as_slice.ensures.value) c.args.tables.now.spelled
+join-requires-clause-words c = subst (All IsSpelled) (sym c.as_slice.ensures) c.args.tables.now.spelled
 
 pub returns-then-not-join : goal.returns-then-not-join
 returns-then-not-join c code g is_of l m u v at h refs =
@@ -33,7 +33,7 @@ returns-then-not-join c code g is_of l m u v at h refs =
     let s = meaning_of r.arena in
     let o = joined_letters c.as_slice.result.now (value_at s c.arg-list.result) in
     let world = worked (whole_looks (registers_of m) u) (world_of [] m) in
-    let letters = list_letters c.as_slice.result.now g.program s m c.arg-list.result u (c.as_slice.ensures.value ∙ is_of.words) h.0.state_is (c.arg-list.ensures (u ∷ v ∷ []) refs) in
+    let letters = list_letters c.as_slice.result.now g.program s m c.arg-list.result u (c.as_slice.ensures ∙ is_of.words) h.0.state_is (c.arg-list.ensures (u ∷ v ∷ []) refs) in
     let none = none_joined o c.join.new.joined (subst (IsJoined o c.join.new.joined) c.if-not-join.true c.join.ensures) in
     subst (λ x. Stands code l r Fails (done (setting g code l) (joins g x v (registers_of m) world) m)) (sym none ∙ letters) h
 
@@ -52,7 +52,7 @@ returns c code g is_of l m u v at h refs =
     let s = meaning_of r.arena in
     let o = joined_letters c.as_slice.result.now (value_at s c.arg-list.result) in
     let world = worked (whole_looks (registers_of m) u) (world_of [] m) in
-    let letters = list_letters c.as_slice.result.now g.program s m c.arg-list.result u (c.as_slice.ensures.value ∙ is_of.words) h.0.state_is (c.arg-list.ensures (u ∷ v ∷ []) refs) in
+    let letters = list_letters c.as_slice.result.now g.program s m c.arg-list.result u (c.as_slice.ensures ∙ is_of.words) h.0.state_is (c.arg-list.ensures (u ∷ v ∷ []) refs) in
     let was = was_joined o c.join.new.joined (subst (IsJoined o c.join.new.joined) c.if-not-join.false c.join.ensures) in
     let new = c.give_spelled.new.self in
     let now = c.give_spelled.result in

@@ -1,10 +1,9 @@
-use Rattle.std.proofs.Common.{◌≡◌, ◌+◌, map, arith, sym, subst}
+use Rattle.std.proofs.Common.{map, arith, sym, subst}
 use Rattle.std.specs.Prelude.{Ok, Err}
 use Rattle.std.specs.List.{zip}
 use Rattle.dg_meaning.specs.Values.{value_of}
 use Rattle.dg_arena.specs.Held.{meaning_of}
-use Rattle.dg_machine.specs.Refs.{RefsAt, AreRefs}
-use Rattle.dg_machine.specs.Layout.{heap_in}
+use Rattle.dg_machine.specs.Refs.{RefsAt}
 use Rattle.dg_machine.proofs.Matching.{matched_at, room_grown}
 use Rattle.dg_machine.proofs.HeadMatching.{no_program}
 use Rattle.dg_machine.proofs.memory.Memory.match_head.Goals as goal

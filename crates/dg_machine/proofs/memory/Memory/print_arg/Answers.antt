@@ -26,4 +26,4 @@ returns-clause-printed g c code l m p v is h refs =
     let s = meaning_of c.args.self.now.arena in
     let value = ap (resolved s.state.subst) (told_is s c.arg-value.result v (c.arg-value.ensures (v ∷ []) refs)) ∙ ap (λ (t : State). resolved t.subst v) h.0.state_is in
     printed_as (pieces p (value_at s c.arg-value.result)) (pieces p (resolved m.state.subst v)) c.args.spacer.now c.print_value.new.spacer (g.K.Sink.view c.args.sink.now) (g.K.Sink.view c.print_value.new.sink) c.print_value.result (sym (ap (pieces p) value))
-    (c.print_value.ensures.printed p (sym is.words ∙ sym c.as_slice-words.ensures.value) (sym is.objects ∙ sym c.as_slice-objects.ensures.value))
+    (c.print_value.ensures.printed p (sym is.words ∙ sym c.as_slice-words.ensures) (sym is.objects ∙ sym c.as_slice-objects.ensures))

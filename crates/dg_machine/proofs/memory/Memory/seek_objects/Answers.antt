@@ -1,4 +1,4 @@
-use Rattle.std.proofs.Common.{◌≡◌, length, sym, ap, subst, arith}
+use Rattle.std.proofs.Common.{◌≡◌, length, sym, ap, subst}
 use Rattle.dg_meaning.specs.Moves.{looked_up}
 use Rattle.dg_meaning.specs.Substitutions.{walk}
 use Rattle.dg_unify.specs.Store.{State}
@@ -27,7 +27,7 @@ returns-in-Open c code g is_of l m vs may at h refs w =
     let x = first_shows s m.state.subst r.args.items vs c.in-Some.first (ap (λ (t : State). t.subst) h.0.state_is) refs c.in-Some.ensures in
     let is = subst (IsSubject (walk m.state.subst x.first)) c.in-Open.is (c.subject_of.ensures s (walk m.state.subst x.first) x.shows) in
     let t = c.args.tables.now in
-    let count : c.len-end.result ≡ length t.objects.items = let n = c.len-end.ensures in omega (arith, n, t.objects.ok.0) in
+    let count : c.len-end.result ≡ length t.objects = c.len-end.ensures in
     subst (Stands code l (with_way r (Tries k 0 c.len-end.result)) Resumes) (sym (sought_open code g l m k.place vs k.many k.next x.first x.others x.is is))
     (tries_all code g l m t k c.len-end.result vs r is_of count refs h)
 

@@ -27,14 +27,14 @@ pub spelling_of-requires-clause-shown : goal.spelling_of-requires-clause-shown
 spelling_of-requires-clause-shown c = (walked_to (meaning_of c.args.self.now.arena) c.arg-word.result, c.walk.ensures)
 
 pub spelling_of-requires-clause-words : goal.spelling_of-requires-clause-words
-spelling_of-requires-clause-words c = subst (All IsSpelled) (sym c.as_slice-words.ensures.value) c.args.tables.now.spelled
+spelling_of-requires-clause-words c = subst (All IsSpelled) (sym c.as_slice-words.ensures) c.args.tables.now.spelled
 
 pub returns-in-None : goal.returns-in-None
 returns-in-None c code g is_of l m u v at h refs =
     let r = c.args.self.now in
     let s = meaning_of r.arena in
     let world = worked (looked_up (registers_of m) u) (world_of [] m) in
-    let letters = word_letters c.as_slice-words.result.now g.program s m c.arg-word.result u (c.as_slice-words.ensures.value ∙ is_of.words) h.0.state_is (c.arg-word.ensures (u ∷ v ∷ []) refs) in
+    let letters = word_letters c.as_slice-words.result.now g.program s m c.arg-word.result u (c.as_slice-words.ensures ∙ is_of.words) h.0.state_is (c.arg-word.ensures (u ∷ v ∷ []) refs) in
     let none = none_seen (letters_in_word c.as_slice-words.result.now (walked_to s c.arg-word.result)) (c.in-None.ensures.spelled (walked_to s c.arg-word.result) c.walk.ensures) in
     subst (λ o. Stands code l r Fails (done (setting g code l) (splits g o v (registers_of m) world) m)) (sym none ∙ letters) h
 
@@ -54,7 +54,7 @@ returns-in-Some c code g is_of l m u v at h refs =
     let w = walked_to s c.arg-word.result in
     let ws = c.as_slice-words.result.now in
     let world = worked (looked_up (registers_of m) u) (world_of [] m) in
-    let letters = word_letters ws g.program s m c.arg-word.result u (c.as_slice-words.ensures.value ∙ is_of.words) h.0.state_is (c.arg-word.ensures (u ∷ v ∷ []) refs) in
+    let letters = word_letters ws g.program s m c.arg-word.result u (c.as_slice-words.ensures ∙ is_of.words) h.0.state_is (c.arg-word.ensures (u ∷ v ∷ []) refs) in
     let seen = some_seen (letters_in_word ws w) c.in-Some.spelling.now (c.in-Some.ensures.spelled w c.walk.ensures) in
     let small = seen_small (letters_in_word ws w) seen.letters seen.is (c.in-Some.ensures.small w c.walk.ensures) in
     let new = c.give_letters.new.self in

@@ -3,5 +3,5 @@ use Rattle.dg_mid.proofs.writing.Writer.bodies.Goals as goal
 
 pub loop-turn-preserved : goal.loop-turn-preserved
 loop-turn-preserved c =
-    bodies_more c.args.self.now.blocks c.loop-turn.self.blocks c.body.new.self.blocks c.args.closures c.loop-turn.closures c.pop.new.self c.in-Some.closure c.loop-turn.codes.items c.push.new.self.items c.in_ok-body.field-0 c.loop-turn.invariant c.in-Some.ensures c.in_ok-body.ensures.blocks
-    c.in_ok-body.ensures.neat c.in_ok-body.ensures.light c.in_ok-body.ensures.stands c.in_ok-push.ensures.items
+    bodies_more c.args.self.now.blocks c.loop-turn.self.blocks c.body.new.self.blocks c.args.closures c.loop-turn.closures c.pop.new.self c.in-Some.closure c.loop-turn.codes.items _ _ c.loop-turn.captured.items _ _ c.loop-turn.invariant c.in-Some.ensures c.in_ok-code.ensures.blocks
+    c.in_ok-code.ensures.neat c.in_ok-code.ensures.light c.in_ok-code.ensures.stands c.in_ok-push.ensures.items c.in_ok-code.ensures.captured c.in_ok-push-2.ensures.items
