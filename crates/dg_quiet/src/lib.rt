@@ -2,6 +2,8 @@
 #![tactic(auto)]
 
 mod asks;
+mod laws;
 mod set;
 
-pub use set::quiet_preds;
+pub use laws::{quiet_searches_change_nothing, second_runs_change_one_fact};
+pub use set::{have_quiet_bodies, quiet_preds};

@@ -2,7 +2,8 @@
 ghost use Rattle.std.specs.Prelude.{IfOk, OnOk, ◌≡◌, ◌+◌, length, [], true, replicate, List, Bool, ℕ, Some, slice_get};
 ghost use Rattle.dg_base.specs.declared.program.Pred.{Pred as ThePred};
 ghost use Rattle.dg_meaning.specs.Sets.{is_in_set};
-ghost use Rattle.dg_meaning.specs.Quiet.{AreQuiet};
+ghost use Rattle.dg_meaning.specs.Quiet.{AreQuiet, have_quiet_bodies as spec_quiet_bodies};
+ghost use Rattle.dg_quiet.specs.inside.Left.{asks_in};
 ghost use Rattle.dg_quiet.specs.inside.Spread.{rows_of, row_at, AddedTo, TookOut, TookAllOut, IsNoted, IsSorted, IsSpread};
 
 use crate::asks::asks_of;
@@ -183,4 +184,26 @@ pub fn quiet_preds(
     sieve.sort_all(alloc, &mut askers, preds, changing)?;
     sieve.follow(askers.as_slice())?;
     Ok(sieve.set)
+}
+
+// Whether all of these are in a set.
+fn are_in(set: &[bool], preds: &[u16]) -> bool
+    ensures { result ≡ asks_in set.now preds.now }
+{
+    for pred in preds {
+        if !is_in(set, usize::from(*pred)) {
+            return false;
+        }
+    }
+    true
+}
+
+/// Whether the bodies of these rules are quiet, where these predicates are. Errs where memory runs out.
+pub fn have_quiet_bodies(alloc: Global, rules: &[Rule], quiet: &[bool]) -> Result<bool, AllocError>
+    ensures { IfOk result (λ are. are ≡ spec_quiet_bodies quiet.now rules.now) }
+{
+    match asks_of(alloc, rules)? {
+        Some(asks) => Ok(are_in(quiet, asks.as_slice())),
+        None => Ok(false),
+    }
 }
