@@ -1,5 +1,5 @@
 -- A goal whose terms are written has done something to what lasts.
-use Rattle.std.proofs.Common.{◌≡◌, ℕ, ◌+◌, List, [], refl, sym, subst}
+use Rattle.std.proofs.Common.{◌≡◌, ℕ, ◌+◌, List, [], refl, sym, subst, arith}
 use Rattle.std.specs.declared.vec.Vec.{Vec}
 use Rattle.std.specs.declared.alloc.Global.{Global}
 use Rattle.dg_base.specs.declared.program.Goal.{Goal, out-Goal}
@@ -20,7 +20,7 @@ use Rattle.dg_lasting.specs.declared.lasting.Lasting.{Lasting}
 use Rattle.dg_lasting.specs.Lasting.{picks_in, InWorld, MayPick}
 use Rattle.dg_interp.specs.inside.Engine.{store_in, KeepsPlaces, steps_of, There, IsReady, TakesAt, StandsAt, FailsAt, Adds, Then, Silent}
 use Rattle.dg_interp.proofs.Takes.{behind, taken_in, store_ready}
-use Rattle.dg_interp.proofs.Giving.{steps_kept, written_agrees}
+use Rattle.dg_interp.proofs.Giving.{steps_kept, written_agrees, written_peak}
 
 module _ (x : Goal) (ts : List Term) (held : terms_held (out-Goal x) ≡ ts) (old : Engine) (out : Lasting) (store : ListBindings) (stack : Vec Ref Global) (ready : IsReady old) (k : Kept (store_in old.store) (store_in store)) (saved : (ms : List Saved) → KeepsPlaces old.store ms → KeepsPlaces store ms)
     (grew : (program : CoreProgram) → old.program.now ≡ program → (store_in store).state ≡ record (store_in old.store).state { heap = (store_in old.store).state.heap + cells program ts }) where
@@ -45,8 +45,8 @@ module _ (x : Goal) (ts : List Term) (held : terms_held (out-Goal x) ≡ ts) (ol
     abbrev pub v : World
     v = taken_in x old g n w run st
 
-    abbrev there : (u : World) → InWorld out g u → There acted_to (old.newest + 1) g u
-    there u world = record {
+    abbrev there : (u : World) → InWorld out g u → u.meters.heap ≡ v.meters.heap → There acted_to (old.newest + 1) g u
+    there u world reached = record {
       inside = record {
         program = st.at.inside.program;
         entries = st.at.inside.entries;
@@ -56,6 +56,7 @@ module _ (x : Goal) (ts : List Term) (held : terms_held (out-Goal x) ≡ ts) (ol
         keeps = saved st.at.inside.saved st.at.inside.keeps;
         choices = st.at.inside.choices;
         world = world;
+        peak = omega (arith, reached, written_peak x ts held old store stack ready k saved grew g n w run st);
       };
       ways = st.at.ways;
       ways_are = st.at.ways_are;
@@ -69,17 +70,17 @@ module _ (x : Goal) (ts : List Term) (held : terms_held (out-Goal x) ≡ ts) (ol
     adds_to u same typed = record { events_are = same; typed = typed }
 
     -- it goes on behind itself, in another world
-    pub acted_on : (u : World) → u.events ≡ v.events → u.typed ≡ w.typed → InWorld out g u → Went g st.at.inside.lives st.at.ways n (GoesOn (path_of (steps_of old) r) u) run → Then [] w (λ z. StandsAt acted_to g n z run)
-    acted_on u same typed world went = record {
+    pub acted_on : (u : World) → u.events ≡ v.events → u.typed ≡ w.typed → InWorld out g u → u.meters.heap ≡ v.meters.heap → Went g st.at.inside.lives st.at.ways n (GoesOn (path_of (steps_of old) r) u) run → Then [] w (λ z. StandsAt acted_to g n z run)
+    acted_on u same typed world reached went = record {
       world = u;
       adds = adds_to u same typed;
-      holds = record { at = there u world; stands = subst (λ s. Stands g st.at.inside.lives st.at.ways (path_of s r) n u run) (sym (steps_kept old store stack ready k saved)) went };
+      holds = record { at = there u world reached; stands = subst (λ s. Stands g st.at.inside.lives st.at.ways (path_of s r) n u run) (sym (steps_kept old store stack ready k saved)) went };
     }
 
     -- it fails
-    pub acted_not : (u : World) → u.events ≡ v.events → u.typed ≡ w.typed → InWorld out g u → Went g st.at.inside.lives st.at.ways n (FailsAtMove u) run → Then [] w (λ z. FailsAt acted_to g n z run)
-    acted_not u same typed world went = record {
+    pub acted_not : (u : World) → u.events ≡ v.events → u.typed ≡ w.typed → InWorld out g u → u.meters.heap ≡ v.meters.heap → Went g st.at.inside.lives st.at.ways n (FailsAtMove u) run → Then [] w (λ z. FailsAt acted_to g n z run)
+    acted_not u same typed world reached went = record {
       world = u;
       adds = adds_to u same typed;
-      holds = record { inside = (there u world).inside; failed = went };
+      holds = record { inside = (there u world reached).inside; failed = went };
     }

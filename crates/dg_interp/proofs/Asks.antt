@@ -46,7 +46,7 @@ use Rattle.dg_interp.proofs.Stores.{values_kept, hold_front, appended_stretch}
 use Rattle.dg_interp.proofs.Kept.{back_limits}
 use Rattle.dg_interp.proofs.Grown.{grown_front, grown_longer, grown_values, grown_hold, grown_back, grown_base, grown_choices}
 use Rattle.dg_interp.proofs.Places.{open_still}
-use Rattle.dg_interp.proofs.Takes.{behind, taken_in, comes_of, terms_full}
+use Rattle.dg_interp.proofs.Takes.{behind, taken_in, comes_of, terms_full, peak_taken}
 use Rattle.dg_interp.proofs.Turns.{all_first, all_rest}
 
 -- the rules of a runnable program
@@ -131,6 +131,18 @@ module _ (old : Engine) (query : Query) (terms : List Term) (store1 : ListBindin
   abbrev asked_in : (g : Game) (n : ℕ) (w : World) (run : Run) → from g n w run → World
   asked_in g n w run st = noted (Asked query.pred) (looked_in g n w run st)
 
+  agrees_written : (g : Game) (n : ℕ) (w : World) (run : Run) (st : from g n w run) → Agrees s1 (r_of g n w run st)
+  agrees_written g n w run st =
+      let here = (written g.program st.at.inside.program).written.charged.state in
+      let form : cells g.program (terms_held (out-Goal x)) ≡ cells g.program terms = ap (λ f. cells g.program (terms_held f)) (outs-Ask query.pred terms query.many) in
+      record {
+        bound = st.at.agrees.bound ∙ ap (λ (t : State). t.subst) (sym here);
+        vars = st.at.agrees.vars ∙ ap (λ (t : State). t.vars) (sym here);
+        heap = omega (arith, st.at.agrees.heap, form, ap (λ (t : State). t.heap) here);
+        trail = omega (arith, st.at.agrees.trail, ap (λ (t : State). t.trail) here);
+        since = omega (arith, st.at.agrees.since, ap (λ (t : State). t.since) here, ap (λ (t : State). t.vars) here);
+      }
+
   adds_asked : (g : Game) (n : ℕ) (w : World) (run : Run) (st : from g n w run) → Adds (Asked query.pred ∷ []) w (asked_in g n w run st)
   adds_asked g n w run st = record { events_are = refl; typed = refl }
 
@@ -184,6 +196,7 @@ module _ (old : Engine) (query : Query) (terms : List Term) (store1 : ListBindin
               keeps = saved1 st.at.inside.saved st.at.inside.keeps;
               choices = choices_now g st.at.inside.saved st.at.inside.entries st.at.inside.choices;
               world = st.at.inside.world;
+              peak = peak_taken x old store1 g n w run st (agrees_written g n w run st) (omega (arith, st.at.inside.peak, k1.heap_limit));
             };
             failed = asked [] (sym none ∙ are) g n w run st;
           };
@@ -251,13 +264,12 @@ module _ (old : Engine) (query : Query) (terms : List Term) (store1 : ListBindin
 
       agrees_now : (g : Game) (n : ℕ) (w : World) (run : Run) (st : from g n w run) → Agrees s2 (r_of g n w run st)
       agrees_now g n w run st =
-          let here = (written g.program st.at.inside.program).written.charged.state in
-          let form : cells g.program (terms_held (out-Goal x)) ≡ cells g.program terms = ap (λ f. cells g.program (terms_held f)) (outs-Ask query.pred terms query.many) in
+          let a = agrees_written g n w run st in
           record {
-            bound = st.at.agrees.bound ∙ ap (λ (t : State). t.subst) (sym (state2 ∙ ap marked here));
-            vars = st.at.agrees.vars ∙ ap (λ (t : State). t.vars) (sym (state2 ∙ ap marked here));
-            heap = omega (arith, st.at.agrees.heap, form, ap (λ (t : State). t.heap) (state2 ∙ ap marked here));
-            trail = omega (arith, st.at.agrees.trail, ap (λ (t : State). t.trail) (state2 ∙ ap marked here));
+            bound = a.bound ∙ ap (λ (t : State). t.subst) (sym state2);
+            vars = a.vars ∙ ap (λ (t : State). t.vars) (sym state2);
+            heap = a.heap ∙ ap (λ (t : State). t.heap) (sym state2);
+            trail = omega (arith, a.trail, ap (λ (t : State). t.trail) state2);
             since = omega (arith, ap (λ (t : State). t.since) state2, ap (λ (t : State). t.vars) state2);
           }
 
@@ -279,6 +291,7 @@ module _ (old : Engine) (query : Query) (terms : List Term) (store1 : ListBindin
                   choices = subst (λ l. AreChoices g ys l os st.at.inside.saved st.at.inside.entries) (sym pushed_on)
                       (choices_same g ys ys fs gs (length fs) (length ys) old.newest os st.at.inside.saved st.at.inside.entries refl (same_append fs old.here) failing_sound.base.choices (choices_now g st.at.inside.saved st.at.inside.entries st.at.inside.choices));
                   world = st.at.inside.world;
+                  peak = peak_taken x old store2 g n w run st (agrees_now g n w run st) (omega (arith, st.at.inside.peak, k1.heap_limit, k2.heap_limit));
                 };
                 ways = st.at.ways;
                 ways_are = st.at.ways_are;

@@ -32,6 +32,7 @@ use Rattle.dg_interp.specs.inside.Engine.{store_in, KeepsPlaces, HasPlace, Point
 use Rattle.dg_interp.proofs.Links.{same_here, at_same}
 use Rattle.dg_interp.proofs.Kept.{cells_same}
 use Rattle.dg_interp.proofs.Begun.{begun_values, begun_sound, begun_stands}
+use Rattle.dg_interp.proofs.Places.{peak_begun}
 
 -- ## The branches that are left begin with a frame
 
@@ -131,7 +132,7 @@ module _ (old : Engine) (frame : Frame) (others : Left) (b : Bool) (place : Plac
             record {
               world = v;
               adds = record { events_are = refl; typed = refl };
-              holds = begun_stands old others b place store1 old.refs old.made choices sound left plain same_b has k1 saved1 [] no_refs none_held kept all with.kind g n w run st frame v (inside heap r) st.at.inside.world (agrees_now r st.at.agrees) (ap (λ i. i + 1) st.at.tag) refl
+              holds = begun_stands old others b place store1 old.refs old.made choices sound left plain same_b has k1 saved1 [] no_refs none_held kept all with.kind g n w run st frame v (inside heap r) st.at.inside.world (peak_begun store1 (inside heap r) with.work w (agrees_now r st.at.agrees) (omega (arith, st.at.inside.peak, k1.heap_limit))) (agrees_now r st.at.agrees) (ap (λ i. i + 1) st.at.tag) refl
                   (subst (λ l. Stands g (lives_now g r st.at.inside.lives st.at.ways) st.at.ways (path_of l (inside heap r)) n v run) (sym same) (stands g n w run st));
             };
       }

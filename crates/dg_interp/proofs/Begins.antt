@@ -43,7 +43,7 @@ use Rattle.dg_interp.specs.inside.Rules.{rule_cells, matched_in, EntersRule, Rul
 use Rattle.dg_interp.specs.inside.Frames.{values_in, frame_steps, steps_behind, steps_at, kind_of, branches_of, IsFrame, IsLeft}
 use Rattle.dg_interp.specs.inside.Engine.{store_in, KeepsPlaces, HasPlace, Point, IsSound, BeginsAt, FullAt, Adds, Silent, WentOn, WentWrong, kept_if, open_in}
 use Rattle.dg_unify.specs.inside.Engines.{Agrees}
-use Rattle.dg_interp.proofs.Places.{silent}
+use Rattle.dg_interp.proofs.Places.{silent, peak_begun, agrees_inside}
 use Rattle.dg_interp.proofs.Links.{SameBy, same_here, behind_same}
 use Rattle.dg_unify.proofs.StoreLemmas.{kept_on}
 use Rattle.dg_interp.proofs.Stores.{values_kept, hold_front, appended_stretch, values_count, trail_append, trail_older, made_is}
@@ -295,6 +295,7 @@ module _ (old : Engine) (query : Query) (args : Env) (rules others : Bor (List R
               world = begun (behind_of g r) work w;
               adds = adds_begun (behind_of g r) work w;
               holds = begun_fails old (Rules query args others) true place store2 refs2 made2 choices sound others_fit tt refl has k12 saved12 ends.appended.made ends.appended.is ends.appended.hold kept (Rules query args rules) refl g n w run st old.here (begun (behind_of g r) work w) st.at.inside.world
+                  (peak_begun store2 (behind_of g r) work w (rule_agrees g rule the_args heap s s1 s2 r st.at.agrees sub charged xs ys found (does g st.at.inside.program)) (omega (arith, st.at.inside.peak, k12.heap_limit)))
                   (subst (λ b. Began g (lives_now g r st.at.inside.lives st.at.ways) st.at.ways (enter_if b (path_of (rule_steps query.pred query.many (vars_of rule r) r.next_tag rule steps) (behind_of g r)) work) n w run) none (begins g n w run st));
             };
       }
@@ -338,11 +339,12 @@ module _ (old : Engine) (query : Query) (args : Env) (rules others : Bor (List R
               let yes' : (match g the_args rule r).agrees ≡ true = sym (rule_found g rule the_args heap s s1 s2 r st.at.agrees sub charged xs ys found (does g st.at.inside.program)) ∙ is in
               let work = entering g the_args rule r in
               let s' = behind_of g r in
+              let agrees = rule_agrees g rule the_args heap s s1 s2 r st.at.agrees sub charged xs ys found (does g st.at.inside.program) in
               record {
                 world = begun s' work w;
                 adds = adds_begun s' work w;
-                holds = begun_stands old (Rules query args others) true place store2 refs2 made2 choices sound others_fit tt refl has k12 saved12 ends.appended.made ends.appended.is ends.appended.hold kept (Rules query args rules) refl g n w run st here (begun s' work w) s' st.at.inside.world
-                    (rule_agrees g rule the_args heap s s1 s2 r st.at.agrees sub charged xs ys found (does g st.at.inside.program)) (ap (λ i. i + 1) st.at.tag) refl
+                holds = begun_stands old (Rules query args others) true place store2 refs2 made2 choices sound others_fit tt refl has k12 saved12 ends.appended.made ends.appended.is ends.appended.hold kept (Rules query args rules) refl g n w run st here (begun s' work w) s' st.at.inside.world (peak_begun store2 s' work w agrees (omega (arith, st.at.inside.peak, k12.heap_limit)))
+                    agrees (ap (λ i. i + 1) st.at.tag) refl
                     (subst (λ l. Stands g (lives_now g r st.at.inside.lives st.at.ways) st.at.ways (path_of l s') n (begun s' work w) run) (sym (same_steps g r st.at.inside.program st.at.agrees st.at.tag))
                     (subst (λ b. Began g (lives_now g r st.at.inside.lives st.at.ways) st.at.ways (enter_if b (path_of (rule_steps query.pred query.many (vars_of rule r) r.next_tag rule steps) s') work) n w run) yes' (begins g n w run st)));
               };
@@ -374,11 +376,12 @@ module _ (old : Engine) (left : Left) (frame : Frame) (place : Place) (sound : I
                 keeps = saves_drops true (fields_of old.store) st.back st.at.inside.saved st.is.keeps;
                 choices = st.at.inside.choices;
                 world = st.at.inside.world;
+                peak = peak_begun old.store (inside 0 r) 0 w (agrees_inside old.store r st.at.agrees) st.at.inside.peak;
               };
               ways = st.at.ways;
               ways_are = st.at.ways_are;
               registers = inside 0 r;
-              agrees = record { bound = st.at.agrees.bound; vars = st.at.agrees.vars; heap = omega (arith, st.at.agrees.heap); trail = st.at.agrees.trail; since = st.at.agrees.since };
+              agrees = agrees_inside old.store r st.at.agrees;
               tag = ap (λ k. k + 1) st.at.tag;
               stop = st.at.stop;
             };

@@ -111,8 +111,8 @@ module _ (old : Engine) (left : Left) (b : Bool) (place : Place) (store1 : ListB
     pub stays_so : b ≡ stays (kind_of all) others
     stays_so = same_b ∙ sym (branches_stay g (values_in s xs) fs (length fs) left r) ∙ ap (λ q. stays q others) kind
 
-    abbrev inside_begun : (v : World) → InWorld old.lasting g v → Within old.program.now old.lasting store1 ys fs (reverse choices.items) g v
-    inside_begun v world = record {
+    abbrev inside_begun : (v : World) → InWorld old.lasting g v → v.meters.heap ≤ s1.heap_limit → Within old.program.now old.lasting store1 ys fs (reverse choices.items) g v
+    inside_begun v world peak = record {
       program = st.at.inside.program;
       entries = kept_if b begun_live st.at.inside.entries;
       lives = pushed begun_live st.at.inside.lives;
@@ -123,12 +123,13 @@ module _ (old : Engine) (left : Left) (b : Bool) (place : Place) (store1 : ListB
           (choices_same g xs ys fs fs (length fs) (length xs) old.newest (kept_if b o os) (kept_if b st.back st.at.inside.saved) (kept_if b begun_live st.at.inside.entries) front (same_here (length fs) fs) stand
           (kept_choices g xs fs o os (open_in old) st.back st.at.inside.saved st.at.inside.entries r (kind_of all) st.at.ways others b (branches_open g (values_in s xs) fs (length fs) left r (open_in old) plain) are (sym kind) st.at.tag st.at.stop st.at.ways_are st.back_agrees (hold_front st.back.store xs st.is.hold) st.is.place_is st.at.inside.choices));
       world = world;
+      peak = peak;
     }
 
     -- the engine is there then
-    abbrev pub begun_there : (here : Frame) (v : World) (r' : Registers) → InWorld old.lasting g v → Agrees s1 r' → r'.next_tag ≡ old.newest + 1 → r'.stoppable ≡ r.stoppable → There (begun_engine here) (old.newest + 1) g v
-    begun_there here v r' world agrees tag part = record {
-      inside = inside_begun v world;
+    abbrev pub begun_there : (here : Frame) (v : World) (r' : Registers) → InWorld old.lasting g v → v.meters.heap ≤ s1.heap_limit → Agrees s1 r' → r'.next_tag ≡ old.newest + 1 → r'.stoppable ≡ r.stoppable → There (begun_engine here) (old.newest + 1) g v
+    begun_there here v r' world peak agrees tag part = record {
+      inside = inside_begun v world peak;
       ways = st.at.ways;
       ways_are = st.at.ways_are ∙ kept_ways b o os begun_live st.at.inside.entries plain ∙ ap (λ l. ways_of l (kept_if b begun_live st.at.inside.entries)) (sym kept);
       registers = r';
@@ -138,9 +139,9 @@ module _ (old : Engine) (left : Left) (b : Bool) (place : Place) (store1 : ListB
     }
 
     -- the run comes from where it is
-    pub begun_stands : (here : Frame) (v : World) (r' : Registers) → InWorld old.lasting g v → Agrees s1 r' → r'.next_tag ≡ old.newest + 1 → r'.stoppable ≡ r.stoppable → Stands g (pushed begun_live st.at.inside.lives) st.at.ways (path_of (steps_of (begun_engine here)) r') n v run → StandsAt (begun_engine here) g n v run
-    begun_stands here v r' world agrees tag part stands = record { at = begun_there here v r' world agrees tag part; stands = stands }
+    pub begun_stands : (here : Frame) (v : World) (r' : Registers) → InWorld old.lasting g v → v.meters.heap ≤ s1.heap_limit → Agrees s1 r' → r'.next_tag ≡ old.newest + 1 → r'.stoppable ≡ r.stoppable → Stands g (pushed begun_live st.at.inside.lives) st.at.ways (path_of (steps_of (begun_engine here)) r') n v run → StandsAt (begun_engine here) g n v run
+    begun_stands here v r' world peak agrees tag part stands = record { at = begun_there here v r' world peak agrees tag part; stands = stands }
 
     -- or from its failure
-    pub begun_fails : (here : Frame) (v : World) → InWorld old.lasting g v → Failed g (pushed begun_live st.at.inside.lives) n v run → FailsAt (begun_engine here) g n v run
-    begun_fails here v world failed = record { inside = inside_begun v world; failed = failed }
+    pub begun_fails : (here : Frame) (v : World) → InWorld old.lasting g v → v.meters.heap ≤ s1.heap_limit → Failed g (pushed begun_live st.at.inside.lives) n v run → FailsAt (begun_engine here) g n v run
+    begun_fails here v world peak failed = record { inside = inside_begun v world peak; failed = failed }

@@ -33,12 +33,12 @@ use Rattle.dg_choices.specs.declared.frames.Left.{Left}
 use Rattle.dg_choices.specs.declared.frames.Left.TheVariants.{Rules, Lists, Ways, Way as OneWay, Behind, TakeOut, Things}
 use Rattle.dg_lasting.specs.declared.lasting.Lasting.{Lasting}
 use Rattle.dg_lasting.specs.Lasting.{InWorld, MayPick, Closes, picks_in}
-use Rattle.dg_interp.specs.inside.Engine.{store_in, KeepsPlaces, open_in, HasPlaces, Sound, Within, HasPlace, IsPlace, Retries, Point, IsSound, StandsAt, FailsAt, BeginsAt, events_of, again_rules, again, Adds, Then, LeadsBy, Leads, FullAt, SameLimits, Silent, Tells, WentOn, WentWrong, HasEndedSo, AtGoal, Branches, GoesBack, Tries, branches_left}
+use Rattle.dg_interp.specs.inside.Engine.{store_in, KeepsPlaces, open_in, HasPlaces, Sound, Within, HasPlace, IsPlace, Retries, Point, IsSound, StandsAt, FailsAt, BeginsAt, events_of, again_rules, again, Adds, Then, LeadsBy, Leads, FullAt, SameLimits, Silent, Tells, WentOn, WentWrong, EndsAt, HasEndedSo, AtGoal, Branches, GoesBack, Tries, branches_left}
 use Rattle.dg_interp.proofs.Links.{SameBy, same_take, branches_same, frames_take, stand_raise, stand_same, choices_same, back_same, cut_gone, cut_fewer}
 use Rattle.dg_unify.proofs.StoreLemmas.{all_hold}
 use Rattle.dg_interp.proofs.Stores.{values_kept, take_all}
 use Rattle.dg_interp.proofs.Kept.{back_limits, tried_inside}
-use Rattle.dg_interp.proofs.Places.{went_further, went_wrong, cut_base, cut_inside, adds_nothing, open_still, world_tried, adds_on, adds_drops, tried_events, adds_tried, leads_by, leads_then, silent_on, tells_on}
+use Rattle.dg_interp.proofs.Places.{peak_drops, peak_tried, went_further, went_wrong, cut_base, cut_inside, adds_nothing, open_still, world_tried, adds_on, adds_drops, tried_events, adds_tried, leads_by, leads_then, silent_on, tells_on}
 use Rattle.dg_interp.proofs.Turns.{reverse_pop}
 
 -- ## What a choice takes out
@@ -115,13 +115,13 @@ module _ (old : Engine) (o : Choice) (choices : Vec Choice Global) (sound : IsSo
     abbrev dropped : Engine
     dropped = record old { choices = rest }
 
-    from_part : (g : Game) (n : ℕ) (w : World) (run : Run) (program : old.program.now ≡ g.program) (world : InWorld old.lasting g w) (ms : List Saved) (es : List Live) (ls : List Live) → KeepsPlaces old.store ms → AreChoices g xs fs (o ∷ os) ms es → ls ≡ lives_of (o ∷ os) es → Failed g ls n w run → FailsAt dropped g n w run
-    from_part g n w run program world ms [] ls k h e f = absurd (no_lives g ms h) where
+    from_part : (g : Game) (n : ℕ) (w : World) (run : Run) (program : old.program.now ≡ g.program) (world : InWorld old.lasting g w) (peak : w.meters.heap ≤ (store_in old.store).heap_limit) (ms : List Saved) (es : List Live) (ls : List Live) → KeepsPlaces old.store ms → AreChoices g xs fs (o ∷ os) ms es → ls ≡ lives_of (o ∷ os) es → Failed g ls n w run → FailsAt dropped g n w run
+    from_part g n w run program world peak ms [] ls k h e f = absurd (no_lives g ms h) where
       no_lives : (g : Game) (ms : List Saved) → AreChoices g xs fs (o ∷ os) ms [] → ⊥
       no_lives g [] h = h
       no_lives g (m ∷ ms) h = h
-    from_part g n w run program world [] (c ∷ cs) ls k h e f = absurd h
-    from_part g n w run program world (m ∷ ms) (c ∷ cs) ls k h e f =
+    from_part g n w run program world peak [] (c ∷ cs) ls k h e f = absurd h
+    from_part g n w run program world peak (m ∷ ms) (c ∷ cs) ls k h e f =
         let before : Within old.program.now old.lasting old.store xs fs os g w = record {
           program = program;
           entries = cs;
@@ -131,10 +131,11 @@ module _ (old : Engine) (o : Choice) (choices : Vec Choice Global) (sound : IsSo
           keeps = saves_drops true (fields_of old.store) m ms k;
           choices = h.1;
           world = world;
+          peak = peak;
         } in
         let noted = subst (IsNoted o.tag) (sym waits) stand.3.2 in
         record {
-          inside = cut_inside t old.program.now old.lasting old.store xs fs os (reverse rest.items) cuts g w w world before;
+          inside = cut_inside t old.program.now old.lasting old.store xs fs os (reverse rest.items) cuts g w w world peak before;
           failed = subst (λ l. Failed g l n w run) (e ∙ ap (λ q. cut_if q (c ∷ lives_of os cs)) (sym waits) ∙ cut_gone t c (lives_of os cs) (omega (arith, noted, h.0.tag))) f;
         }
 
@@ -146,7 +147,7 @@ module _ (old : Engine) (o : Choice) (choices : Vec Choice Global) (sound : IsSo
       leads = λ g n w run st. record {
         world = w;
         adds = adds_nothing w;
-        holds = from_part g n w run st.inside.program st.inside.world st.inside.saved st.inside.entries st.inside.lives st.inside.keeps (subst (λ l. AreChoices g xs fs l st.inside.saved st.inside.entries) was st.inside.choices) (st.inside.lives_are ∙ ap (λ l. lives_of l st.inside.entries) was) st.failed;
+        holds = from_part g n w run st.inside.program st.inside.world st.inside.peak st.inside.saved st.inside.entries st.inside.lives st.inside.keeps (subst (λ l. AreChoices g xs fs l st.inside.saved st.inside.entries) was st.inside.choices) (st.inside.lives_are ∙ ap (λ l. lives_of l st.inside.entries) was) st.failed;
       };
     }
 
@@ -231,8 +232,8 @@ module _ (old : Engine) (o : Choice) (choices : Vec Choice Global) (sound : IsSo
       abbrev pub popped_at : IsPlace mid o.place m ms
       popped_at = is_place m ms is.place is.hold kept
 
-      abbrev pub popped_within : (v : World) → InWorld out g v → Within old.program.now out store refs.items frames.items os g v
-      popped_within v world = record {
+      abbrev pub popped_within : (v : World) → InWorld out g v → v.meters.heap ≤ (store_in store).heap_limit → Within old.program.now out store refs.items frames.items os g v
+      popped_within v world peak = record {
         program = program;
         entries = cs;
         lives = lives_of os cs;
@@ -241,6 +242,7 @@ module _ (old : Engine) (o : Choice) (choices : Vec Choice Global) (sound : IsSo
         keeps = saves_drops true (fields_of store) m ms popped_at.keeps;
         choices = subst (λ l. AreChoices g refs.items l os ms cs) (sym cut) (choices_same g xs refs.items fs (take o.height fs) o.height o.refs o.tag os ms cs front (same_take fs o.height) stand.5 others);
         world = world;
+        peak = peak;
       }
 
       pub popped_agrees : Agrees (store_in store) is.registers
@@ -299,8 +301,8 @@ module _ (old : Engine) (o : Choice) (choices : Vec Choice Global) (sound : IsSo
         by (TakeOut whole into frame) = refl
         by (Things trial args) = plain (branches_of g (values_in (store_in store) refs.items) fs' (length fs') (Things trial args) is.registers)
 
-      begins : (n : ℕ) (w v : World) (run : Run) → InWorld out g v → length v.gathered ≡ open_at c.others c.height → Adds [] w v → Resumed g c (lives_of os cs) n v run → Then (events_of (again o.left)) w (λ u. BeginsAt o.left o.place mid g n u run)
-      begins n w v run still count adds resumed =
+      begins : (n : ℕ) (w v : World) (run : Run) → InWorld out g v → v.meters.heap ≤ (store_in store).heap_limit → length v.gathered ≡ open_at c.others c.height → Adds [] w v → Resumed g c (lives_of os cs) n v run → Then (events_of (again o.left)) w (λ u. BeginsAt o.left o.place mid g n u run)
+      begins n w v run still peak count adds resumed =
           let r = is.registers in
           let u = tried_in c.kind c.others v in
           record {
@@ -308,7 +310,7 @@ module _ (old : Engine) (o : Choice) (choices : Vec Choice Global) (sound : IsSo
             adds = subst (λ es. Adds es w u) (tried_so c.kind o.left frames.items is.kind popped_branches) (adds_on w v u [] (tried_events c.kind c.others) adds (adds_tried c.kind c.others v));
             holds = record {
               at = record {
-                inside = popped_within u (world_tried out g c.kind c.others v still);
+                inside = popped_within u (world_tried out g c.kind c.others v still) (peak_tried (store_in store).heap_limit c.kind c.others v peak);
                 ways = c.ways_on;
                 ways_are = is.ways_on;
                 registers = r;
@@ -338,7 +340,8 @@ module _ (old : Engine) (o : Choice) (choices : Vec Choice Global) (sound : IsSo
           let came : ComesBack g c (lives_of os cs) n w run = subst (λ l. FailsTo g n w run l) (e ∙ ap (λ q. cut_if q (c ∷ lives_of os cs)) (sym none)) f in
           let count = came.gatherings in
           let still = popped_world g m ms c cs st.inside.program k h.0 h.1 w came.world st.inside.world came.drops count in
-          begins g m ms c cs st.inside.program k h.0 h.1 n w came.world run still count (adds_drops w came.world came.drops) came.resumed
+          let peak = peak_drops (store_in old.store).heap_limit w came.world came.drops st.inside.peak in
+          begins g m ms c cs st.inside.program k h.0 h.1 n w came.world run still (omega (arith, peak, popped_limits.heap)) count (adds_drops w came.world came.drops) came.resumed
 
 -- ## No choice is left
 
@@ -354,10 +357,18 @@ module _ (old : Engine) (choices : Vec Choice Global) (empty : length old.choice
   none_popped = record {
     left = refl;
     limits = record { heap = refl; trail = refl; aux = refl; keep = refl; calls = []; told = refl };
-    ends = λ g n w run st. from g n w run st.inside.saved st.inside.entries (subst (λ l. AreChoices g old.refs.items old.frames.items l st.inside.saved st.inside.entries) none st.inside.choices) (subst (λ l. FailsTo g n w run l) (st.inside.lives_are ∙ ap (λ l. lives_of l st.inside.entries) none) (failed g st.inside.lives n w run st.failed));
+    ends = λ g n w run st. record {
+      world = w;
+      adds = adds_nothing w;
+      holds = record {
+        finished = from g n w run st.inside.saved st.inside.entries (subst (λ l. AreChoices g old.refs.items old.frames.items l st.inside.saved st.inside.entries) none st.inside.choices) (subst (λ l. FailsTo g n w run l) (st.inside.lives_are ∙ ap (λ l. lives_of l st.inside.entries) none) (failed g st.inside.lives n w run st.failed));
+        world = st.inside.world;
+        peak = st.inside.peak;
+      };
+    };
   } where
-    from : (g : Game) (n : ℕ) (w : World) (run : Run) → (ms : List Saved) (cs : List Live) → AreChoices g old.refs.items old.frames.items [] ms cs → FailsTo g n w run (lives_of [] cs) → Then [] w (λ v. Finished n v Failing run)
-    from g n w run [] [] h f = record { world = w; adds = adds_nothing w; holds = f }
+    from : (g : Game) (n : ℕ) (w : World) (run : Run) → (ms : List Saved) (cs : List Live) → AreChoices g old.refs.items old.frames.items [] ms cs → FailsTo g n w run (lives_of [] cs) → Finished n w Failing run
+    from g n w run [] [] h f = f
     from g n w run [] (c ∷ cs) h f = absurd h
     from g n w run (m ∷ ms) cs h f = absurd h
 
@@ -379,7 +390,7 @@ went_wrong_from A B old mid new left limits h k = record { sound = k.sound; left
 
 pub ended_from : (A B : Point) (result : Result) (old mid new : Engine) → mid.left ≡ old.left → Silent old mid → Leads A B → HasEndedSo B result mid new → HasEndedSo A result old new
 ended_from A B result old between new left limits h k =
-    record { left = k.left ∙ left; limits = silent_on old between new limits k.limits; ends = leads_then k.limits.calls A B (λ g n v run. Finished n v result run) h k.ends }
+    record { left = k.left ∙ left; limits = silent_on old between new limits k.limits; ends = leads_then k.limits.calls A B (EndsAt result new) h k.ends }
 
 pub tried_from : (A B : Point) (old mid new : Engine) → mid.left ≡ old.left → Silent old mid → Leads A B → (begun : Bool) → Tries B begun mid new → Tries A begun old new
 tried_from A B old mid new left limits h true k = went_on_from A B old mid new left limits h k
@@ -397,7 +408,7 @@ went_wrong_by A B old between new left tells h k =
 
 pub ended_by : (A B : Point) (result : Result) (old mid new : Engine) → mid.left ≡ old.left → (tells : Tells old mid) → LeadsBy tells.calls A B → HasEndedSo B result mid new → HasEndedSo A result old new
 ended_by A B result old between new left tells h k =
-    record { left = k.left ∙ left; limits = tells_on old between new tells k.limits; ends = leads_by tells.calls k.limits.calls A B (λ g n v run. Finished n v result run) h k.ends }
+    record { left = k.left ∙ left; limits = tells_on old between new tells k.limits; ends = leads_by tells.calls k.limits.calls A B (EndsAt result new) h k.ends }
 
 pub tried_by : (A B : Point) (old mid new : Engine) → mid.left ≡ old.left → (tells : Tells old mid) → LeadsBy tells.calls A B → (begun : Bool) → Tries B begun mid new → Tries A begun old new
 tried_by A B old between new left tells h true k = went_on_by A B old between new left tells h k

@@ -192,12 +192,12 @@ module _ (place : ℕ) (terms : List Term) (sets : Bool) (old mid new : Engine) 
     Left (Err e) = old.lasting.world.area.keep < run.world.meters.keep
 
     left_of : (looks : ℕ) (k : PlaceKind) (a : Option Alteration) (b : Answer Bool KeepFull) → Became o w.facts a mid.lasting.world new.lasting.world b → Went g st.at.inside.lives st.at.ways n (move_of (steps_of old) r (changes g k a (steps_of old) (worked looks v))) run → Left b
-    left_of looks k None (Ok false) h went = acted_not x terms (now_held place terms sets) old outer new.store mid.made ready kept keeps grew g n w run st (worked looks v) refl refl (world_same h) went
+    left_of looks k None (Ok false) h went = acted_not x terms (now_held place terms sets) old outer new.store mid.made ready kept keeps grew g n w run st (worked looks v) refl refl (world_same h) refl went
     left_of looks k None (Ok true) h went = absurd h
     left_of looks k None (Err e) h went = absurd h
     left_of looks k (Some a) (Ok true) h went =
         let u = worked (changing g.program k a v.facts) (changed g.program a (worked looks v)) in
-        acted_on x terms (now_held place terms sets) old outer new.store mid.made ready kept keeps grew g n w run st u refl refl (world_changed a u refl refl refl refl h.0 h.1) went
+        acted_on x terms (now_held place terms sets) old outer new.store mid.made ready kept keeps grew g n w run st u refl refl (world_changed a u refl refl refl refl h.0 h.1) refl went
     left_of looks k (Some a) (Ok false) h went = absurd h
     left_of looks k (Some a) (Err e) h went =
         let u = worked (changing g.program k a v.facts) (changed g.program a (worked looks v)) in
@@ -205,7 +205,7 @@ module _ (place : ℕ) (terms : List Term) (sets : Bool) (old mid new : Engine) 
         omega (arith, later.keep, h.0)
 
     left_at : (k : Option PlaceKind) (b : Answer Bool KeepFull) → Became o w.facts (changes_at (length g.program.objects) place sets vals k) mid.lasting.world new.lasting.world b → Went g st.at.inside.lives st.at.ways n (move_of (steps_of old) r (change_place g place k args sets (steps_of old) r v)) run → Left b
-    left_at None (Ok false) h went = acted_not x terms (now_held place terms sets) old outer new.store mid.made ready kept keeps grew g n w run st v refl refl (world_same h) went
+    left_at None (Ok false) h went = acted_not x terms (now_held place terms sets) old outer new.store mid.made ready kept keeps grew g n w run st v refl refl (world_same h) refl went
     left_at None (Ok true) h went = absurd h
     left_at None (Err e) h went = absurd h
     left_at (Some k) b h went =

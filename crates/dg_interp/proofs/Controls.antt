@@ -33,10 +33,10 @@ use Rattle.dg_interp.specs.inside.Frames.{values_in, mark_steps, steps_behind, s
 use Rattle.dg_unify.specs.inside.Engines.{Agrees}
 use Rattle.dg_interp.specs.inside.Engine.{store_in, KeepsPlaces, steps_of, IsReady, Point, TakesAt, OpensAt, IsSound, FailsAt, IsPushed, IsAgain, FullAt, Leads, Silent, WentOn, Branches}
 use Rattle.dg_interp.proofs.Links.{same_here, same_values, same_append, behind_same, at_same, stand_raise}
-use Rattle.dg_interp.proofs.Takes.{behind, taken_in, comes_of, adds_taken, store_sound}
-use Rattle.dg_interp.proofs.Places.{inside_in, inside_kept, adds_nothing, limits_on}
+use Rattle.dg_interp.proofs.Takes.{behind, taken_in, comes_of, adds_taken, store_sound, agrees_here, peak_here}
+use Rattle.dg_interp.proofs.Places.{peak_begun, inside_in, inside_kept, adds_nothing, limits_on}
 use Rattle.dg_interp.proofs.Branches.{went_on_from, ended_from}
-use Rattle.dg_interp.proofs.Opens.{agrees_here, opens, pushed_behind, pushed_same, pushed_takes}
+use Rattle.dg_interp.proofs.Opens.{opens, pushed_behind, pushed_same, pushed_takes}
 use Rattle.dg_interp.proofs.Stores.{values_kept, hold_front}
 
 pub branches_made : (A B : Point) (old mid new : Engine) → mid.left ≡ old.left → Silent old mid → Leads A B → (r : Answer Bool Full) → IfOk r (λ found. Branches B found mid new) → IfOk r (λ found. Branches A found old new)
@@ -203,7 +203,7 @@ either_fails lists old none g n w run st =
       world = v;
       adds = adds_taken r (writing (terms_held (out-Goal x))) w;
       holds = record {
-        inside = inside_in _ st.at.inside.world st.at.inside;
+        inside = inside_in _ st.at.inside.world (peak_here x old (ap terms_held (outs-Either lists)) g n w run st) st.at.inside;
         failed = subst (λ m. After g st.at.inside.lives st.at.ways n m run)
             (ap (λ f. outcome g f env old.here.tag (steps_of old) r v) (outs-Either lists) ∙ ap (λ l. choice Plain r.next_tag (list_branches env old.here.tag (steps_of old) r l) v) none) (comes_of x old g n w run st);
       };
@@ -320,16 +320,17 @@ module _ (goals : Bor (List Goal)) (old : Engine) (ready : IsReady old) (all : b
           let r = behind x old g n w run st in
           let v = taken_in x old g n w run st in
           let a = adds_taken r (writing (terms_held (out-Goal x))) w in
+          let agrees = agrees_now r (agrees_here x old held_none g n w run st) in
           record {
             world = begun (inside 10 r) 0 v;
             adds = record { events_are = a.events_are; typed = refl };
             holds = record {
               at = record {
-                inside = inside_kept _ _ saved st.at.inside.world st.at.inside;
+                inside = inside_kept _ _ saved st.at.inside.world (peak_begun store (inside 10 r) 0 v agrees (omega (arith, peak_here x old held_none g n w run st, k.heap_limit))) st.at.inside;
                 ways = st.at.ways;
                 ways_are = st.at.ways_are;
                 registers = inside 10 r;
-                agrees = agrees_now r (agrees_here x old held_none g n w run st);
+                agrees = agrees;
                 tag = ap (λ i. i + 1) st.at.tag;
                 stop = st.at.stop;
               };

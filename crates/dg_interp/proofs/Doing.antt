@@ -29,7 +29,7 @@ use Rattle.dg_meaning.specs.Engines.{left_told}
 use Rattle.dg_meaning.proofs.Engines.{as_told}
 use Rattle.dg_interp.specs.inside.Showing.{calls_told, as_events}
 use Rattle.dg_interp.specs.inside.Running.{Reaches, HasEnded, MeetsLimit, HasPart, LosesOutput, Broken, GoalDone, DoesGoal, TellsSo, LacksSo, ComesTo, ending_at, limit_of, over}
-use Rattle.dg_interp.proofs.Places.{limits_at, adds_nothing, same_limits, telling_limits}
+use Rattle.dg_interp.proofs.Places.{limits_at, adds_nothing, same_limits, telling_limits, just_finished}
 use Rattle.dg_interp.proofs.Goals.{prints_word, prints_gap, quits}
 use Rattle.dg_interp.proofs.Runs.{stretched, quiet_told, finished_later, forgets_ready, forgets_stands, forgets_limits, forgets_left, writes_nothing, calls_shown, calls_lost, gave_nothing, same_on, no_more, reads_nothing, finished_so, finished_here, ended_at, breaks_here, shown_done, shown_breaks}
 
@@ -79,14 +79,14 @@ module _ {P : Type 0} (v : Watching P) (x : Goal) (old mid : Engine) (s : Spacer
     pub goal_ended : (e : Ending) → e ≡ ending_of result → (k' : P) (left : ℕ) → left ≡ new.left → Given v k k' (calls_told new.told.items) → Reaches v old s k i i (HasEnded v e left s k' (left_told i i))
     goal_ended e is k' left same given =
         reads_nothing v old s k i (HasEnded v e left s k' (left_told i i))
-        (λ g w run start here st text. finished_so v result e mid.left left s k k' (left_told i i) w run start (as_told i i w.typed here) text (sym (same ∙ h.left)) is h.limits.calls (subst (λ l. Given v k k' (calls_told l)) told_end given) (h.ends g mid.left w run (takes_here g w run st)))
+        (λ g w run start here st text. finished_so v result e mid.left left s k k' (left_told i i) w run start (as_told i i w.typed here) text (sym (same ∙ h.left)) is h.limits.calls (subst (λ l. Given v k k' (calls_told l)) told_end given) (just_finished (h.ends g mid.left w run (takes_here g w run st))))
 
     end_lost : (k' : P) → Lost v k k' (calls_told new.told.items) → LosesOutput v old s k k' i i
     end_lost k' lost =
         breaks_here v old s s k k' i i (events_of h.limits.calls) [] mid.left some taken.left (gave_nothing i)
         (λ g n w run a st.
         let t = h.ends g n w run (taken.takes g n w run st) in
-        stretched (events_of h.limits.calls) w (λ u. Grows u run.world) (record { world = t.world; adds = t.adds; holds = finished_later n t.world result run t.holds }))
+        stretched (events_of h.limits.calls) w (λ u. Grows u run.world) (record { world = t.world; adds = t.adds; holds = finished_later n t.world result run t.holds.finished }))
         Write (calls_lost v h.limits.calls s k k' (subst (λ l. Lost v k k' (calls_told l)) told_end lost))
 
   -- memory ran out before anything was told

@@ -1,5 +1,5 @@
 -- What an equation comes to.
-use Rattle.std.proofs.Common.{◌≡◌, ℕ, ◌+◌, ◌<◌, List, [], ◌∷◌, Bool, true, false, refl, sym, ap, ◌∙◌, subst, arith, length}
+use Rattle.std.proofs.Common.{◌≡◌, ℕ, ◌+◌, ◌<◌, List, [], ◌∷◌, Bool, true, false, refl, sym, ap, ◌∙◌, subst, arith, length, ◌≤◌}
 use Rattle.std.specs.declared.vec.Vec.{Vec}
 use Rattle.std.specs.declared.alloc.Global.{Global}
 use Rattle.dg_base.specs.declared.program.Goal.{Goal, out-Goal}
@@ -31,7 +31,7 @@ use Rattle.dg_terms.specs.Terms.{Overflows, BothMade}
 use Rattle.dg_interp.specs.inside.Frames.{values_in}
 use Rattle.dg_interp.specs.inside.Engine.{store_in, KeepsPlaces, steps_of, IsReady, TakesAt, FailsAt, FullAt, Adds, Leads, WentOn}
 use Rattle.dg_unify.specs.inside.Engines.{Agrees}
-use Rattle.dg_interp.proofs.Places.{silent}
+use Rattle.dg_interp.proofs.Places.{silent, agrees_within}
 use Rattle.dg_interp.proofs.Stores.{trail_append, trail_within, made_is}
 use Rattle.dg_interp.proofs.Takes.{behind, taken_in, comes_of, adds_taken, terms_full, store_ready}
 use Rattle.dg_interp.proofs.Values.{grown, grown_limits, stands_behind, fails_behind}
@@ -144,6 +144,13 @@ module _ (a b : Term) (old : Engine) (mid : Store) (ra rb : Ref) (store : ListBi
   adds_bound : (g : Game) (n : ℕ) (w : World) (run : Run) (st : TakesAt y old g n w run) → Adds [] w (bound_in a b old mid ra rb sound made g n w run st)
   adds_bound g n w run st = let t = adds_taken (behind y old g n w run st) (writing (terms_held (out-Goal y))) w in record { events_are = t.events_are; typed = refl }
 
+  equal_peak : (g : Game) (n : ℕ) (w : World) (run : Run) (st : TakesAt y old g n w run) → (bound_in a b old mid ra rb sound made g n w run st).meters.heap ≤ (store_in store).heap_limit
+  equal_peak g n w run st =
+      let r = behind y old g n w run st in
+      let agrees = equal_agrees a b old mid ra rb sound made g n w run st (store_in store) found does in
+      let here = agrees_within store (after a b old mid ra rb sound made g n w run st) agrees in
+      omega (arith, st.at.inside.peak, k.heap_limit, here)
+
   pub equal_passed : found ≡ true → WentOn (TakesAt y old) old (grown y old store stack ready k saved)
   equal_passed is = record {
     ready = store_ready old store stack k saved ready;
@@ -155,7 +162,7 @@ module _ (a b : Term) (old : Engine) (mid : Store) (ra rb : Ref) (store : ListBi
         record {
           world = v;
           adds = adds_bound g n w run st;
-          holds = stands_behind y old store stack ready k saved g n w v run st.at.inside.world st r (equal_agrees a b old mid ra rb sound made g n w run st (store_in store) found does) refl refl
+          holds = stands_behind y old store stack ready k saved g n w v run st.at.inside.world (equal_peak g n w run st) st r (equal_agrees a b old mid ra rb sound made g n w run st (store_in store) found does) refl refl
               (subst (λ o. Went g st.at.inside.lives st.at.ways n (goes_on_if o (steps_of old) r v) run) is (equal_comes a b old mid ra rb sound made g n w run st found does.agrees));
         };
   }
@@ -167,5 +174,5 @@ module _ (a b : Term) (old : Engine) (mid : Store) (ra rb : Ref) (store : ListBi
       record {
         world = v;
         adds = adds_bound g n w run st;
-        holds = fails_behind y old store stack ready k saved g n w v run st.at.inside.world st (subst (λ o. Went g st.at.inside.lives st.at.ways n (goes_on_if o (steps_of old) r v) run) is (equal_comes a b old mid ra rb sound made g n w run st found does.agrees));
+        holds = fails_behind y old store stack ready k saved g n w v run st.at.inside.world (equal_peak g n w run st) st (subst (λ o. Went g st.at.inside.lives st.at.ways n (goes_on_if o (steps_of old) r v) run) is (equal_comes a b old mid ra rb sound made g n w run st found does.agrees));
       }

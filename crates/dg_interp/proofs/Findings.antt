@@ -53,7 +53,7 @@ use Rattle.dg_interp.specs.inside.Engine.{Point, store_in, KeepsPlaces, steps_of
 use Rattle.dg_unify.proofs.StoreLemmas.{kept_told}
 use Rattle.dg_interp.proofs.Places.{silent, adds_nothing, inside_in, inside_kept, limits_here}
 use Rattle.dg_interp.proofs.Takes.{behind, taken_in, comes_of, adds_taken}
-use Rattle.dg_interp.proofs.Giving.{with_store, steps_kept, kept_limits, acts_on, written_agrees}
+use Rattle.dg_interp.proofs.Giving.{with_store, steps_kept, kept_limits, acts_on, written_agrees, written_peak}
 use Rattle.dg_interp.proofs.TakingOut.{made_heap}
 
 -- what holds of a world in which an engine may be
@@ -165,7 +165,7 @@ module _ (fact : List Fact → Option Value) (args : List Value) (old : Engine) 
       record {
         world = v;
         adds = record { events_are = refl; typed = refl };
-        holds = acts_on old store stack ready k saved g n w v run st.at st.at.inside.world (λ x u. Unifies x ((told t into, told t made) ∷ []) u) q (copy_agrees s t c.v made r c.copy st.at.agrees) refl refl
+        holds = acts_on old store stack ready k saved g n w v run st.at st.at.inside.world (omega (arith, st.at.inside.peak, k.heap_limit)) (λ x u. Unifies x ((told t into, told t made) ∷ []) u) q (copy_agrees s t c.v made r c.copy st.at.agrees) refl refl
             (subst (λ a. Went g st.at.inside.lives st.at.ways n (move_of (steps_of old) r a) run) values (read_so (told s into) rest is g n w run st c.v c.is));
       }
 
@@ -247,7 +247,7 @@ module _ (x : Goal) (terms : List Term) (held : terms_held (out-Goal x) ≡ term
         adds = adds_taken r (writing (terms_held (out-Goal x))) w;
         holds = record {
           at = record {
-            inside = inside_kept _ _ made.saved st.at.inside.world st.at.inside;
+            inside = inside_kept _ _ made.saved st.at.inside.world (written_peak x terms held old mid.store mid.made ready made.kept made.saved grew g n w run st) st.at.inside;
             ways = st.at.ways;
             ways_are = st.at.ways_are;
             registers = r;
@@ -303,7 +303,7 @@ module _ (does : Game → List Step → Registers → World → Effect) (old : E
         adds = record { events_are = refl; typed = refl };
         holds = record {
           at = record {
-            inside = inside_in v st.at.inside.world st.at.inside;
+            inside = inside_in v st.at.inside.world st.at.inside.peak st.at.inside;
             ways = st.at.ways;
             ways_are = st.at.ways_are;
             registers = r;

@@ -46,12 +46,12 @@ use Rattle.dg_interp.specs.inside.Frames.{values_in, steps_at, steps_behind, who
 use Rattle.dg_interp.specs.inside.Gathering.{gathering_goal, gathering_live, GathersAt}
 use Rattle.dg_interp.specs.inside.Engine.{Point, store_in, KeepsPlaces, IsReady, TakesAt, Leads, WentOn, FullAt, PassesLimit, steps_of, open_in}
 use Rattle.dg_interp.proofs.Links.{SameBy, SameTo, same_append, at_same, behind_new, frame_raise, frames_raise, frames_append, stand_raise, stand_same, choices_same, back_same}
-use Rattle.dg_interp.proofs.Places.{open_still, inside_kept}
+use Rattle.dg_interp.proofs.Places.{peak_begun, open_still, inside_kept}
 use Rattle.dg_unify.proofs.StoreLemmas.{kept_on, all_hold, kept_told}
 use Rattle.dg_interp.proofs.Stores.{values_kept, hold_front, front_same}
 use Rattle.dg_interp.proofs.Kept.{back_limits}
 use Rattle.dg_interp.proofs.Takes.{behind, taken_in, comes_of, adds_taken}
-use Rattle.dg_interp.proofs.Giving.{with_store, steps_kept, written_agrees}
+use Rattle.dg_interp.proofs.Giving.{with_store, steps_kept, written_agrees, written_peak}
 
 -- ## The terms are written
 
@@ -124,7 +124,7 @@ module _ (whole : Whole) (term : Term) (goals : List Goal) (into : Term) (old : 
         adds = record { events_are = a.events_are; typed = refl };
         holds = record {
           at = record {
-            inside = inside_kept _ _ saved st.at.inside.world st.at.inside;
+            inside = inside_kept _ _ saved st.at.inside.world (written_peak wx (term ∷ into ∷ []) (gathering_held whole term goals into) old store stack ready k saved (λ program e. (made program e).state) g n w run st) st.at.inside;
             ways = ways;
             ways_are = st.at.ways_are;
             registers = r;
@@ -384,6 +384,7 @@ module _ (whole : Whole) (value into : Ref) (goals : Bor (List Goal)) (old : Eng
                       choices_same g xs ys fs gs (length fs) (length xs) old.newest os st.at.inside.saved st.at.inside.entries front same_fs ready.sound.base.choices st.at.inside.choices,
                     );
                     world = new_world g w r st.at.inside.world;
+                    peak = peak_begun store1 (inside 10 r) 0 (opened r.next_tag w) (agrees1 r st.at.agrees) (omega (arith, st.at.inside.peak, k.heap_limit));
                   };
                   ways = st.at.ways;
                   ways_are = st.at.ways_are ∙ ap (λ l. ways_of l (c ∷ st.at.inside.entries)) (sym kept);

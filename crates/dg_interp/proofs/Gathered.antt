@@ -120,6 +120,7 @@ module _ (old : Engine) (ready : IsReady old) (store1 : ListBindings) (r : Ref) 
             keeps = saved st.at.inside.saved st.at.inside.keeps;
             choices = st.at.inside.choices;
             world = kept_world g n w run st out is;
+            peak = omega (arith, st.at.inside.peak, k.heap_limit);
           };
           failed = failed g n w run st;
         };

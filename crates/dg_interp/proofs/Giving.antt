@@ -1,5 +1,5 @@
 -- What becomes of a value that a goal makes and unifies with one of its terms.
-use Rattle.std.proofs.Common.{◌≡◌, ℕ, ◌+◌, ◌<◌, List, [], ◌∷◌, Bool, true, false, Some, None, refl, sym, ap, ◌∙◌, subst, arith, length}
+use Rattle.std.proofs.Common.{◌≡◌, ℕ, ◌+◌, ◌<◌, List, [], ◌∷◌, Bool, true, false, Some, None, refl, sym, ap, ◌∙◌, subst, arith, length, ◌≤◌}
 use Rattle.std.specs.Prelude.{Ok, Err, IfOk}
 use Rattle.std.specs.Prelude.{Result as Answer}
 use Rattle.std.specs.declared.vec.Vec.{Vec}
@@ -34,9 +34,9 @@ use Rattle.dg_lasting.specs.Lasting.{InWorld}
 use Rattle.dg_interp.specs.inside.Giving.{ActsAt, SolvesAt, UnifiesAt, GivesAt}
 use Rattle.dg_unify.proofs.StoreLemmas.{kept_told}
 use Rattle.dg_interp.proofs.Stores.{trail_append, trail_within, made_is, values_kept, hold_front}
-use Rattle.dg_interp.proofs.Places.{silent, inside_kept, adds_nothing}
+use Rattle.dg_interp.proofs.Places.{silent, peak_begun, inside_kept, adds_nothing}
 use Rattle.dg_interp.proofs.Links.{same_here, at_same}
-use Rattle.dg_interp.proofs.Takes.{behind, taken_in, comes_of, adds_taken, terms_full, store_ready}
+use Rattle.dg_interp.proofs.Takes.{behind, taken_in, comes_of, peak_taken, adds_taken, terms_full, store_ready}
 use Rattle.dg_interp.proofs.Branches.{went_on_from, ended_from}
 
 -- ## Numbers
@@ -54,10 +54,10 @@ module _ (old : Engine) (store : ListBindings) (stack : Vec Ref Global) (ready :
   pub kept_limits : Silent old with_store
   kept_limits = record { heap = k.heap_limit; trail = k.trail_limit; aux = refl; keep = refl; told = refl }
 
-  module _ (g : Game) (n : ℕ) (w v : World) (run : Run) (at : There old (old.newest + 1) g w) (world : InWorld old.lasting g v) where
+  module _ (g : Game) (n : ℕ) (w v : World) (run : Run) (at : There old (old.newest + 1) g w) (world : InWorld old.lasting g v) (peak : v.meters.heap ≤ (store_in store).heap_limit) where
     abbrev there_on : (r : Registers) → Agrees (store_in store) r → r.next_tag ≡ at.registers.next_tag → r.stoppable ≡ at.registers.stoppable → There with_store (old.newest + 1) g v
     there_on r agrees tag part = record {
-      inside = inside_kept _ _ saved world at.inside;
+      inside = inside_kept _ _ saved world peak at.inside;
       ways = at.ways;
       ways_are = at.ways_are;
       registers = r;
@@ -73,7 +73,7 @@ module _ (old : Engine) (store : ListBindings) (stack : Vec Ref Global) (ready :
     acts_on act r agrees tag part h = record { at = there_on r agrees tag part; went = subst (λ s. Went g at.inside.lives at.ways n (move_of s r (act r v)) run) (sym steps_kept) h }
 
     pub fails_on : Failed g at.inside.lives n v run → FailsAt with_store g n v run
-    fails_on h = record { inside = inside_kept _ _ saved world at.inside; failed = h }
+    fails_on h = record { inside = inside_kept _ _ saved world peak at.inside; failed = h }
 
 pub same_limits : (e : Engine) → Silent e e
 same_limits e = record { heap = refl; trail = refl; aux = refl; keep = refl; told = refl }
@@ -98,6 +98,10 @@ module _ (x : Goal) (ts : List Term) (held : terms_held (out-Goal x) ≡ ts) (ol
           since = omega (arith, st.at.agrees.since, ap (λ (t : State). t.since) here, ap (λ (t : State). t.vars) here);
         }
 
+    -- no more was reached than the limit
+    pub written_peak : (g : Game) (n : ℕ) (w : World) (run : Run) (st : TakesAt x old g n w run) → (taken_in x old g n w run st).meters.heap ≤ (store_in store).heap_limit
+    written_peak g n w run st = peak_taken x old store g n w run st (written_agrees g n w run st) (omega (arith, st.at.inside.peak, k.heap_limit))
+
     -- what the goal does is this act, behind so much work
     pub written_acts : (act : Registers → World → Act) (work : Game → Registers → ℕ)
         → ((g : Game) (r : Registers) (v : World) → old.program.now ≡ g.program → r.bound ≡ (store_in store).state.subst → outcome g (out-Goal x) (values_in (store_in old.store) old.refs.items old.here.env) old.here.tag (steps_of old) r v ≡ Moves (move_of (steps_of old) r (act r (worked (work g r) v))))
@@ -110,7 +114,7 @@ module _ (x : Goal) (ts : List Term) (held : terms_held (out-Goal x) ≡ ts) (ol
         record {
           world = v;
           adds = record { events_are = a.events_are; typed = refl };
-          holds = acts_on old store stack ready k saved g n w v run st.at st.at.inside.world act r (written_agrees g n w run st) refl refl
+          holds = acts_on old store stack ready k saved g n w v run st.at st.at.inside.world (written_peak g n w run st) act r (written_agrees g n w run st) refl refl
               (subst (λ o. After g st.at.inside.lives st.at.ways n o run) (is g r t st.at.inside.program (written_agrees g n w run st).bound) (comes_of x old g n w run st));
         }
 
@@ -185,6 +189,9 @@ module _ (es : Equations) (old : Engine) (store : ListBindings) (ready : IsReady
   abbrev solved_to : Engine
   solved_to = with_store old store old.made ready k saved
 
+  solved_peak : (g : Game) (n : ℕ) (w : World) (run : Run) (st : SolvesAt es old g n w run) → (bound_in es old sound g n w run st).meters.heap ≤ (store_in store).heap_limit
+  solved_peak g n w run st = peak_begun store (after es old sound g n w run st) (unifying st.at.registers.bound es) w (solved_agrees es old sound g n w run st (store_in store) found does) (omega (arith, st.at.inside.peak, k.heap_limit))
+
   pub solved_on : found ≡ true → WentOn (SolvesAt es old) old solved_to
   solved_on is = record {
     ready = store_ready old store old.made k saved ready;
@@ -193,7 +200,7 @@ module _ (es : Equations) (old : Engine) (store : ListBindings) (ready : IsReady
     leads = λ g n w run st. record {
       world = bound_in es old sound g n w run st;
       adds = record { events_are = refl; typed = refl };
-      holds = stands_on old store old.made ready k saved g n w (bound_in es old sound g n w run st) run st.at st.at.inside.world (after es old sound g n w run st) (solved_agrees es old sound g n w run st (store_in store) found does) refl refl
+      holds = stands_on old store old.made ready k saved g n w (bound_in es old sound g n w run st) run st.at st.at.inside.world (solved_peak g n w run st) (after es old sound g n w run st) (solved_agrees es old sound g n w run st (store_in store) found does) refl refl
           (subst (λ o. Went g st.at.inside.lives st.at.ways n (goes_on_if o (steps_of old) (after es old sound g n w run st) (bound_in es old sound g n w run st)) run) is (solved_comes es old sound g n w run st found does.agrees));
     };
   }
@@ -202,7 +209,7 @@ module _ (es : Equations) (old : Engine) (store : ListBindings) (ready : IsReady
   solved_fails is g n w run st = record {
     world = bound_in es old sound g n w run st;
     adds = record { events_are = refl; typed = refl };
-    holds = fails_on old store old.made ready k saved g n w (bound_in es old sound g n w run st) run st.at st.at.inside.world
+    holds = fails_on old store old.made ready k saved g n w (bound_in es old sound g n w run st) run st.at st.at.inside.world (solved_peak g n w run st)
         (subst (λ o. Went g st.at.inside.lives st.at.ways n (goes_on_if o (steps_of old) (after es old sound g n w run st) (bound_in es old sound g n w run st)) run) is (solved_comes es old sound g n w run st found does.agrees));
   }
 
@@ -235,7 +242,7 @@ number_given m into made old store ready k saved hold same is g n w run st =
     record {
       world = w;
       adds = adds_nothing w;
-      holds = acts_on old store old.made ready k saved g n w w run st.at st.at.inside.world (λ r v. Unifies r ((told t into, told t made) ∷ []) v) st.at.registers (same_agrees s t st.at.registers same st.at.agrees) refl refl
+      holds = acts_on old store old.made ready k saved g n w w run st.at st.at.inside.world (omega (arith, st.at.inside.peak, k.heap_limit)) (λ r v. Unifies r ((told t into, told t made) ∷ []) v) st.at.registers (same_agrees s t st.at.registers same st.at.agrees) refl refl
           (subst (λ c. Went g st.at.inside.lives st.at.ways n (move_of (steps_of old) st.at.registers c) run) values st.went);
     }
 

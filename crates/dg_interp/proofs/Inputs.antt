@@ -44,7 +44,7 @@ use Rattle.dg_interp.specs.inside.Running.{HasText, Gave, Awaits, Stretch, Reach
 use Rattle.dg_interp.specs.inside.Showing.{calls_told, ShowsAll, BreaksSo}
 use Rattle.dg_texts.specs.Spelling.{IsShort, SpellsSome}
 use Rattle.dg_interp.specs.inside.Wording.{words_in, MakesAt, TakesLineAt, AwaitsInput}
-use Rattle.dg_interp.proofs.Places.{inside_in, limits_at, same_limits, telling_limits, adds_nothing}
+use Rattle.dg_interp.proofs.Places.{inside_in, limits_at, same_limits, telling_limits, just_finished, adds_nothing}
 use Rattle.dg_interp.proofs.Runs.{same_on, stretched, stretch_map, writes_nothing, writes_shown, text_shown, calls_shown, calls_lost, shows_on, loses_later, quiet_told, forgets_ready, forgets_stands, forgets_limits, forgets_left, finished_so, finished_here, finished_later, ended_at, limited_at, no_more, breaks_here}
 use Rattle.dg_interp.proofs.Rounds.{then_called}
 use Rattle.dg_interp.proofs.Wordings.{made_grows, made_later}
@@ -88,7 +88,7 @@ module _ {P : Type 0} (v : Watching P) (term : Term) (into : Ref) (old mid here 
     line_taken : (typed : List ℕ) → u.typed ≡ typed → typed ≢ [] → MakesAt (line_value (words_in here) (first_line typed)) into here g n (behind typed) run
     line_taken [] is some = absurd (some refl)
     line_taken (b ∷ bytes) is some = record {
-      at = record { inside = inside_in _ at.at.inside.world at.at.inside; ways = at.at.ways; ways_are = at.at.ways_are; registers = at.at.registers; agrees = at.at.agrees; tag = at.at.tag; stop = at.at.stop };
+      at = record { inside = inside_in _ at.at.inside.world at.at.inside.peak at.at.inside; ways = at.at.ways; ways_are = at.at.ways_are; registers = at.at.registers; agrees = at.at.agrees; tag = at.at.tag; stop = at.at.stop };
       went = subst (λ l. Went g at.at.inside.lives at.at.ways n (move_of (steps_of here) at.at.registers (takes_line (game here.program.now []) l (told (store_in here.store) into) at.at.registers u)) run) is at.went;
     }
 
@@ -279,7 +279,7 @@ module _ {P : Type 0} (v : Watching P) (term : Term) (into : Ref) (old mid here 
 
         module _ (failed : (w : World) → Awaits i' false bytes w → HasEndedSo (MakesAt (value_in w) into here) Failing here new) where
           failed_so : (g : Game) (n : ℕ) (w : World) (run : Run) → Awaits i' false bytes w → (u : World) → MakesAt (value_in w) into here g n u run → Then (events_of cs) u (λ x. Finished n x Failing run)
-          failed_so g n w run a u m = told_by (λ x. Finished n x Failing run) u (failed w a).limits ((failed w a).ends g n u run m)
+          failed_so g n w run a u m = told_by (λ x. Finished n x Failing run) u (failed w a).limits (just_finished ((failed w a).ends g n u run m))
 
           line_failed : Forgets new e → Given v k' k'' (calls_told cs) → Reaches v old s k i i' (HasEnded v Failed e.left s' k'' (left_told i i'))
           line_failed forgets given = record {

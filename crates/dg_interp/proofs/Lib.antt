@@ -1,5 +1,6 @@
 pub mod Links
 pub mod Places
+pub mod Starting
 pub mod Turns
 pub mod Stores
 pub mod Entering
@@ -18,6 +19,9 @@ pub mod Runs
 pub mod Doing
 pub mod Waiting
 pub mod Rounds
+pub mod Uncounted
+pub mod Searches
+pub mod Asked
 pub mod Whole
 pub mod Values
 pub mod Queries

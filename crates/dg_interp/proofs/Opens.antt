@@ -8,7 +8,7 @@ use Rattle.dg_base.specs.declared.program.Goal.{Goal, out-Goal}
 use Rattle.dg_base.specs.Goals.{terms_held}
 use Rattle.dg_meaning.specs.Values.{Value}
 use Rattle.dg_meaning.specs.World.{Game, World}
-use Rattle.dg_meaning.specs.Cells.{cells, writing}
+use Rattle.dg_meaning.specs.Cells.{writing}
 use Rattle.dg_meaning.specs.Path.{Step, Do, Registers, Branch, Plain}
 use Rattle.dg_meaning.specs.Moves.{choice, outcome, path_of}
 use Rattle.dg_meaning.specs.Transcript.{Run}
@@ -34,22 +34,15 @@ use Rattle.dg_unify.proofs.StoreLemmas.{kept_same, all_hold}
 use Rattle.dg_interp.proofs.Stores.{values_kept, hold_front}
 use Rattle.dg_interp.proofs.Kept.{back_limits}
 use Rattle.dg_interp.proofs.Places.{inside_in, open_still, adds_nothing}
-use Rattle.dg_interp.proofs.Goals.{no_cells}
-use Rattle.dg_interp.proofs.Takes.{behind, taken_in, comes_of, adds_taken}
+use Rattle.dg_interp.proofs.Takes.{behind, taken_in, comes_of, adds_taken, agrees_here, peak_here}
 
 -- a choice between goals is tried
 pub chosen : (g : Game) (lives : List Live) (ways : List Way) (n : ℕ) (run : Run) (t : ℕ) (bs : List Branch) (w : World) → After g lives ways n (choice Plain t bs w) run → Tried g Plain t (length w.gathered) ways lives bs n w run
 chosen g lives ways n run t [] w h = h
 chosen g lives ways n run t (b ∷ bs) w h = h
 
--- a goal without terms leaves the registers where they agree
+-- a goal without terms
 module _ (x : Goal) (old : Engine) (none : terms_held (out-Goal x) ≡ []) where
-  pub agrees_here : (g : Game) (n : ℕ) (w : World) (run : Run) (st : TakesAt x old g n w run) → Agrees (store_in old.store) (behind x old g n w run st)
-  agrees_here g n w run st =
-      let r = behind x old g n w run st in
-      let heap : r.heap ≡ st.at.registers.heap = no_cells st.at.registers.heap _ (ap (cells g.program) none) in
-      record { bound = st.at.agrees.bound; vars = st.at.agrees.vars; heap = heap ∙ st.at.agrees.heap; trail = st.at.agrees.trail; since = st.at.agrees.since }
-
   -- what comes of it is a choice with these branches
   abbrev pub IsChoiceOf : Left → Type 0
   IsChoiceOf left = (g : Game) (r : Registers) (w : World) → old.program.now ≡ g.program → r.next_tag ≡ old.newest + 1 →
@@ -64,11 +57,11 @@ module _ (x : Goal) (old : Engine) (none : terms_held (out-Goal x) ≡ []) where
         adds = adds_taken r (writing (terms_held (out-Goal x))) w;
         holds = record {
           at = record {
-            inside = inside_in _ st.at.inside.world st.at.inside;
+            inside = inside_in _ st.at.inside.world (peak_here x old none g n w run st) st.at.inside;
             ways = st.at.ways;
             ways_are = st.at.ways_are;
             registers = r;
-            agrees = agrees_here g n w run st;
+            agrees = agrees_here x old none g n w run st;
             tag = st.at.tag;
             stop = st.at.stop;
           };
@@ -148,6 +141,7 @@ module _ (old : Engine) (frame : Frame) (frames : Vec Frame Global) (ready : IsR
       keeps = at.inside.keeps;
       choices = subst (λ l. AreChoices g old.refs.items l os at.inside.saved at.inside.entries) (sym pushed_on) (choices_same g old.refs.items old.refs.items fs gs (length fs) n old.newest os at.inside.saved at.inside.entries refl (same_append fs frame) ready.sound.base.choices at.inside.choices);
       world = at.inside.world;
+      peak = at.inside.peak;
     };
     ways = at.ways;
     ways_are = at.ways_are;
@@ -238,6 +232,7 @@ module _ (old : Engine) (left : Left) (place : Place) (store : ListBindings) (re
           keeps = saves_drops true (fields_of store) (record { mark = place; store = t }) st.at.inside.saved (place_now st.at.inside.saved st.at.inside.keeps).keeps;
           choices = st.at.inside.choices;
           world = st.at.inside.world;
+          peak = omega (arith, st.at.inside.peak, k.heap_limit);
         };
         ways = st.at.ways;
         ways_are = st.at.ways_are;

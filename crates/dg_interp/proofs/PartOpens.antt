@@ -31,13 +31,12 @@ use Rattle.dg_interp.specs.declared.engine.Engine.{Engine}
 use Rattle.dg_interp.specs.inside.Frames.{values_in, steps_at, lives_of, ways_of, IsChoice, AreChoices, IsFrame, StandOn, GoBackTo}
 use Rattle.dg_interp.specs.inside.Engine.{store_in, KeepsPlaces, IsReady, TakesAt, WentOn, FullAt, steps_of, open_in}
 use Rattle.dg_interp.proofs.Links.{same_here, at_same, stand_raise}
-use Rattle.dg_interp.proofs.Places.{open_still}
+use Rattle.dg_interp.proofs.Places.{open_still, peak_begun}
 use Rattle.dg_unify.proofs.StoreLemmas.{kept_on, all_hold}
 use Rattle.dg_interp.proofs.Stores.{values_kept, hold_front}
 use Rattle.dg_interp.proofs.Kept.{back_limits}
-use Rattle.dg_interp.proofs.Opens.{agrees_here}
 use Rattle.dg_interp.proofs.Controls.{values_of, behind_all}
-use Rattle.dg_interp.proofs.Takes.{behind, taken_in, comes_of, adds_taken}
+use Rattle.dg_interp.proofs.Takes.{behind, taken_in, comes_of, adds_taken, agrees_here, peak_here}
 
 -- ## A stoppable part opens
 
@@ -211,6 +210,7 @@ module _ (goals : Bor (List Goal)) (old : Engine) (ready : IsReady old) (all : b
                   keeps = saved1 (m ∷ st.at.inside.saved) (saved0 st.at.inside.saved st.at.inside.keeps);
                   choices = subst (λ l. AreChoices g xs fs l (m ∷ st.at.inside.saved) (c ∷ st.at.inside.entries)) (sym kept) (subst (λ ws. IsChoice g xs fs o m ws c) st.at.ways_are (choice_is g r st.at.ways agrees st.at.tag st.at.stop), st.at.inside.choices);
                   world = st.at.inside.world;
+                  peak = peak_begun store1 (within_part r) 0 v (agrees1 r agrees) (omega (arith, peak_here x old held_none g n w run st, k.heap_limit));
                 };
                 ways = way r ∷ st.at.ways;
                 ways_are = ap (λ l. way r ∷ l) st.at.ways_are ∙ ap (λ l. ways_of l (c ∷ st.at.inside.entries)) (sym kept);

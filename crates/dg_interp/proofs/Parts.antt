@@ -28,11 +28,12 @@ use Rattle.dg_interp.specs.inside.Frames.{values_in, branches_of, cut_if, lives_
 use Rattle.dg_choices.specs.inside.Cutting.{cut_of, Cuts}
 use Rattle.dg_interp.specs.inside.Engine.{store_in, KeepsPlaces, Within, IsSound, StandsAt, TakesAt, Then, Leads, branches_left, WentOn, StopsAt, StopsWithin, StopsFurther, StopsOn, StopsTo, Stops, leaving, part_at, steps_of}
 use Rattle.dg_interp.proofs.Links.{cut_gone, cut_older, cut_fewer, rest_older}
-use Rattle.dg_interp.proofs.Places.{silent, adds_nothing, adds_drops, leads_on, leads_nowhere, limits_on, limits_here, cut_base, cut_inside, ways_left, inside_in}
+use Rattle.dg_base.specs.Goals.{terms_held}
+use Rattle.dg_interp.proofs.Places.{agrees_within, peak_drops, silent, adds_nothing, adds_drops, leads_on, leads_nowhere, limits_on, limits_here, cut_base, cut_inside, ways_left, inside_in}
 use Rattle.dg_lasting.specs.declared.lasting.Lasting.{Lasting}
 use Rattle.dg_lasting.specs.Lasting.{InWorld, Closes}
 use Rattle.dg_interp.proofs.Turns.{reverse_pop}
-use Rattle.dg_interp.proofs.Takes.{behind, taken_in, comes_of, adds_taken}
+use Rattle.dg_interp.proofs.Takes.{behind, taken_in, comes_of, adds_taken, peak_here}
 use Rattle.dg_interp.proofs.Branches.{fewer_left, popped_base, popped_sound, popped_limits, popped_left, popped_branches, popped_within, popped_world, popped_agrees, no_choice, went_on_from, ended_from}
 
 -- ## The newest choice
@@ -120,6 +121,7 @@ module _ (old : Engine) (o : Choice) (choices : Vec Choice Global) (sound : IsSo
     choice : IsChoice g xs fs o m (ways_of os cs) c
     others : AreChoices g xs fs os ms cs
     world : InWorld old.lasting g w
+    peak : w.meters.heap ≤ (store_in old.store).heap_limit
     went : LeftPart g (cut_if (cut_of o.left) (c ∷ lives_of os cs)) (with_way o.left c (ways_of os cs)) tag n w run
 
   stopped_in : (P : Game → ℕ → World → Run → Type 0) → ((g : Game) (n : ℕ) (w : World) (run : Run) (m : Saved) (ms : List Saved) (c : Live) (cs : List Live) → Stopping g n w run m ms c cs → P g n w run) → (g : Game) (n : ℕ) (w : World) (run : Run) → StopsAt tag old g n w run → P g n w run
@@ -137,6 +139,7 @@ module _ (old : Engine) (o : Choice) (choices : Vec Choice Global) (sound : IsSo
             choice = h.0;
             others = h.1;
             world = st.inside.world;
+            peak = st.inside.peak;
             went = subst (λ l. LeftPart g l (with_way o.left c (ways_of os cs)) tag n w run) e went;
           })
 
@@ -151,7 +154,7 @@ module _ (old : Engine) (o : Choice) (choices : Vec Choice Global) (sound : IsSo
     lives = lives_of os cs
 
     abbrev before : Within old.program.now old.lasting old.store xs fs os g w
-    before = record { program = st.program; entries = cs; lives = lives; lives_are = refl; saved = ms; keeps = saves_drops true (fields_of old.store) m ms st.keeps; choices = st.others; world = st.world }
+    before = record { program = st.program; entries = cs; lives = lives; lives_are = refl; saved = ms; keeps = saves_drops true (fields_of old.store) m ms st.keeps; choices = st.others; world = st.world; peak = st.peak }
 
     went_on : None ≡ part_at (eqb o.tag tag) tag o.left → (ls : List Live) (ws : List WayOn) → cut_to tag ls ≡ cut_to tag (cut_if (cut_of o.left) lives) → ws ≡ ways_of os cs → LeftPart g ls ws tag n w run
     went_on none ls ws cut ways =
@@ -192,7 +195,7 @@ module _ (old : Engine) (o : Choice) (choices : Vec Choice Global) (sound : IsSo
       adds = adds_nothing w;
       holds = stopped_in (StopsAt tag (record old { choices = rest }))
           (λ g n w run m ms c cs x. record {
-            inside = cut_inside t old.program.now old.lasting old.store xs fs os (reverse rest.items) cuts g w w x.world (before g n w run m ms c cs x);
+            inside = cut_inside t old.program.now old.lasting old.store xs fs os (reverse rest.items) cuts g w w x.world x.peak (before g n w run m ms c cs x);
             part_left = went_on g n w run m ms c cs x none (cut_to t (lives_of os cs)) (ways_of (reverse rest.items) (rest_older t os cs)) (ap (λ k. cut_to tag (cut_if k (lives_of os cs))) waits) (ways_left t old.program.now old.lasting old.store xs fs os (reverse rest.items) cuts g w (before g n w run m ms c cs x));
           }) g n w run st;
     };
@@ -229,8 +232,10 @@ module _ (old : Engine) (o : Choice) (choices : Vec Choice Global) (sound : IsSo
         let world = popped_world old o choices sound popped frames refs out store old.told cut cut_refs closed back keeps g m ms c cs st.program st.keeps st.choice st.others w q.world st.world q.drops count in
         let outer : q.outer ≡ ways_of os cs = ap (λ (x : WayOn × List WayOn). x.1) pair in
         let others : q.way.others ≡ enter 0 0 r (steps_of final) ∷ [] = ap (λ (x : WayOn × List WayOn). x.0.others) pair ∙ here in
-        let inside0 = popped_within old o choices sound popped frames refs out store old.told cut cut_refs closed back keeps g m ms c cs st.program st.keeps st.choice st.others v world in
         let agrees : Agrees (store_in store) r = popped_agrees old o choices sound popped frames refs out store old.told cut cut_refs closed back keeps g m ms c cs st.program st.keeps st.choice st.others in
+        let limits = popped_limits old o choices sound popped frames refs out store old.told cut cut_refs closed back keeps in
+        let peak : v.meters.heap ≤ (store_in store).heap_limit = omega (arith, peak_drops (store_in old.store).heap_limit w q.world q.drops st.peak, limits.heap, agrees_within store r agrees) in
+        let inside0 = popped_within old o choices sound popped frames refs out store old.told cut cut_refs closed back keeps g m ms c cs st.program st.keeps st.choice st.others v world peak in
         let lives : cut_to tag (cut_if (cut_of o.left) (c ∷ lives_of os cs)) ≡ cut_to p.1 (lives_of os cs) = ap (λ l. cut_to tag (cut_if (cut_of l) (c ∷ lives_of os cs))) part.is
         ∙ cut_left tag part.cut c (lives_of os cs) (st.choice.tag ∙ the_tag) (subst (λ t. IsNoted t part.cut) the_tag (subst (λ l. IsNoted o.tag (cut_of l)) part.is stand.3.2)) ∙ ap (λ t. cut_to t (lives_of os cs)) (sym part.leaves) in
         let adds = adds_drops w q.world q.drops in
@@ -239,7 +244,7 @@ module _ (old : Engine) (o : Choice) (choices : Vec Choice Global) (sound : IsSo
           adds = record { events_are = adds.events_are; typed = adds.typed };
           holds = record {
             at = record {
-              inside = cut_inside p.1 old.program.now out store refs.items frames.items os (reverse rest.items) cuts g v v world inside0;
+              inside = cut_inside p.1 old.program.now out store refs.items frames.items os (reverse rest.items) cuts g v v world peak inside0;
               ways = q.outer;
               ways_are = outer ∙ sym (ways_left p.1 old.program.now out store refs.items frames.items os (reverse rest.items) cuts g v inside0);
               registers = inside 0 r;
@@ -297,7 +302,7 @@ module _ (old : Engine) where
       record {
         world = v;
         adds = adds_taken (behind Stop old g n w run st) _ w;
-        holds = record { inside = inside_in v st.at.inside.world st.at.inside; part_left = subst (λ ws. LeftPart g st.at.inside.lives ws tag n v run) st.at.ways_are went };
+        holds = record { inside = inside_in v st.at.inside.world (peak_here Stop old (ap terms_held outs-Stop) g n w run st) st.at.inside; part_left = subst (λ ws. LeftPart g st.at.inside.lives ws tag n v run) st.at.ways_are went };
       }
 
   pub stop_lasting : old.stoppable ≡ None → Stops false old old
@@ -306,7 +311,15 @@ module _ (old : Engine) where
     limits = silent (limits_here old);
     ends = λ g n w run st.
         let v = taken_in Stop old g n w run st in
-        record { world = v; adds = adds_taken (behind Stop old g n w run st) _ w; holds = subst (λ s. After g st.at.inside.lives st.at.ways n (Moves (stop s v)) run) (st.at.stop ∙ is) (stops_in g n w run st) };
+        record {
+          world = v;
+          adds = adds_taken (behind Stop old g n w run st) _ w;
+          holds = record {
+            finished = subst (λ s. After g st.at.inside.lives st.at.ways n (Moves (stop s v)) run) (st.at.stop ∙ is) (stops_in g n w run st);
+            world = st.at.inside.world;
+            peak = peak_here Stop old (ap terms_held outs-Stop) g n w run st;
+          };
+        };
   }
 
 pub stop_made : (old new : Engine) (tag : ℕ) → old.stoppable ≡ Some tag → (b : Bool) → StopsTo tag b old new → Stops b old new

@@ -32,7 +32,7 @@ use Rattle.dg_lasting.specs.Lasting.{InWorld}
 use Rattle.dg_interp.proofs.Kept.{rules_open}
 use Rattle.dg_interp.specs.inside.Engine.{store_in, open_in, Point, IsSound, HasPlace, FailsAt, BeginsAt, with_all, events_of, again_rules, Adds, LeadsBy, Leads, Tells, WentWrong}
 use Rattle.dg_terms.specs.Passing.{IsFirst, IsCandidate, PassesTo}
-use Rattle.dg_interp.proofs.Places.{there_in, world_still, world_tried, adds_nothing, adds_on, adds_drops, tried_events, adds_tried, all_on, leads_by, leads_then, leads_to, leads_nowhere}
+use Rattle.dg_interp.proofs.Places.{peak_begun, agrees_inside, peak_drops, peak_tried, there_in, world_still, world_tried, adds_nothing, adds_on, adds_drops, tried_events, adds_tried, all_on, leads_by, leads_then, leads_to, leads_nowhere}
 use Rattle.dg_interp.proofs.Turns.{all_rest}
 
 candidates_runnable : (S : _) (args : List Value) (rules : List Rule) → All IsRunnableRule rules → All IsRunnableRule (from_candidate S args rules)
@@ -64,9 +64,9 @@ module _ (old : Engine) (query : Query) (args : Env) (place : Place) (sound : Is
   abbrev TriedAt : Game → Registers → List Way → List Live → List Rule → ℕ → World → Run → Type 0
   TriedAt g r ways lives rules n w run = Tried g (RulesOf query.pred) r.next_tag (open_in old) ways lives (rule_branches g query.pred the_args query.many steps r rules) n w run
 
-  at_tried : (b b' : Bor (List Rule)) (rules : List Rule) (g : Game) (n : ℕ) (w v : World) (run : Run) → b'.now ≡ rules → InWorld old.lasting g v → (st : at b g n w run) → TriedAt g st.at.registers st.at.ways st.at.inside.lives rules n v run → at b' g n v run
-  at_tried b b' rules g n w v run e is st tried = record {
-    at = there_in v is st.at;
+  at_tried : (b b' : Bor (List Rule)) (rules : List Rule) (g : Game) (n : ℕ) (w v : World) (run : Run) → b'.now ≡ rules → InWorld old.lasting g v → v.meters.heap ≤ s.heap_limit → (st : at b g n w run) → TriedAt g st.at.registers st.at.ways st.at.inside.lives rules n v run → at b' g n v run
+  at_tried b b' rules g n w v run e is peak st tried = record {
+    at = there_in v is peak st.at;
     back = st.back;
     is = st.is;
     back_agrees = st.back_agrees;
@@ -75,7 +75,7 @@ module _ (old : Engine) (query : Query) (args : Env) (place : Place) (sound : Is
   }
 
   same_at : (b b' : Bor (List Rule)) → b.now ≡ b'.now → Leads (at b) (at b')
-  same_at b b' e g n w run st = record { world = w; adds = adds_nothing w; holds = at_tried b b' b.now g n w w run (sym e) st.at.inside.world st st.tried }
+  same_at b b' e g n w run st = record { world = w; adds = adds_nothing w; holds = at_tried b b' b.now g n w w run (sym e) st.at.inside.world st.at.inside.peak st st.tried }
 
   -- an excluded rule fails as it begins
   passes_one : (b : Bor (List Rule)) (rule : Rule) (rules : List Rule) → first_excludes s.state.subst the_args rule.head ≡ true → LeadsBy (again_rules query.pred rules) (at (bor b (rule ∷ rules))) (at (bor b rules))
@@ -93,11 +93,13 @@ module _ (old : Engine) (query : Query) (args : Env) (place : Place) (sound : Is
       let tried = tried_events (RulesOf query.pred) bs in
       let dropped = adds_drops v f.world f.drops in
       let u = tried_in (RulesOf query.pred) bs f.world in
+      let reached = peak_begun old.store (inside 0 r) work w (agrees_inside old.store r st.at.agrees) st.at.inside.peak in
+      let peak = peak_tried s.heap_limit (RulesOf query.pred) bs f.world (peak_drops s.heap_limit v f.world f.drops reached) in
       let still = world_still old.lasting g v f.world st.at.inside.world f.drops (f.gatherings ∙ rules_open g query.pred the_args query.many steps r rules (open_in old)) in
       record {
         world = u;
         adds = subst (λ es. Adds es w u) (again_so r rules) (adds_on w f.world u [] tried (adds_on w v f.world [] [] begun_adds dropped) (adds_tried (RulesOf query.pred) bs f.world));
-        holds = at_tried (bor b (rule ∷ rules)) (bor b rules) rules g n w u run refl (world_tried old.lasting g (RulesOf query.pred) bs f.world still) st (tries g c st.at.inside.lives n f.world run f.resumed);
+        holds = at_tried (bor b (rule ∷ rules)) (bor b rules) rules g n w u run refl (world_tried old.lasting g (RulesOf query.pred) bs f.world still) peak st (tries g c st.at.inside.lives n f.world run f.resumed);
       }
     where
       again_so : (r : Registers) (rules : List Rule) → tried_events (RulesOf query.pred) (rule_branches g query.pred the_args query.many steps r rules) ≡ events_of (again_rules query.pred rules)
@@ -175,6 +177,7 @@ module _ (old : Engine) (query : Query) (args : Env) (place : Place) (sound : Is
           keeps = saves_drops true (fields_of old.store) st.back st.at.inside.saved st.is.keeps;
           choices = st.at.inside.choices;
           world = st.at.inside.world;
+          peak = st.at.inside.peak;
         };
         failed = subst (λ l. TriedAt g st.at.registers st.at.ways st.at.inside.lives l n w run) e st.tried;
       };

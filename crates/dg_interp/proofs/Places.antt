@@ -8,8 +8,8 @@ use Rattle.std.specs.declared.alloc.Global.{Global}
 use Rattle.dg_base.specs.declared.program.CoreProgram.{CoreProgram}
 use Rattle.dg_base.specs.declared.run.Ending.TheVariants.{Done}
 use Rattle.dg_meaning.specs.World.{Game, World, Event, Answered, Retried, noted}
-use Rattle.dg_meaning.specs.Path.{Step, Answers, Cut, Registers, End, Branch, ChoiceKind, Plain, Rules, Shield, Gathers}
-use Rattle.dg_meaning.specs.Moves.{path_of, first_alone}
+use Rattle.dg_meaning.specs.Path.{Step, Answers, Cut, Registers, Result, End, Branch, ChoiceKind, Plain, Rules, Shield, Gathers}
+use Rattle.dg_meaning.specs.Moves.{path_of, first_alone, begun, inside}
 use Rattle.dg_meaning.specs.Peaks.{Area, Heap, Trail, Aux, Keep}
 use Rattle.dg_meaning.specs.Transcript.{Run}
 use Rattle.dg_meaning.specs.inside.Context.{Live, cut_to, Drops}
@@ -31,7 +31,7 @@ use Rattle.dg_interp.specs.declared.engine.Engine.{Engine}
 use Rattle.dg_watch.specs.declared.watch.CallEvent.{CallEvent}
 use Rattle.dg_watch.specs.declared.watch.CallEvent.TheVariants as call
 use Rattle.dg_interp.specs.inside.Frames.{values_in, mark_steps, frame_steps, steps_behind, steps_at, lives_of, ways_of, AreChoices, IsFrame, AreFrames, StandOn, GoBackTo, floor_of, all_left}
-use Rattle.dg_interp.specs.inside.Engine.{store_in, limit_in, KeepsPlaces, Within, On, There, Sound, IsReady, Point, StandsAt, FailsAt, with_all, events_of, event_of, Adds, Then, LeadsBy, Leads, branches_left, SameLimits, Silent, Tells, WentOn, WentWrong, HasEndedSo, MarkPassed, Refused, FrameLeft, steps_of}
+use Rattle.dg_interp.specs.inside.Engine.{store_in, limit_in, KeepsPlaces, Within, On, There, Sound, IsReady, Point, StandsAt, FailsAt, with_all, events_of, event_of, Adds, Then, LeadsBy, Leads, branches_left, SameLimits, Silent, Tells, WentOn, WentWrong, EndsAt, HasEndedSo, MarkPassed, Refused, FrameLeft, steps_of}
 use Rattle.dg_choices.specs.inside.Cutting.{older_than, Cuts}
 use Rattle.dg_lasting.specs.declared.lasting.Lasting.{Lasting}
 use Rattle.dg_lasting.specs.Lasting.{row_of, InWorld}
@@ -84,15 +84,39 @@ world_tried out g Shield (b ∷ bs) w is = is
 world_tried out g Gathers (b ∷ bs) w is = is
 
 -- the same in another world
-abbrev pub inside_in : {p : CoreProgram} {out : Lasting} {s : ListBindings} {rs : List Ref} {fs : List Frame} {os : List Choice} {g : Game} {w : World} (v : World) → InWorld out g v → Within p out s rs fs os g w → Within p out s rs fs os g v
-inside_in v is i = record { program = i.program; entries = i.entries; lives = i.lives; lives_are = i.lives_are; saved = i.saved; keeps = i.keeps; choices = i.choices; world = is }
+abbrev pub inside_in : {p : CoreProgram} {out : Lasting} {s : ListBindings} {rs : List Ref} {fs : List Frame} {os : List Choice} {g : Game} {w : World} (v : World) → InWorld out g v → v.meters.heap ≤ (store_in s).heap_limit → Within p out s rs fs os g w → Within p out s rs fs os g v
+inside_in v is peak i = record { program = i.program; entries = i.entries; lives = i.lives; lives_are = i.lives_are; saved = i.saved; keeps = i.keeps; choices = i.choices; world = is; peak = peak }
 
 -- and over a store that keeps its places
-abbrev pub inside_kept : {p : CoreProgram} {out : Lasting} {s : ListBindings} {rs : List Ref} {fs : List Frame} {os : List Choice} {g : Game} {w : World} (s' : ListBindings) (v : World) → ((ms : List Saved) → KeepsPlaces s ms → KeepsPlaces s' ms) → InWorld out g v → Within p out s rs fs os g w → Within p out s' rs fs os g v
-inside_kept s' v k is i = record { program = i.program; entries = i.entries; lives = i.lives; lives_are = i.lives_are; saved = i.saved; keeps = k i.saved i.keeps; choices = i.choices; world = is }
+abbrev pub inside_kept : {p : CoreProgram} {out : Lasting} {s : ListBindings} {rs : List Ref} {fs : List Frame} {os : List Choice} {g : Game} {w : World} (s' : ListBindings) (v : World) → ((ms : List Saved) → KeepsPlaces s ms → KeepsPlaces s' ms) → InWorld out g v → v.meters.heap ≤ (store_in s').heap_limit → Within p out s rs fs os g w → Within p out s' rs fs os g v
+inside_kept s' v k is peak i = record { program = i.program; entries = i.entries; lives = i.lives; lives_are = i.lives_are; saved = i.saved; keeps = k i.saved i.keeps; choices = i.choices; world = is; peak = peak }
 
-abbrev pub there_in : {p : CoreProgram} {out : Lasting} {s : ListBindings} {rs : List Ref} {fs : List Frame} {os : List Choice} {next : ℕ} {part : Option ℕ} {g : Game} {w : World} (v : World) → InWorld out g v → On p out s rs fs os next part g w → On p out s rs fs os next part g v
-there_in v is at = record { inside = inside_in v is at.inside; ways = at.ways; ways_are = at.ways_are; registers = at.registers; agrees = at.agrees; tag = at.tag; stop = at.stop }
+abbrev pub there_in : {p : CoreProgram} {out : Lasting} {s : ListBindings} {rs : List Ref} {fs : List Frame} {os : List Choice} {next : ℕ} {part : Option ℕ} {g : Game} {w : World} (v : World) → InWorld out g v → v.meters.heap ≤ (store_in s).heap_limit → On p out s rs fs os next part g w → On p out s rs fs os next part g v
+there_in v is peak at = record { inside = inside_in v is peak at.inside; ways = at.ways; ways_are = at.ways_are; registers = at.registers; agrees = at.agrees; tag = at.tag; stop = at.stop }
+
+-- ## What was reached of the heap
+
+-- a path that a store is on is within its limit
+pub agrees_within : (s : ListBindings) (r : Registers) → Agrees (store_in s) r → r.heap ≤ (store_in s).heap_limit
+agrees_within s r a = omega (arith, a.heap, s.sound.heap_fits)
+
+-- where a path is reached no more was reached than the limit
+pub peak_begun : (s : ListBindings) (r : Registers) (work : ℕ) (w : World) → Agrees (store_in s) r → w.meters.heap ≤ (store_in s).heap_limit → (begun r work w).meters.heap ≤ (store_in s).heap_limit
+peak_begun s r work w a peak = let within = agrees_within s r a in omega (arith, within, peak)
+
+-- inside a choice that takes no cells it is where it was
+pub agrees_inside : (s : ListBindings) (r : Registers) → Agrees (store_in s) r → Agrees (store_in s) (inside 0 r)
+agrees_inside s r a = record { bound = a.bound; vars = a.vars; heap = omega (arith, a.heap); trail = a.trail; since = a.since }
+
+pub peak_drops : (limit : ℕ) (w v : World) → Drops w v → w.meters.heap ≤ limit → v.meters.heap ≤ limit
+peak_drops limit w v d peak = subst (λ (x : World). x.meters.heap ≤ limit) (sym d.is) peak
+
+pub peak_tried : (limit : ℕ) (k : ChoiceKind) (bs : List Branch) (w : World) → w.meters.heap ≤ limit → (tried_in k bs w).meters.heap ≤ limit
+peak_tried limit k [] w peak = peak
+peak_tried limit (Rules q) (b ∷ bs) w peak = peak
+peak_tried limit Plain (b ∷ bs) w peak = peak
+peak_tried limit Shield (b ∷ bs) w peak = peak
+peak_tried limit Gathers (b ∷ bs) w peak = peak
 
 -- a call is noted
 pub adds_noted : (w : World) (e : Event) → Adds (e ∷ []) w (noted e w)
@@ -201,8 +225,8 @@ module _ (t : ℕ) (p : CoreProgram) (out : Lasting) (s : ListBindings) (rs : Li
     };
   }
 
-  abbrev pub cut_inside : (g : Game) (w v : World) → InWorld out g v → Within p out s rs fs os g w → Within p out s rs fs os' g v
-  cut_inside g w v world i = record {
+  abbrev pub cut_inside : (g : Game) (w v : World) → InWorld out g v → v.meters.heap ≤ (store_in s).heap_limit → Within p out s rs fs os g w → Within p out s rs fs os' g v
+  cut_inside g w v world peak i = record {
     program = i.program;
     entries = rest_older t os i.entries;
     lives = cut_to t i.lives;
@@ -211,6 +235,7 @@ module _ (t : ℕ) (p : CoreProgram) (out : Lasting) (s : ListBindings) (rs : Li
     keeps = keeps_older s t os i.saved i.keeps;
     choices = subst (λ l. AreChoices g rs fs l (rest_older t os i.saved) (rest_older t os i.entries)) (sym is) (choices_cut g t rs fs os i.saved i.entries i.choices);
     world = world;
+    peak = peak;
   }
 
   pub ways_left : (g : Game) (w : World) (i : Within p out s rs fs os g w) → ways_of os' (rest_older t os i.entries) ≡ ways_of os i.entries
@@ -235,6 +260,7 @@ module _ (old new : Engine) (program : new.program.now ≡ old.program.now) (las
           keeps = subst (λ s. KeepsPlaces s st.at.inside.saved) (sym store) st.at.inside.keeps;
           choices = choices g st.at.inside.saved st.at.inside.entries st.at.inside.choices;
           world = subst (λ o. InWorld o g w) (sym lasting) st.at.inside.world;
+          peak = subst (λ (s : ListBindings). w.meters.heap ≤ (store_in s).heap_limit) (sym store) st.at.inside.peak;
         };
         ways = st.at.ways;
         ways_are = st.at.ways_are ∙ ap (λ (c : Vec Choice Global). ways_of (reverse c.items) st.at.inside.entries) (sym kept);
@@ -305,7 +331,7 @@ module _ (old : Engine) (ready : IsReady old) (none : old.here.goals.now ≡ [])
             world = noted (Answered query.pred) w;
             adds = adds_noted w (Answered query.pred);
             holds = record {
-              at = there_in _ st.at.inside.world st.at;
+              at = there_in _ st.at.inside.world st.at.inside.peak st.at;
               stands = subst (λ s. Stands g st.at.inside.lives st.at.ways (path_of s st.at.registers) n (noted (Answered query.pred) w) run) (sym off)
                   (passes_answer g st.at.inside.lives st.at.ways query.pred rest st.at.registers n w run (subst (λ s. Stands g st.at.inside.lives st.at.ways (path_of s st.at.registers) n w run) was st.stands));
             };
@@ -327,7 +353,7 @@ module _ (old : Engine) (ready : IsReady old) (none : old.here.goals.now ≡ [])
         world = w;
         adds = adds_nothing w;
         holds = record {
-          inside = inside_in w st.at.inside.world st.at.inside;
+          inside = st.at.inside;
           failed = passes_back g st.at.inside.lives st.at.ways [] st.at.registers n w run (subst (λ s. Stands g st.at.inside.lives st.at.ways (path_of s st.at.registers) n w run) (steps_done values fs old.here Exhausted none is) st.stands);
         };
       };
@@ -344,7 +370,7 @@ module _ (old : Engine) (ready : IsReady old) (none : old.here.goals.now ≡ [])
     world = w;
     adds = adds_nothing w;
     holds = record {
-      at = there_in w st.at.inside.world st.at;
+      at = st.at;
       tag = t;
       stands = subst (λ s. Stands g st.at.inside.lives st.at.ways (path_of s st.at.registers) n w run) (steps_done values fs old.here (KeepIn t) none is) st.stands;
     };
@@ -374,13 +400,13 @@ module _ (old : Engine) (ready : IsReady old) (none : old.here.goals.now ≡ [])
     cut_less : branches_left new ≤ branches_left old
     cut_less = subst (λ os. all_left os ≤ branches_left old) (sym cuts) (cut_fewer t (reverse old.choices.items))
 
-    abbrev inside_left : (g : Game) (w v : World) → InWorld old.lasting g v → Within old.program.now old.lasting old.store old.refs.items fs (reverse old.choices.items) g w → Within old.program.now old.lasting old.store old.refs.items fs (reverse choices.items) g v
+    abbrev inside_left : (g : Game) (w v : World) → InWorld old.lasting g v → v.meters.heap ≤ (store_in old.store).heap_limit → Within old.program.now old.lasting old.store old.refs.items fs (reverse old.choices.items) g w → Within old.program.now old.lasting old.store old.refs.items fs (reverse choices.items) g v
     inside_left = cut_inside t old.program.now old.lasting old.store old.refs.items fs (reverse old.choices.items) (reverse choices.items) cuts
 
-    cut_at : (g : Game) (n : ℕ) (w v : World) (run : Run) → InWorld old.lasting g v → (at : There old (old.newest + 1) g w) (r : Registers) → Agrees (store_in old.store) r → r.next_tag ≡ old.newest + 1 → r.stoppable ≡ part → Stands g (cut_to t at.inside.lives) at.ways (path_of rest r) n v run → StandsAt new g n v run
-    cut_at g n w v run world at r agrees tag stop stands = record {
+    cut_at : (g : Game) (n : ℕ) (w v : World) (run : Run) → InWorld old.lasting g v → v.meters.heap ≤ (store_in old.store).heap_limit → (at : There old (old.newest + 1) g w) (r : Registers) → Agrees (store_in old.store) r → r.next_tag ≡ old.newest + 1 → r.stoppable ≡ part → Stands g (cut_to t at.inside.lives) at.ways (path_of rest r) n v run → StandsAt new g n v run
+    cut_at g n w v run world peak at r agrees tag stop stands = record {
       at = record {
-        inside = inside_left g w v world at.inside;
+        inside = inside_left g w v world peak at.inside;
         ways = at.ways;
         ways_are = at.ways_are ∙ sym (ways_left t old.program.now old.lasting old.store old.refs.items fs (reverse old.choices.items) (reverse choices.items) cuts g w at.inside);
         registers = r;
@@ -402,7 +428,7 @@ module _ (old : Engine) (ready : IsReady old) (none : old.here.goals.now ≡ [])
         record {
           world = w;
           adds = adds_nothing w;
-          holds = cut_at g n w w run st.at.inside.world st.at (record r { stoppable = part }) (record { bound = a.bound; vars = a.vars; heap = a.heap; trail = a.trail; since = a.since }) st.at.tag refl
+          holds = cut_at g n w w run st.at.inside.world st.at.inside.peak st.at (record r { stoppable = part }) (record { bound = a.bound; vars = a.vars; heap = a.heap; trail = a.trail; since = a.since }) st.at.tag refl
               (passes_leave g st.at.inside.lives st.at.ways t part rest r n w run (subst (λ s. Stands g st.at.inside.lives st.at.ways (path_of s r) n w run) (steps_done values fs old.here (LeavePart t part) none is) st.stands));
         })
 
@@ -416,7 +442,7 @@ module _ (old : Engine) (ready : IsReady old) (none : old.here.goals.now ≡ [])
           world = w;
           adds = adds_nothing w;
           holds = record {
-            inside = inside_left g w w st.at.inside.world st.at.inside;
+            inside = inside_left g w w st.at.inside.world st.at.inside.peak st.at.inside;
             failed = passes_refuse g st.at.inside.lives st.at.ways t [] st.at.registers n w run (subst (λ s. Stands g st.at.inside.lives st.at.ways (path_of s st.at.registers) n w run) (steps_done values fs old.here (RefuseTo t) none is) st.stands);
           };
         };
@@ -429,7 +455,7 @@ module _ (old : Engine) (ready : IsReady old) (none : old.here.goals.now ≡ [])
       (λ g n w run st. record {
         world = w;
         adds = adds_nothing w;
-        holds = cut_at t choices old.stoppable old.told cuts g n w w run st.at.inside.world st.at st.at.registers st.at.agrees st.at.tag st.at.stop
+        holds = cut_at t choices old.stoppable old.told cuts g n w w run st.at.inside.world st.at.inside.peak st.at st.at.registers st.at.agrees st.at.tag st.at.stop
             (passes_cut g st.at.inside.lives st.at.ways t rest st.at.registers n w run (subst (λ s. Stands g st.at.inside.lives st.at.ways (path_of s st.at.registers) n w run) (steps_done values fs old.here (CutTo t) none is) st.stands));
       })
 
@@ -444,7 +470,7 @@ module _ (old : Engine) (ready : IsReady old) (none : old.here.goals.now ≡ [])
       record {
         world = v;
         adds = adds_noted w (Answered query.pred);
-        holds = cut_at t choices old.stoppable told cuts g n w v run st.at.inside.world st.at st.at.registers st.at.agrees st.at.tag st.at.stop
+        holds = cut_at t choices old.stoppable told cuts g n w v run st.at.inside.world st.at.inside.peak st.at st.at.registers st.at.agrees st.at.tag st.at.stop
             (passes_cut g st.at.inside.lives st.at.ways t rest st.at.registers n v run
             (passes_answer g st.at.inside.lives st.at.ways query.pred (Cut t ∷ rest) st.at.registers n w run (subst (λ s. Stands g st.at.inside.lives st.at.ways (path_of s st.at.registers) n w run) was st.stands)));
       })
@@ -544,15 +570,19 @@ went_wrong From a b c h k = record {
   leads = leads_by h.limits.calls k.limits.calls From (StandsAt b) (FailsAt c) h.leads k.leads;
 }
 
+-- a run that has ended has finished
+pub just_finished : {es : List Event} {w : World} {result : Result} {e : Engine} {g : Game} {n : ℕ} {run : Run} → Then es w (λ u. EndsAt result e g n u run) → Then es w (λ u. Finished n u result run)
+just_finished t = record { world = t.world; adds = t.adds; holds = t.holds.finished }
+
 -- no frame is behind
 pub all_done : (From : Point) (old e : Engine) → WentOn From old e → e.here.goals.now ≡ [] → e.here.mark ≡ Nothing → e.here.behind ≡ 0 → HasEndedSo From (End Done) old e
 all_done From old e h none off end = record {
   left = h.left;
   limits = h.limits;
-  ends = leads_to h.limits.calls From (StandsAt e) (λ g n v run. Finished n v (End Done) run) h.leads
+  ends = leads_to h.limits.calls From (StandsAt e) (EndsAt (End Done) e) h.leads
       (λ g n v run k.
       let values = values_in (store_in e.store) e.refs.items in
       let steps : steps_of e ≡ [] = steps_done values e.frames.items e.here Nothing none off ∙ ap (steps_behind values e.frames.items) end ∙ behind_end values e.frames.items in
       let stands = subst (λ s. Stands g k.at.inside.lives k.at.ways (path_of s k.at.registers) n v run) steps k.stands in
-      record { world = v; adds = adds_nothing v; holds = done g k.at.inside.lives k.at.ways k.at.registers n v run stands });
+      record { world = v; adds = adds_nothing v; holds = record { finished = done g k.at.inside.lives k.at.ways k.at.registers n v run stands; world = k.at.inside.world; peak = k.at.inside.peak } });
 }

@@ -43,8 +43,8 @@ use Rattle.dg_interp.proofs.Begins.{began_peaks}
 use Rattle.dg_interp.proofs.Links.{SameBy, same_here, same_append, behind_new, at_same, frame_raise, frames_append, choices_same, stand_raise, stand_same}
 use Rattle.dg_interp.proofs.Stores.{values_kept, hold_front, appended_stretch, trail_append, trail_older, made_is, both_among}
 use Rattle.dg_interp.proofs.Grown.{grown_front, grown_longer, grown_values, grown_hold, grown_back, grown_base, grown_choices}
-use Rattle.dg_interp.proofs.Places.{inside_kept, adds_nothing}
-use Rattle.dg_interp.proofs.Takes.{behind as after_terms, taken_in, comes_of, adds_taken, terms_full}
+use Rattle.dg_interp.proofs.Places.{peak_begun, inside_kept, adds_nothing}
+use Rattle.dg_interp.proofs.Takes.{behind as after_terms, taken_in, comes_of, adds_taken, terms_full, peak_taken}
 use Rattle.dg_interp.proofs.Values.{made_among, term_full, agrees_behind}
 use Rattle.dg_interp.proofs.Turns.{all_first, all_rest}
 
@@ -311,6 +311,7 @@ module _ (value : Ref) (many : Bool) (old : Engine) (ready : IsReady old) where
                 keeps = saved2 st.at.inside.saved st.at.inside.keeps;
                 choices = choices_now g st.at.inside.saved st.at.inside.entries st.at.inside.choices;
                 world = st.at.inside.world;
+                peak = peak_begun store2 (behind_of g r) (work_of g r) w (body_agrees g parts body args s r st.at.agrees sub s2 xs ys found enters) (omega (arith, st.at.inside.peak, k2.heap_limit));
               };
               failed = subst (λ b. Began g st.at.inside.lives st.at.ways (enter_if b (path_of (steps_in r) (behind_of g r)) (work_of g r)) n w run) none (begins g n w run st);
             };
@@ -383,6 +384,7 @@ module _ (value : Ref) (many : Bool) (old : Engine) (ready : IsReady old) where
               let r = st.at.registers in
               let met : (u_of g r).agrees ≡ true = sym (body_found g parts body args s r st.at.agrees sub s2 xs ys found enters) ∙ agreed in
               let v = begun (behind_of g r) (work_of g r) w in
+              let agrees = body_agrees g parts body args s r st.at.agrees sub s2 xs ys found enters in
               record {
                 world = v;
                 adds = adds_begun (behind_of g r) (work_of g r) w;
@@ -398,11 +400,12 @@ module _ (value : Ref) (many : Bool) (old : Engine) (ready : IsReady old) where
                       choices = subst (λ l. AreChoices g ys l os st.at.inside.saved st.at.inside.entries) (sym pushed_on)
                           (choices_same g ys ys fs gs (length fs) (length ys) old.newest os st.at.inside.saved st.at.inside.entries refl (same_append fs old.here) entering_sound.base.choices (choices_now g st.at.inside.saved st.at.inside.entries st.at.inside.choices));
                       world = st.at.inside.world;
+                      peak = peak_begun store2 (behind_of g r) (work_of g r) w agrees (omega (arith, st.at.inside.peak, k2.heap_limit));
                     };
                     ways = st.at.ways;
                     ways_are = st.at.ways_are;
                     registers = behind_of g r;
-                    agrees = body_agrees g parts body args s r st.at.agrees sub s2 xs ys found enters;
+                    agrees = agrees;
                     tag = ap (λ i. i + 1) st.at.tag;
                     stop = st.at.stop;
                   };
@@ -447,7 +450,7 @@ module _ (a : Term) (b : Option Term) (many : Bool) (old : Engine) (store : List
         adds = record { events_are = all.events_are; typed = refl };
         holds = record {
           at = record {
-            inside = inside_kept _ _ saved st.at.inside.world st.at.inside;
+            inside = inside_kept _ _ saved st.at.inside.world (peak_taken x old store g n w run st (agrees g n w run st) (omega (arith, st.at.inside.peak, k.heap_limit))) st.at.inside;
             ways = st.at.ways;
             ways_are = st.at.ways_are;
             registers = r;

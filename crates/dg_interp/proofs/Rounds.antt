@@ -28,7 +28,7 @@ use Rattle.std.proofs.lemmas.List.{append-nil, append_cancel_left}
 use Rattle.dg_meaning.specs.Engines.{told_behind, left_told}
 use Rattle.dg_meaning.proofs.Engines.{as_told}
 use Rattle.dg_interp.specs.inside.Running.{Gave, Awaits, Stretch, HasText, Reaches, GoesOn, HasEnded, MeetsLimit, Ended, HasPart, IsLimited, TakesMore, LosesInput, LosesOutput, Broken, GoalDone, Does, TellsSo, ending_at, limit_of}
-use Rattle.dg_interp.proofs.Places.{limits_at, adds_nothing, telling_limits}
+use Rattle.dg_interp.proofs.Places.{limits_at, adds_nothing, telling_limits, just_finished}
 use Rattle.dg_interp.proofs.Runs.{same_on, same_here, gave_nothing, gave_on, stretched, ended_at, writes_nothing, writes_on, text_shown, calls_shown, calls_lost, quiet_told, forgets_ready, forgets_stands, forgets_limits, forgets_left, forgets_goals, finished_so, finished_later, lost_begins, lost_shown, no_more}
 
 -- ## From stretch to stretch
@@ -140,7 +140,7 @@ module _ {P : Type 0} (v : Watching P) (old mid : Engine) (s s' : Spacer) (k k' 
   next_ended new e k'' result ending is a forgets given =
       behind_goal k'' (HasEnded v ending e.left s' k'' (left_told i i'))
       (λ g w u run start taken left st text.
-      let x = finished_so v result ending mid.left e.left s' k' k'' (left_told i i') u run start (as_told i i' u.typed left) text (sym (forgets_left new e forgets ∙ a.left)) is a.limits.calls (subst (λ l. Given v k' k'' (calls_told l)) (told_is new k'' a.limits) given) (a.ends g mid.left u run st) in
+      let x = finished_so v result ending mid.left e.left s' k' k'' (left_told i i') u run start (as_told i i' u.typed left) text (sym (forgets_left new e forgets ∙ a.left)) is a.limits.calls (subst (λ l. Given v k' k'' (calls_told l)) (told_is new k'' a.limits) given) (just_finished (a.ends g mid.left u run st)) in
       record { world = x.world; typed = x.typed; is = x.is; text = x.text })
 
   pub next_ok : (new e : Engine) (k'' : P) (ending result : Option Ending) → result ≡ ending → Forgets new e → Given v k' k'' (calls_told new.told.items) → GoesToGoal (StandsAt mid) ending mid new → Does v result old e s s' k k'' i i'
@@ -156,8 +156,8 @@ module _ {P : Type 0} (v : Watching P) (old mid : Engine) (s s' : Spacer) (k k' 
       called_lost new k'' a.went_on.limits
       (λ g n w run st. let t = a.went_on.leads g n w run st in record { world = t.world; adds = t.adds; holds = stands_happened g t.holds.at.inside.lives t.holds.at.ways _ n t.world run t.holds.stands })
       lost
-  next_unseen new k'' (Some Done) a lost = called_lost new k'' a.limits (λ g n w run st. let t = a.ends g n w run st in record { world = t.world; adds = t.adds; holds = finished_later n t.world (End Done) run t.holds }) lost
-  next_unseen new k'' (Some Failed) a lost = called_lost new k'' a.limits (λ g n w run st. let t = a.ends g n w run st in record { world = t.world; adds = t.adds; holds = finished_later n t.world Failing run t.holds }) lost
+  next_unseen new k'' (Some Done) a lost = called_lost new k'' a.limits (λ g n w run st. let t = a.ends g n w run st in record { world = t.world; adds = t.adds; holds = finished_later n t.world (End Done) run t.holds.finished }) lost
+  next_unseen new k'' (Some Failed) a lost = called_lost new k'' a.limits (λ g n w run st. let t = a.ends g n w run st in record { world = t.world; adds = t.adds; holds = finished_later n t.world Failing run t.holds.finished }) lost
   next_unseen new k'' (Some _) a lost = absurd a
 
   -- what is told behind it, and what comes of that

@@ -22,8 +22,7 @@ use Rattle.dg_lasting.specs.declared.lasting.Lasting.{Lasting}
 use Rattle.dg_interp.specs.declared.engine.Engine.{Engine}
 use Rattle.dg_lasting.specs.Lasting.{picks_in, MayPick, PicksOne}
 use Rattle.dg_interp.specs.inside.Engine.{steps_of, IsReady, TakesAt, WentOn}
-use Rattle.dg_interp.proofs.Takes.{behind, taken_in, comes_of, adds_taken}
-use Rattle.dg_interp.proofs.Opens.{agrees_here}
+use Rattle.dg_interp.proofs.Takes.{behind, taken_in, comes_of, adds_taken, agrees_here, peak_here}
 use Rattle.dg_interp.proofs.Controls.{values_of, behind_all, then_frame, then_is}
 
 pub select_runnable : (site : ℕ) (mode : Mode) (lists : List (List Goal)) → AreRunnable (Select site mode lists ∷ []) → All AreRunnable lists
@@ -104,6 +103,7 @@ module _ (site : ℕ) (mode : Mode) (lists : List (List Goal)) (old : Engine) (o
                 keeps = st.at.inside.keeps;
                 choices = st.at.inside.choices;
                 world = one.stands g (v g n w run st) st.at.inside.world;
+                peak = peak_here x old held_none g n w run st;
               };
               ways = st.at.ways;
               ways_are = st.at.ways_are;

@@ -85,7 +85,7 @@ module _ (term : Term) (old : Engine) (store : ListBindings) (stack : Vec Ref Gl
             typed = t.adds.typed;
           };
           holds = record {
-            at = record { inside = inside_in _ at.inside.world at.inside; ways = at.ways; ways_are = at.ways_are; registers = at.registers; agrees = at.agrees; tag = at.tag; stop = at.stop };
+            at = record { inside = inside_in _ at.inside.world at.inside.peak at.inside; ways = at.ways; ways_are = at.ways_are; registers = at.registers; agrees = at.agrees; tag = at.tag; stop = at.stop };
             stands = subst (λ s. Stands g at.inside.lives at.ways (path_of s at.registers) n (printed (SpacesOf count) t.world) run) (sym (steps_kept old store stack ready k saved)) t.holds.went;
           };
         };

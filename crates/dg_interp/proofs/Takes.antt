@@ -1,5 +1,5 @@
 -- What the taking of a goal comes to.
-use Rattle.std.proofs.Common.{◌≡◌, ℕ, List, [], refl, sym, arith}
+use Rattle.std.proofs.Common.{◌≡◌, ℕ, ◌+◌, ◌≤◌, List, [], refl, sym, ap, ◌∙◌, arith}
 use Rattle.std.specs.Prelude.{reverse}
 use Rattle.std.specs.declared.vec.Vec.{Vec}
 use Rattle.std.specs.declared.alloc.Global.{Global}
@@ -26,6 +26,8 @@ use Rattle.dg_terms.specs.Terms.{Overflows}
 use Rattle.dg_interp.specs.inside.Frames.{values_in}
 use Rattle.dg_interp.specs.inside.Engine.{store_in, KeepsPlaces, steps_of, IsSound, IsReady, TakesAt, FullAt, Adds}
 use Rattle.dg_unify.proofs.StoreLemmas.{all_hold}
+use Rattle.dg_unify.specs.inside.Engines.{Agrees}
+use Rattle.dg_interp.proofs.Places.{peak_begun}
 use Rattle.dg_interp.proofs.Kept.{back_limits}
 
 -- ## A goal
@@ -47,6 +49,24 @@ module _ (x : Goal) (e : Engine) (g : Game) (n : ℕ) (w : World) (run : Run) (s
 
   pub taken_grows : Grows taken_in run.world
   taken_grows = grows_on taken_in _ run.world (outcome_grows g (out-Goal x) values e.here.tag (steps_of e) behind taken_in) (has_happened g st.at.inside.lives st.at.ways n (outcome g (out-Goal x) values e.here.tag (steps_of e) behind taken_in) run comes_of)
+
+-- what is reached where it is taken
+pub peak_taken : (x : Goal) (e : Engine) (store : ListBindings) (g : Game) (n : ℕ) (w : World) (run : Run) (st : TakesAt x e g n w run) → Agrees (store_in store) (behind x e g n w run st) → w.meters.heap ≤ (store_in store).heap_limit → (taken_in x e g n w run st).meters.heap ≤ (store_in store).heap_limit
+peak_taken x e store g n w run st agrees peak = peak_begun store (behind x e g n w run st) (writing (terms_held (out-Goal x))) (worked 1 w) agrees peak
+
+-- a goal without terms leaves the registers where they agree
+pub no_cells : (r heap : ℕ) → heap ≡ 0 → r + heap ≡ r
+no_cells r heap e = omega (arith, e)
+
+module _ (x : Goal) (old : Engine) (none : terms_held (out-Goal x) ≡ []) (g : Game) (n : ℕ) (w : World) (run : Run) (st : TakesAt x old g n w run) where
+  pub agrees_here : Agrees (store_in old.store) (behind x old g n w run st)
+  agrees_here =
+      let r = behind x old g n w run st in
+      let heap : r.heap ≡ st.at.registers.heap = no_cells st.at.registers.heap _ (ap (cells g.program) none) in
+      record { bound = st.at.agrees.bound; vars = st.at.agrees.vars; heap = heap ∙ st.at.agrees.heap; trail = st.at.agrees.trail; since = st.at.agrees.since }
+
+  pub peak_here : (taken_in x old g n w run st).meters.heap ≤ (store_in old.store).heap_limit
+  peak_here = peak_taken x old old.store g n w run st agrees_here st.at.inside.peak
 
 pub adds_taken : (r : Registers) (work : ℕ) (w : World) → Adds [] w (begun r work (worked 1 w))
 adds_taken r work w = record { events_are = refl; typed = refl }

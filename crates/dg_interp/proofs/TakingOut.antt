@@ -46,7 +46,7 @@ use Rattle.dg_interp.specs.inside.Engine.{Point, store_in, steps_of, KeepsPlaces
 use Rattle.dg_unify.proofs.StoreLemmas.{kept_told}
 use Rattle.dg_interp.proofs.Stores.{values_kept, hold_front}
 use Rattle.dg_interp.proofs.Links.{same_here, at_same}
-use Rattle.dg_interp.proofs.Places.{silent, adds_nothing, open_still}
+use Rattle.dg_interp.proofs.Places.{agrees_within, silent, adds_nothing, open_still}
 use Rattle.dg_interp.proofs.Takes.{store_sound, store_ready}
 use Rattle.dg_interp.proofs.Giving.{steps_kept, kept_limits, solved_on, solved_fails, solved_full}
 
@@ -145,6 +145,7 @@ module _ (old : Engine) (whole : Whole) (into : Env) (frame : Frame) (sound : Is
               keeps = saved1 st.at.inside.saved (saves_drops true (fields_of old.store) st.back st.at.inside.saved st.is.keeps);
               choices = st.at.inside.choices;
               world = st.at.inside.world;
+              peak = omega (arith, st.at.inside.peak, k1.heap_limit);
             };
             ways = st.at.ways;
             ways_are = st.at.ways_are;
@@ -280,6 +281,7 @@ module _ (into : Ref) (old : Engine) (ready : IsReady old) (hold : Holds (store_
                 keeps = saved2 st.at.inside.saved st.at.inside.keeps;
                 choices = st.at.inside.choices;
                 world = closed_here InList into old ready cells at_first out closed g n w run st;
+                peak = omega (arith, st.at.inside.peak, k2.heap_limit, agrees_within old.store q st.at.agrees);
               };
               ways = st.at.ways;
               ways_are = st.at.ways_are;
@@ -331,6 +333,7 @@ module _ (into : Ref) (old : Engine) (ready : IsReady old) (cells : List Cell) (
               keeps = st.at.inside.keeps;
               choices = st.at.inside.choices;
               world = closed_here InSum into old ready cells at_first out closed g k w run st;
+              peak = omega (arith, st.at.inside.peak, agrees_within old.store q st.at.agrees);
             };
             ways = st.at.ways;
             ways_are = st.at.ways_are;

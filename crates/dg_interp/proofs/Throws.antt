@@ -1,5 +1,5 @@
 -- What a random number comes to.
-use Rattle.std.proofs.Common.{◌≡◌, ℕ, ◌+◌, List, [], ◌∷◌, Option, Some, None, refl, sym, ap, ◌∙◌, subst}
+use Rattle.std.proofs.Common.{◌≡◌, ℕ, ◌+◌, List, [], ◌∷◌, Option, Some, None, refl, sym, ap, ◌∙◌, subst, arith}
 use Rattle.std.specs.declared.vec.Vec.{Vec}
 use Rattle.std.specs.declared.alloc.Global.{Global}
 use Rattle.dg_base.specs.declared.program.Goal.{Goal, out-Goal}
@@ -30,7 +30,7 @@ use Rattle.dg_interp.specs.inside.Engine.{store_in, KeepsPlaces, steps_of, There
 use Rattle.dg_interp.specs.inside.Giving.{GivesAt}
 use Rattle.dg_terms.specs.Throwing.{Throws}
 use Rattle.dg_interp.proofs.Takes.{behind, taken_in, comes_of, adds_taken, store_ready}
-use Rattle.dg_interp.proofs.Giving.{steps_kept, written_agrees}
+use Rattle.dg_interp.proofs.Giving.{steps_kept, written_agrees, written_peak}
 
 pub random_held : (a b c : Term) → terms_held (out-Goal (Random a b c)) ≡ a ∷ b ∷ c ∷ []
 random_held a b c = ap terms_held (outs-Random a b c)
@@ -69,8 +69,8 @@ module _ (a b c : Term) (old : Engine) (store : ListBindings) (stack : Vec Ref G
     abbrev v : World
     v = worked (looked_up r (value_of g.program env a) + looked_up r (value_of g.program env b)) (taken_in x old g m w run st)
 
-    abbrev there : (u : World) → InWorld thrown_to.lasting g u → There thrown_to (old.newest + 1) g u
-    there u world = record {
+    abbrev there : (u : World) → InWorld thrown_to.lasting g u → u.meters.heap ≡ v.meters.heap → There thrown_to (old.newest + 1) g u
+    there u world reached = record {
       inside = record {
         program = st.at.inside.program;
         entries = st.at.inside.entries;
@@ -80,6 +80,7 @@ module _ (a b c : Term) (old : Engine) (store : ListBindings) (stack : Vec Ref G
         keeps = saved st.at.inside.saved st.at.inside.keeps;
         choices = st.at.inside.choices;
         world = world;
+        peak = omega (arith, reached, written_peak x (a ∷ b ∷ c ∷ []) (random_held a b c) old store stack ready k saved (λ program e. (made program e).state) g m w run st);
       };
       ways = st.at.ways;
       ways_are = st.at.ways_are;
@@ -114,7 +115,7 @@ module _ (a b c : Term) (old : Engine) (store : ListBindings) (stack : Vec Ref G
           world = v;
           adds = record { events_are = q.events_are; typed = refl };
           holds = record {
-            at = there v (is.0, is.1, h.0, is.3);
+            at = there v (is.0, is.1, h.0, is.3) refl;
             went = subst (λ o. Went g st.at.inside.lives st.at.ways m (move_of (steps_of thrown_to) r (gives_number o (told s rc) r v)) run) (sym h.1)
                 (subst (λ l. Went g st.at.inside.lives st.at.ways m (move_of l r (gives_number None (told s rc) r v)) run) (sym (steps_kept old store stack ready k saved)) went);
           };
@@ -126,7 +127,7 @@ module _ (a b c : Term) (old : Engine) (store : ListBindings) (stack : Vec Ref G
           world = drew 1 v;
           adds = record { events_are = q.events_are; typed = refl };
           holds = record {
-            at = there (drew 1 v) (is.0, is.1, h.0, is.3);
+            at = there (drew 1 v) (is.0, is.1, h.0, is.3) refl;
             went = subst (λ o. Went g st.at.inside.lives st.at.ways m (move_of (steps_of thrown_to) r (gives_number o (told s rc) r (drew 1 v))) run) (sym h.1)
                 (subst (λ l. Went g st.at.inside.lives st.at.ways m (move_of l r (gives_number (Some n) (told s rc) r (drew 1 v))) run) (sym (steps_kept old store stack ready k saved)) went);
           };

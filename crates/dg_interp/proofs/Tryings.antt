@@ -53,7 +53,7 @@ use Rattle.dg_unify.proofs.StoreLemmas.{kept_same}
 use Rattle.dg_interp.proofs.Stores.{values_kept, values_count, hold_front, appended_stretch}
 use Rattle.dg_interp.proofs.Links.{SameBy, same_here, behind_same, at_same, frame_raise}
 use Rattle.dg_interp.proofs.Grown.{grown_longer, grown_values, grown_base, grown_choices}
-use Rattle.dg_interp.proofs.Places.{silent, adds_nothing, inside_in, open_still, limits_here}
+use Rattle.dg_interp.proofs.Places.{silent, peak_begun, agrees_inside, adds_nothing, inside_in, open_still, limits_here}
 use Rattle.dg_interp.proofs.Queries.{marked}
 use Rattle.dg_interp.proofs.Begun.{begun_values, begun_sound, begun_there}
 use Rattle.dg_interp.proofs.Opens.{chosen, pushed_behind, pushed_there}
@@ -134,7 +134,7 @@ module _ (place : Option ℕ) (object : ℕ) (args : Env) (old : Engine) (ready 
         record {
           world = u;
           adds = record { events_are = refl; typed = refl };
-          holds = acts_on old store old.made ready k saved g n w u run st.at st.at.inside.world (λ x y. Unifies x pairs y) r (same_agrees s t r same st.at.agrees) refl refl
+          holds = acts_on old store old.made ready k saved g n w u run st.at st.at.inside.world (omega (arith, st.at.inside.peak, k.heap_limit)) (λ x y. Unifies x pairs y) r (same_agrees s t r same st.at.agrees) refl refl
               (subst (λ a. Went g st.at.inside.lives st.at.ways n (move_of (steps_of old) r a) run)
               (ap (λ o. finds_if_set vals object r o w) (is g w st.at.inside.program st.at.inside.world) ∙ finds_so vals object v r w many ∙ ap (λ es. Unifies r es u) (sym pairs_are)) st.went);
         }
@@ -173,7 +173,7 @@ module _ (old : Engine) (trial : Trial) (args : Env) (place : Place) (sound : Is
           world = v;
           adds = record { events_are = refl; typed = refl };
           holds = record {
-            inside = inside_in v st.at.inside.world st.at.inside;
+            inside = inside_in v st.at.inside.world (peak_begun old.store (inside 0 r) 0 w (agrees_inside old.store r st.at.agrees) st.at.inside.peak) st.at.inside;
             failed = subst (λ l. Tried g Plain r.next_tag (open_in old) st.at.ways st.at.inside.lives l n w run) one st.tried;
           };
         };
@@ -314,7 +314,7 @@ module _ (old : Engine) (trial : Trial) (args : Env) (b : Bool) (heap : ℕ) (pl
           world = v;
           adds = record { events_are = refl; typed = refl };
           holds = record {
-            at = begun_there old (Things others args) b place store1 old.refs old.made choices sound others_left tt same_b has k1 saved1 [] no_refs none_held kept (Things trial args) refl g n w run st here v (behind r) st.at.inside.world (agrees_now r st.at.agrees) (ap (λ i. i + 1) st.at.tag) refl;
+            at = begun_there old (Things others args) b place store1 old.refs old.made choices sound others_left tt same_b has k1 saved1 [] no_refs none_held kept (Things trial args) refl g n w run st here v (behind r) st.at.inside.world (peak_begun store1 (behind r) 1 w (agrees_now r st.at.agrees) (omega (arith, st.at.inside.peak, k1.heap_limit))) (agrees_now r st.at.agrees) (ap (λ i. i + 1) st.at.tag) refl;
             went = subst (λ m. Went g (pushed (live g r st.at.ways) st.at.inside.lives) st.at.ways n m run) now (trial_begins g n w run st);
           };
         }
@@ -407,6 +407,7 @@ module _ (old : Engine) (refs1 : Vec Ref Global) (made : List Ref) (ready : IsRe
                 keeps = at.inside.keeps;
                 choices = grown_choices old old.store refs1 made ready (kept_same s2) (λ ms h. h) is hold g at.inside.saved at.inside.entries at.inside.choices;
                 world = at.inside.world;
+                peak = at.inside.peak;
               };
               ways = at.ways;
               ways_are = at.ways_are;

@@ -1,5 +1,5 @@
 -- What the goals come to that write terms and make no choice.
-use Rattle.std.proofs.Common.{◌≡◌, ℕ, List, [], ◌∷◌, Bool, true, false, refl, sym, ap, ◌∙◌, subst, arith, length, map}
+use Rattle.std.proofs.Common.{◌≡◌, ℕ, List, [], ◌∷◌, Bool, true, false, refl, sym, ap, ◌∙◌, subst, arith, length, map, ◌≤◌}
 use Rattle.std.specs.declared.vec.Vec.{Vec}
 use Rattle.std.specs.declared.alloc.Global.{Global}
 use Rattle.dg_base.specs.declared.program.Goal.{Goal, out-Goal}
@@ -34,7 +34,7 @@ use Rattle.dg_interp.proofs.Places.{silent, inside_kept, adds_nothing}
 use Rattle.dg_unify.proofs.StoreLemmas.{holds_some}
 use Rattle.dg_interp.proofs.Links.{same_here, at_same}
 use Rattle.dg_interp.proofs.Stores.{values_kept, hold_front}
-use Rattle.dg_interp.proofs.Takes.{behind, taken_in, comes_of, adds_taken, terms_full, store_ready}
+use Rattle.dg_interp.proofs.Takes.{behind, taken_in, comes_of, peak_taken, adds_taken, terms_full, store_ready}
 
 module _ (x : Goal) (old : Engine) (store : ListBindings) (made : Vec Ref Global) (ready : IsReady old) (k : Kept (store_in old.store) (store_in store)) (saved : (ms : List Saved) → KeepsPlaces old.store ms → KeepsPlaces store ms) where
   abbrev pub grown : Engine
@@ -47,10 +47,10 @@ module _ (x : Goal) (old : Engine) (store : ListBindings) (made : Vec Ref Global
   pub grown_limits : Silent old grown
   grown_limits = record { heap = k.heap_limit; trail = k.trail_limit; aux = refl; keep = refl; told = refl }
 
-  pub stands_behind : (g : Game) (n : ℕ) (w v : World) (run : Run) → InWorld old.lasting g v → (st : TakesAt x old g n w run) (r : Registers) → Agrees (store_in store) r → r.next_tag ≡ st.at.registers.next_tag → r.stoppable ≡ st.at.registers.stoppable → Stands g st.at.inside.lives st.at.ways (path_of (steps_of old) r) n v run → StandsAt grown g n v run
-  stands_behind g n w v run none_open st r agrees tag part stands = record {
+  pub stands_behind : (g : Game) (n : ℕ) (w v : World) (run : Run) → InWorld old.lasting g v → v.meters.heap ≤ (store_in store).heap_limit → (st : TakesAt x old g n w run) (r : Registers) → Agrees (store_in store) r → r.next_tag ≡ st.at.registers.next_tag → r.stoppable ≡ st.at.registers.stoppable → Stands g st.at.inside.lives st.at.ways (path_of (steps_of old) r) n v run → StandsAt grown g n v run
+  stands_behind g n w v run none_open peak st r agrees tag part stands = record {
     at = record {
-      inside = inside_kept _ _ saved none_open st.at.inside;
+      inside = inside_kept _ _ saved none_open peak st.at.inside;
       ways = st.at.ways;
       ways_are = st.at.ways_are;
       registers = r;
@@ -61,9 +61,9 @@ module _ (x : Goal) (old : Engine) (store : ListBindings) (made : Vec Ref Global
     stands = subst (λ s. Stands g st.at.inside.lives st.at.ways (path_of s r) n v run) (sym steps_same) stands;
   }
 
-  pub fails_behind : (g : Game) (n : ℕ) (w v : World) (run : Run) → InWorld old.lasting g v → (st : TakesAt x old g n w run) → Failed g st.at.inside.lives n v run → FailsAt grown g n v run
-  fails_behind g n w v run none_open st h = record {
-    inside = inside_kept _ _ saved none_open st.at.inside;
+  pub fails_behind : (g : Game) (n : ℕ) (w v : World) (run : Run) → InWorld old.lasting g v → v.meters.heap ≤ (store_in store).heap_limit → (st : TakesAt x old g n w run) → Failed g st.at.inside.lives n v run → FailsAt grown g n v run
+  fails_behind g n w v run none_open peak st h = record {
+    inside = inside_kept _ _ saved none_open peak st.at.inside;
     failed = h;
   }
 
@@ -98,6 +98,9 @@ module _ (x : Goal) (old : Engine) (store : ListBindings) (made : Vec Ref Global
   abbrev looked : (g : Game) (n : ℕ) (w : World) (run : Run) → TakesAt x old g n w run → World
   looked g n w run st = worked (work g n w run st) (taken_in x old g n w run st)
 
+  looked_peak : (g : Game) (n : ℕ) (w : World) (run : Run) (st : TakesAt x old g n w run) → (looked g n w run st).meters.heap ≤ (store_in store).heap_limit
+  looked_peak g n w run st = peak_taken x old store g n w run st (agrees g n w run st) (omega (arith, st.at.inside.peak, k.heap_limit))
+
   adds_looked : (g : Game) (n : ℕ) (w : World) (run : Run) (st : TakesAt x old g n w run) → Adds [] w (looked g n w run st)
   adds_looked g n w run st = let a = adds_taken (behind x old g n w run st) (writing (terms_held (out-Goal x))) w in record { events_are = a.events_are; typed = refl }
 
@@ -109,7 +112,7 @@ module _ (x : Goal) (old : Engine) (store : ListBindings) (made : Vec Ref Global
     leads = λ g n w run st. record {
       world = looked g n w run st;
       adds = adds_looked g n w run st;
-      holds = stands_behind x old store made ready k saved g n w (looked g n w run st) run st.at.inside.world st (behind x old g n w run st) (agrees g n w run st) refl refl
+      holds = stands_behind x old store made ready k saved g n w (looked g n w run st) run st.at.inside.world (looked_peak g n w run st) st (behind x old g n w run st) (agrees g n w run st) refl refl
           (subst (λ b. After g st.at.inside.lives st.at.ways n (Moves (goes_on_if b (steps_of old) (behind x old g n w run st) (looked g n w run st))) run) is (comes g n w run st));
     };
   }
@@ -118,7 +121,7 @@ module _ (x : Goal) (old : Engine) (store : ListBindings) (made : Vec Ref Global
   not_passed is g n w run st = record {
     world = looked g n w run st;
     adds = adds_looked g n w run st;
-    holds = fails_behind x old store made ready k saved g n w (looked g n w run st) run st.at.inside.world st
+    holds = fails_behind x old store made ready k saved g n w (looked g n w run st) run st.at.inside.world (looked_peak g n w run st) st
         (subst (λ b. After g st.at.inside.lives st.at.ways n (Moves (goes_on_if b (steps_of old) (behind x old g n w run st) (looked g n w run st))) run) is (comes g n w run st));
   }
 
@@ -181,6 +184,10 @@ world_printed : (out : Lasting) (g : Game) (ps : List (List ℕ)) (w : World) �
 world_printed out g [] w is = is
 world_printed out g (p ∷ ps) w is = world_printed out g ps (printed (Piece p) w) is
 
+peak_printed : (ps : List (List ℕ)) (w : World) (limit : ℕ) → w.meters.heap ≤ limit → (all_printed ps w).meters.heap ≤ limit
+peak_printed [] w limit peak = peak
+peak_printed (p ∷ ps) w limit peak = peak_printed ps (printed (Piece p) w) limit peak
+
 module _ (term : Term) (old : Engine) (store : ListBindings) (made : Vec Ref Global) (value : Ref) (ready : IsReady old) (k : Kept (store_in old.store) (store_in store)) (saved : (ms : List Saved) → KeepsPlaces old.store ms → KeepsPlaces store ms)
     (written : (program : CoreProgram) → old.program.now ≡ program → Made (cells program (term ∷ [])) (store_in old.store) (store_in store) value (value_of program (values_in (store_in old.store) old.refs.items old.here.env) term)) where
   abbrev y : Goal
@@ -216,7 +223,7 @@ module _ (term : Term) (old : Engine) (store : ListBindings) (made : Vec Ref Glo
       record {
         world = all_printed ps before;
         adds = record { events_are = b.events_are; typed = b.typed };
-        holds = stands_behind y old store made ready k saved g n w (all_printed ps before) run (world_printed old.lasting g ps before st.at.inside.world) st r (agrees_behind y term (print_held term) old store value written g n w run st) refl refl stands;
+        holds = stands_behind y old store made ready k saved g n w (all_printed ps before) run (world_printed old.lasting g ps before st.at.inside.world) (peak_printed ps before (store_in store).heap_limit (peak_taken y old store g n w run st (agrees_behind y term (print_held term) old store value written g n w run st) (omega (arith, st.at.inside.peak, k.heap_limit)))) st r (agrees_behind y term (print_held term) old store value written g n w run st) refl refl stands;
       }
 
   pub wrote_printed : WrotePrinted term value old new

@@ -1,5 +1,5 @@
 -- What waits in its store makes no difference to where an engine is.
-use Rattle.std.proofs.Common.{◌≡◌, ℕ, List, sym, ap, subst}
+use Rattle.std.proofs.Common.{◌≤◌, ◌≡◌, ℕ, List, sym, ap, subst}
 use Rattle.std.specs.Prelude.{map, reverse}
 use Rattle.std.specs.List.{All}
 use Rattle.dg_base.specs.declared.program.Term.{Term}
@@ -46,7 +46,7 @@ module _ (mid : Engine) (store : ListBindings) (same : store_in store ≡ store_
   stands_here : (g : Game) (n : ℕ) (w : World) (run : Run) → StandsAt mid g n w run → StandsAt new g n w run
   stands_here g n w run st = record {
     at = record {
-      inside = inside_kept _ _ places st.at.inside.world st.at.inside;
+      inside = inside_kept _ _ places st.at.inside.world (subst (λ t. w.meters.heap ≤ t.heap_limit) (sym same) st.at.inside.peak) st.at.inside;
       ways = st.at.ways;
       ways_are = st.at.ways_are;
       registers = st.at.registers;

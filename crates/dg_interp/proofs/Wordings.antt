@@ -102,7 +102,7 @@ module _ (v : Value) (into : Ref) (old : Engine) where
         record {
           world = w;
           adds = adds_nothing w;
-          holds = acts_on old store stack ready k saved g n w w run st.at st.at.inside.world (λ r v. Unifies r ((told t into, told t made) ∷ []) v) (more_heap (copy_cells v) r) (grown_agrees made m r st.at.agrees) refl refl
+          holds = acts_on old store stack ready k saved g n w w run st.at st.at.inside.world (omega (arith, st.at.inside.peak, k.heap_limit)) (λ r v. Unifies r ((told t into, told t made) ∷ []) v) (more_heap (copy_cells v) r) (grown_agrees made m r st.at.agrees) refl refl
               (subst (λ c. Went g st.at.inside.lives st.at.ways n (move_of (steps_of old) r c) run) values st.went);
         }
 

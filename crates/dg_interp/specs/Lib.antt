@@ -1,2 +1,3 @@
 pub mod inside
 pub mod Runnable
+pub mod Asking

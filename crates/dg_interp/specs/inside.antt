@@ -11,3 +11,4 @@ pub mod Made
 pub mod Gathering
 pub mod Trying
 pub mod Finding
+pub mod Seeking

@@ -3,13 +3,13 @@ ghost use Rattle.std.specs.Prelude.{◌≡◌, ◌≢◌, ℕ, true, false, ◌+
 ghost use Rattle.dg_base.specs.declared.program.Goal.TheVariants.{Ask, Print as PrintGoal, Fail as FailGoal, Just as JustGoal};
 ghost use Rattle.dg_meaning.specs.Moves.{rules_of as the_rules};
 ghost use Rattle.dg_base.specs.Sound.{IsSound as IsSoundProgram};
-ghost use Rattle.dg_interp.specs.Runnable.{IsRunnable};
+ghost use Rattle.dg_interp.specs.Runnable.{IsRunnable, AreRunnable};
 ghost use Rattle.dg_choices.specs.declared.frames.Mark.TheVariants.{Nothing as NoMark};
 ghost use Rattle.dg_choices.specs.declared.frames.Left.TheVariants.{Rules, Lists, Ways, Way};
 ghost use Rattle.dg_unify.specs.declared.bindings.Full.TheVariants.{OutOfMemory as WantOfMemory};
 ghost use Rattle.dg_choices.specs.declared.frames.Left.{Left as TheLeft};
 ghost use Rattle.dg_interp.specs.inside.Frames.{IsFrame, BeginsWith, IsOrdinary, IsLeft, stays_with, left_in, floor_of, stretch as the_stretch, values_in, EndsBy, cells_if};
-ghost use Rattle.dg_interp.specs.inside.Engine.{Forgets, Starts, IsSound, IsReady, StandsAt, FailsAt, TakesAt, BeginsAt, OpensAt, IsPushed, HasPlace, Passes, Settles, FrameLeft, GoesToGoal, GoesBack, Retries, Taken, Branches, WentOn, Tries, FullAt, LackAt, store_in, open_in, pieces_at, WrotePrinted, StaysBut, branches_left, KeepsPlaces, kept_if};
+ghost use Rattle.dg_interp.specs.inside.Engine.{Forgets, HasNew, StartsOn, IsSound, IsReady, StandsAt, FailsAt, TakesAt, BeginsAt, OpensAt, IsPushed, HasPlace, Passes, Settles, FrameLeft, GoesToGoal, GoesBack, Retries, Taken, Branches, WentOn, Tries, FullAt, LackAt, store_in, open_in, pieces_at, WrotePrinted, StaysBut, branches_left, KeepsPlaces, kept_if};
 ghost use Rattle.dg_base.specs.declared.program.CoreProgram.{CoreProgram as Program};
 ghost use Rattle.dg_base.specs.declared.run.Limits.{Limits as TheLimits};
 ghost use Rattle.dg_meaning.specs.Cells.{cells};
@@ -44,6 +44,7 @@ use dg_lasting::{Lack, Lasting, lacking};
 use dg_terms::{choice_cells, new_variables, pass, unify_all, write_term, write_terms};
 use dg_unify::{Bindings, Full, ListBindings, Mark as Place, Ref, View};
 use dg_watch::{CallEvent, Showing};
+use dg_world::World;
 use std::alloc::{AllocError, Global};
 use telling::{tell_again, tell_retries};
 
@@ -195,35 +196,37 @@ fn write_args(
 }
 
 impl<'p> Engine<'p> {
-    /// At the query of the entry point, with so many goals left.
+    /// At goals whose new variables stand at these Refs, with so many goals left.
     pub fn new(
         alloc: Global,
         program: &'p CoreProgram,
-        entry: &'p [Goal],
+        goals: &'p [Goal],
         left: u64,
-        heap: u32,
-        trail: u32,
+        store: ListBindings,
+        refs: Vec<Ref>,
         lasting: Lasting<'p>,
     ) -> Engine<'p>
         requires runnable { IsRunnable program.now }
         requires sound { IsSoundProgram program.now }
-        requires entry { entry.now ≡ Ask program.now.entry [] false ∷ [] }
-        ensures starts { (limits : TheLimits) → (dice : List ℕ) → limits.steps ≡ left → limits.heap ≡ heap → limits.trail ≡ trail →
-            StartsLasting program.now limits dice lasting.entry → Starts program.now limits dice result }
+        requires goals { AreRunnable goals.now }
+        requires some { 0 < length goals.now }
+        ensures starts { (own : ℕ) → (limits : TheLimits) → (dice : List ℕ) → limits.steps ≡ left → HasNew own limits.heap limits.trail store refs.items →
+            StartsLasting program.now limits dice lasting.entry → StartsOn program.now goals.now own limits dice result }
         ensures quiet { result.told.items ≡ [] }
     {
+        let len = refs.len();
         Engine {
             program,
             lasting,
-            store: ListBindings::new(alloc, heap, trail),
-            refs: Vec::new(alloc),
+            store,
+            refs,
             frames: Vec::new(alloc),
             choices: Vec::new(alloc),
             made: Vec::new(alloc),
             told: Vec::new(alloc),
             here: Frame {
-                goals: entry,
-                env: Env { from: 0, len: 0 },
+                goals,
+                env: Env { from: 0, len },
                 tag: 0,
                 mark: Mark::Nothing,
                 behind: 0,
@@ -232,6 +235,15 @@ impl<'p> Engine<'p> {
             stoppable: None,
             left,
         }
+    }
+
+    /// What is set.
+    pub fn into_world(self) -> World
+        ensures { result ≡ self.entry.lasting.world }
+    {
+        let Engine { lasting, .. } = self;
+        let Lasting { world, .. } = lasting;
+        world
     }
 
     /// How many gatherings are open.

@@ -20,6 +20,7 @@ use dg_base::{
     CoreProgram, Ending, Goal, Items, Limits, Outcome, RunFault, Sink, Source, SureSink,
 };
 use dg_lasting::{Lack, Lasting};
+use dg_unify::ListBindings;
 use dg_watch::{Bytes, Showing, close, hand_piece};
 use std::alloc::Global;
 use std::mem::swap;
@@ -185,13 +186,15 @@ fn show_within<S: Source, K, A: Showing<K> + Copy>(
         Err(lack) => show_lack(program, limits, dice, lack, showing, sink),
         Ok(lasting) => {
             let entry = [Goal::Ask(program.entry, Items::new(alloc), false)];
+            let store = ListBindings::new(alloc, limits.heap, limits.trail);
+            let refs = Vec::new(alloc);
             let mut engine = Engine::new(
                 alloc,
                 program,
                 &entry,
                 limits.steps,
-                limits.heap,
-                limits.trail,
+                store,
+                refs,
                 lasting,
             );
             show_from(

@@ -16,8 +16,9 @@ use Rattle.dg_meaning.specs.Facts.{kinds_of, kept_size, start_facts}
 use Rattle.dg_meaning.specs.Substitutions.{resolved}
 use Rattle.dg_meaning.specs.Pieces.{pieces}
 use Rattle.dg_meaning.specs.Path.{Step, Do, Registers, Result, Failing, End}
-use Rattle.dg_meaning.specs.Moves.{path_of}
-use Rattle.dg_meaning.specs.Transcript.{Run, run, start_world}
+use Rattle.dg_meaning.specs.Moves.{path_of, new_vars}
+use Rattle.dg_meaning.specs.Search.{search}
+use Rattle.dg_meaning.specs.Transcript.{Run, run_of, run, start_world, asking_path}
 use Rattle.dg_meaning.specs.inside.Context.{Way, Live}
 use Rattle.dg_meaning.specs.inside.Keeps.{Stands, Failed, Finished, Tried, WentOn as LeftPart}
 use Rattle.dg_meaning.specs.Peaks.{Area, Heap, Trail, Aux, Keep, greatest, limit_of}
@@ -97,7 +98,8 @@ Point = Game → ℕ → World → Run → Type 0
 abbrev pub steps_of : Engine → List Step
 steps_of e = steps_at (values_in (store_in e.store) e.refs.items) e.frames.items e.here
 
--- A program, what lasts, a store, Refs, frames and choices are in this world, inside choices of the meaning.
+-- A program, what lasts, a store, Refs, frames and choices are in this world, inside choices of the meaning, and no more of the heap was reached than
+-- the store's limit.
 pub record Within (p : CoreProgram) (out : Lasting) (store : ListBindings) (refs : List Ref) (frames : List Frame) (os : List Choice)
     (g : Game) (w : World) : Type 0 where
   pub program : p ≡ g.program
@@ -108,6 +110,7 @@ pub record Within (p : CoreProgram) (out : Lasting) (store : ListBindings) (refs
   pub keeps : KeepsPlaces store saved
   pub choices : AreChoices g refs frames os saved entries
   pub world : InWorld out g w
+  pub peak : w.meters.heap ≤ (store_in store).heap_limit
 
 -- The same of an engine.
 abbrev pub Inside : Engine → Game → World → Type 0
@@ -163,6 +166,24 @@ limit_in Trail e = (store_in e.store).trail_limit
 limit_in Aux e = e.lasting.gathered.aux
 limit_in Keep e = e.lasting.world.area.keep
 
+-- A store holds so many new variables at these Refs, counts nothing, and has these limits of heap and trail.
+pub record HasNew (own heap trail : ℕ) (store : ListBindings) (refs : List Ref) : Type 0 where
+  pub state : (store_in store).state ≡ record { vars = own; subst = []; since = own; heap = 0; trail = 0 }
+  pub hold : All (Holds (store_in store)) refs
+  pub values : map (told (store_in store)) refs ≡ new_vars own 0
+  pub heap_is : (store_in store).heap_limit ≡ heap
+  pub trail_is : (store_in store).trail_limit ≡ trail
+
+-- It stands at the start of each run of these goals among so many new variables, with these dice words, and has these limits.
+pub record StartsOn (program : CoreProgram) (goals : List Goal) (own : ℕ) (limits : Limits) (dice : List ℕ) (e : Engine) : Type 0 where
+  pub ready : IsReady e
+  pub goal : 0 < length e.here.goals.now
+  pub left : e.left ≡ limits.steps
+  pub begins : kept_size (kinds_of program) (start_facts program.places) ≤ limits.keep
+  pub limits_are : (area : Area) → limit_in area e ≡ limit_of area limits
+  pub stands : (g : Game) (n : ℕ) (typed : List ℕ) → g.program ≡ program → g.dice ≡ dice →
+      StandsAt e g n (start_world g typed) (run_of (search g n (asking_path goals own) (start_world g typed)))
+
 -- It stands at the start of each run of the program with these dice words, and has these limits.
 pub record Starts (program : CoreProgram) (limits : Limits) (dice : List ℕ) (e : Engine) : Type 0 where
   pub ready : IsReady e
@@ -192,10 +213,6 @@ LeadsBy calls From To = (g : Game) (n : ℕ) (w : World) (run : Run) → From g 
 -- A run that comes from one point comes from the other, and nothing happens.
 abbrev pub Leads : Point → Point → Type 0
 Leads From To = LeadsBy [] From To
-
--- A run that comes from there has ended so.
-abbrev pub Ends : Point → Result → Type 0
-Ends From result = Leads From (λ g n v run. Finished n v result run)
 
 -- Each run that comes from there passes this limit of an area.
 abbrev pub PassesLimit : Area → Point → ℕ → Type 0
@@ -258,11 +275,17 @@ pub record WentWrong (From : Point) (old new : Engine) : Type 0 where
   pub limits : Tells old new
   pub leads : LeadsBy limits.calls From (FailsAt new)
 
+-- The run has ended so, in a world for which what lasts stands, and no more of the heap was reached than the limit.
+pub record EndsAt (result : Result) (e : Engine) (g : Game) (n : ℕ) (w : World) (run : Run) : Type 0 where
+  pub finished : Finished n w result run
+  pub world : InWorld e.lasting g w
+  pub peak : w.meters.heap ≤ (store_in e.store).heap_limit
+
 -- The run has ended so.
 pub record HasEndedSo (From : Point) (result : Result) (old new : Engine) : Type 0 where
   pub left : new.left ≡ old.left
   pub limits : Tells old new
-  pub ends : LeadsBy limits.calls From (λ g n v run. Finished n v result run)
+  pub ends : LeadsBy limits.calls From (EndsAt result new)
 
 -- The goals at hand are done, and so is the mark behind them.
 pub record MarkPassed (old new : Engine) : Type 0 where

@@ -1,8 +1,9 @@
 // Calls that are told.
 ghost use Rattle.std.specs.Prelude.{◌≡◌, OnOk, replicate};
 ghost use Rattle.dg_watch.specs.declared.watch.CallEvent.TheVariants.{Retried as RetriedCall};
-ghost use Rattle.dg_interp.specs.inside.Engine.{with_all, again};
+ghost use Rattle.dg_interp.specs.inside.Engine.{Forgets, with_all, again};
 
+use super::Engine;
 use dg_choices::Left;
 use dg_unify::Full;
 use dg_watch::CallEvent;
@@ -31,5 +32,14 @@ pub fn tell_again(told: &mut Vec<CallEvent>, left: Left<'_>) -> Result<(), Full>
             Err(_) => Err(Full::OutOfMemory),
         },
         _ => Ok(()),
+    }
+}
+
+impl Engine<'_> {
+    /// Forgets the calls that were told.
+    pub fn hush(&mut self)
+        ensures { Forgets self.old self.new }
+    {
+        self.told.clear();
     }
 }

@@ -1,10 +1,13 @@
-use Rattle.std.proofs.Common.{ℕ, List, refl}
+use Rattle.std.proofs.Common.{ℕ, List, [], ◌∷◌, false, refl, subst}
+use Rattle.dg_base.specs.declared.program.Goal.TheVariants.{Ask}
 use Rattle.dg_base.specs.declared.run.Outcome.{Outcome}
 use Rattle.dg_base.specs.declared.run.RunFault.{RunFault}
 use Rattle.dg_meaning.specs.Engines.{game, left_told}
 use Rattle.dg_meaning.specs.inside.Engines.{ForTyped}
 use Rattle.dg_meaning.proofs.Engines.{as_told, for_typed}
 use Rattle.dg_watch.specs.Seen.{HasSeen, HasSeenFault}
+use Rattle.dg_interp.specs.inside.Engine.{StartsOn}
+use Rattle.dg_interp.proofs.Turns.{has_none, entry_starts}
 use Rattle.dg_interp.proofs.Whole.{if_ok_map, if_err_map}
 use Rattle.dg_interp.proofs.interpreter.show_within.Goals as goal
 
@@ -26,4 +29,9 @@ pub new-engine-requires-clause-runnable : goal.new-engine-requires-clause-runnab
 new-engine-requires-clause-runnable g c = c.programs_are_runnable.ensures c.args.program.now c.requires.sound
 
 pub show_from-requires-clause-starts : goal.show_from-requires-clause-starts
-show_from-requires-clause-starts g c = c.new-engine.ensures.starts c.args.limits.now c.args.dice.now refl refl refl c.in-Ok.ensures.starts
+show_from-requires-clause-starts g c =
+    let program = c.args.program.now in
+    let limits = c.args.limits.now in
+    entry_starts program limits c.args.dice.now c.new-engine.result
+    (subst (λ terms. StartsOn program (Ask program.entry terms false ∷ []) 0 limits c.args.dice.now c.new-engine.result) c.new-in-Ok.ensures
+    (c.new-engine.ensures.starts 0 limits c.args.dice.now refl (has_none limits.heap limits.trail c.new-store.result c.new-refs.result.items c.new-store.ensures.means c.new-refs.ensures.items) c.in-Ok.ensures.starts))
