@@ -15,8 +15,7 @@ use Rattle.dg_base.specs.Tree as tree
 use Rattle.dg_base.specs.Tree.{Parts, Value, Values, Body, Changes, Said, Item}
 use Rattle.dg_base.specs.declared.mentions.Role.TheVariants as role
 use Rattle.dg_base.specs.declared.names.Builtin.{Builtin}
-use Rattle.dg_core.specs.Core.{is_unset}
-use Rattle.dg_core.specs.Given.{IsSet, AreSet, MayStart}
+use Rattle.dg_core.specs.Given.{IsSet, AreSet, MayStart, is_unset}
 use Rattle.dg_core.specs.Matches.{IsPlain, ArePlain}
 use Rattle.dg_core.specs.Places.{head_values}
 use Rattle.dg_items.specs.Expanded.{signed_rule, head_rules, stay, put_said, on_line, put_item, put_items}

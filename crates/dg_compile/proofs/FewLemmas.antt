@@ -209,7 +209,7 @@ all_declared d (i ∷ is) n r e h =
     (all_declared d is n (ready_behind d (things_in i.said) (mentioned is) r) (All-tail (λ (j : Item). IsDeclared j.said) i is e))
 
 -- so places are few where predicates are
-pub few_places : FirstsAreNames → (d : Named) (is : List Item) → AreReady d (mentioned is) → AreDeclared is → length d.preds ≤ 65534 → length (place_names is) ≤ 65535
+pub few_places : FirstsAreNames → (d : Named) (is : List Item) → AreReady d (mentioned is) → AreDeclared is → length d.preds ≤ 65533 → length (place_names is) ≤ 65534
 few_places law d is r e few =
     let declared = map name_of (declarations is) in
     let changed = names_in changed_in (mentioned is) in

@@ -1,4 +1,4 @@
--- The core program of a source is sound.
+-- The tree of a source and its names are given, and its program is sound.
 use Rattle.std.proofs.Common.{◌≡◌, ◌≤◌, ◌⊎◌, inl, inr, ℕ, List, [], ◌∷◌, ◌++◌, length, length-append, map, get_or, false, Option, Some, None, Ok, refl, sym, subst, arith}
 use Rattle.std.specs.List.{All, Contains}
 use Rattle.std.proofs.lemmas.List.Elements.{All-nil, All-cons, All-append, All-contains, Contains-append_left, Contains-append_right, Contains-append_cases}
@@ -14,9 +14,9 @@ use Rattle.dg_plain.specs.Comes.{MentionsComeFrom}
 use Rattle.dg_scopes.specs.Few.{HasFewVariables, SmallAreFew}
 use Rattle.dg_plain.specs.Items.{plain_items}
 use Rattle.dg_plain.specs.Left.{IsPlain}
-use Rattle.dg_core.specs.Core.{core_of, core_refusal}
+use Rattle.dg_lower.specs.Lowered.{IsLowered}
 use Rattle.dg_core.specs.Given.{IsGiven}
-use Rattle.dg_core.specs.Places.{placed_of, first_bad_start, values_named}
+use Rattle.dg_core.specs.Places.{values_named}
 use Rattle.dg_meaning.specs.Few.{AllAskFew, AllHoldFew, HeadsAreFew}
 use Rattle.dg_access.specs.Answer.{IsRewritten}
 use Rattle.dg_access.specs.Comes.{MentionsArePut}
@@ -30,7 +30,7 @@ use Rattle.dg_names.specs.Counts.{closures_at, IsNamed}
 use Rattle.dg_names.specs.Named.{Named, firsts, predicate_in, thing_words, names_of}
 use Rattle.dg_reader.specs.Declarations.{AreDeclarations}
 use Rattle.dg_reader.specs.Read.{IsRead}
-use Rattle.dg_compile.specs.Source.{refused, given, all_names, with_prelude, Compiles}
+use Rattle.dg_compile.specs.Source.{refused, given, all_names, with_prelude, Reads, AreOfSource, Compiles}
 use Rattle.dg_compile.proofs.ComeLemmas.{select_fit, IsKnown, all_come, all_put}
 use Rattle.dg_compile.proofs.DeclareLemmas.{IsDeclared, AreDeclared, KeepsNames, all_declared, heads_plain}
 use Rattle.dg_compile.proofs.FewLemmas.{FirstsAreNames, IsReady, all_ready, things_fit, items_fit, few_closures, closures_append, few_places}
@@ -57,11 +57,7 @@ pub record Laws : Type 0 where
   pub changes : (is new : List Item) → IsRewritten is (Ok new) → All (λ t. is_misplaced (access_rules (plain_items None is)) t ≡ false) (mentioned new)
   pub variables : (is new : List Item) → IsRewritten is (Ok new) → All (λ (i : Item). HasFewVariables i.said) new
   pub closures : (is new : List Item) → IsRewritten is (Ok new) → weight_of closures_at (mentioned new) ≤ 16000
-  pub sound : (names : Named) (is : List Item) → IsGiven names is → core_refusal is (first_bad_start (placed_of is) [] is) ≡ None → IsSound (core_of names is)
   pub places : PlacesAreTold
-  pub asks : (names : Named) (is : List Item) (n : ℕ) → IsGiven names is → All (λ m. values_named m ≤ n) names.preds → AllAskFew n (core_of names is)
-  pub heads : (names : Named) (is : List Item) (n : ℕ) → All (λ m. values_named m ≤ n) names.preds → HeadsAreFew n (core_of names is)
-  pub holds : (p : Core) → IsSound p → (n : ℕ) → 3 ≤ n → AllAskFew n p → AllHoldFew n p
   pub prelude : All IsName prelude_names
 
 -- names that a source has are among those of the program too
@@ -123,7 +119,7 @@ preds_narrow laws is small =
     which n (inl j) = All-contains IsNarrow (names_in predicate_in (mentioned is)) n (all_narrow laws.places (mentioned is) small) j
     which n (inr j) = All-contains IsNarrow prelude_names n prelude_narrow j
 
-few_given : (laws : Laws) (is : List Item) → length (names_of is).preds ≤ 4000 → length (all_names is).preds ≤ 65534
+few_given : (laws : Laws) (is : List Item) → length (names_of is).preds ≤ 4000 → length (all_names is).preds ≤ 65533
 few_given laws is few =
     let own = names_in predicate_in (mentioned is) in
     let most = (laws.firsts (own ++ prelude_names)).fewest (firsts own ++ prelude_names) (λ n h. which n (Contains-append_cases own prelude_names n h)) in
@@ -161,33 +157,67 @@ taken_given laws is taken =
       few_words = omega (arith, few.words);
     }
 
--- a tree and its names are given that come from a source which is accepted
-source_given : Laws → (source : List ℕ) (tokens : List Token) (is : List Item) (named : Named) (new : List Item) → lexing.lex_refusal source ≡ None → IsLexed source tokens → IsRead (map seen tokens) (Ok is) → IsNamed is (Ok named) → IsRewritten is (Ok new) → IsGiven (all_names is) (with_prelude new)
-source_given laws source tokens is named new accepted lexed read n w =
+-- ---- what the law says
+
+-- what was read of a source
+record WasRead (is : List Item) : Type 0 where
+  readable : All IsReadable (mentioned is)
+  declared : AreDeclarations false is
+
+lexed_read : Laws → (is : List Item) (source : List ℕ) (ts : List Seen) → lexing.lex_refusal source ≡ None → (tokens : List Token) → IsLexed source tokens → ts ≡ map seen tokens → IsRead ts (Ok is) → WasRead is
+lexed_read laws is source ts accepted tokens lexed e read =
+    let same = subst (λ (s : List Seen). IsRead s (Ok is)) e read in
+    record { readable = laws.readable (map seen tokens) is (laws.spelled source tokens accepted lexed) same; declared = laws.declared (map seen tokens) is same }
+
+was_read : Laws → (is : List Item) (source : List ℕ) → Reads source (Ok is) → WasRead is
+was_read laws is source (refused r h e) = cc
+was_read laws is source (given ts l read) = lexed_read laws is source ts l.0 l.1 l.2 l.3 read
+
+pub tree_given : Laws → (is new : List Item) (named : Named) → AreOfSource is → IsNamed is (Ok named) → IsRewritten is (Ok new) → IsGiven (all_names is) (with_prelude new)
+tree_given laws is new named from n w =
+    let read = was_read laws is from.0 from.1 in
     subst (λ (l : List Item). IsGiven (all_names is) (with_prelude l)) (sym w.1.1)
     (taken_given laws is (record {
-      readable = laws.readable (map seen tokens) is (laws.spelled source tokens accepted lexed) read;
+      readable = read.readable;
       named = subst (λ (d : Named). IsNamed is (Ok d)) n.1 n;
-      declared = laws.declared (map seen tokens) is read;
+      declared = read.declared;
       rewritten = subst (λ (l : List Item). IsRewritten is (Ok l)) w.1.1 w;
     }))
 
+pub names_room : Laws → (is : List Item) (named : Named) → IsNamed is (Ok named) → length (all_names is).preds ≤ 65534
+names_room laws is named n =
+    let few = laws.few is named n in
+    let most = few_given laws is (subst (λ (d : Named). length d.preds ≤ 4000) n.1 few.preds) in
+    omega (arith, most)
+
+pub names_narrow : Laws → (is : List Item) (named : Named) → IsNamed is (Ok named) → All IsNarrow (all_names is).preds
+names_narrow laws is named n = preds_narrow laws is (laws.small is named n)
+
 -- ---- the program
+
+-- what is known of what is lowered
+pub record Lowers : Type 0 where
+  pub given : (is new : List Item) (named : Named) → AreOfSource is → IsNamed is (Ok named) → IsRewritten is (Ok new) → IsGiven (all_names is) (with_prelude new)
+  pub room : (is : List Item) (named : Named) → IsNamed is (Ok named) → length (all_names is).preds ≤ 65534
+  pub narrow : (is : List Item) (named : Named) → IsNamed is (Ok named) → All IsNarrow (all_names is).preds
+  pub sound : (names : Named) (is : List Item) (core : Core) → IsGiven names is → length names.preds ≤ 65534 → IsLowered names is (Ok core) → IsSound core
+  pub asks : (names : Named) (is : List Item) (core : Core) (n : ℕ) → IsGiven names is → length names.preds ≤ 65534 → All (λ m. values_named m ≤ n) names.preds → IsLowered names is (Ok core) → AllAskFew n core
+  pub heads : (names : Named) (is : List Item) (core : Core) (n : ℕ) → All (λ m. values_named m ≤ n) names.preds → IsLowered names is (Ok core) → HeadsAreFew n core
+  pub holds : (p : Core) → IsSound p → (n : ℕ) → 3 ≤ n → AllAskFew n p → AllHoldFew n p
 
 -- a program is sound, and its goals and heads hold few terms
 abbrev IsMade : Core → Type 0
 IsMade p = IsSound p × AllHoldFew 12 p × HeadsAreFew 12 p
 
-core_made : (laws : Laws) (names : Named) (is : List Item) → IsGiven names is → All IsNarrow names.preds → core_refusal is (first_bad_start (placed_of is) [] is) ≡ None → IsMade (core_of names is)
-core_made laws names is g narrow e =
-    let sound = laws.sound names is g e in
-    (sound, laws.holds (core_of names is) sound 12 (omega arith) (laws.asks names is 12 g narrow), laws.heads names is 12 narrow)
+core_made : (laws : Lowers) (names : Named) (is : List Item) (core : Core) → IsGiven names is → length names.preds ≤ 65534 → All IsNarrow names.preds → IsLowered names is (Ok core) → IsMade core
+core_made laws names is core g room narrow l =
+    let sound = laws.sound names is core g room l in
+    (sound, laws.holds core sound 12 (omega arith) (laws.asks names is core 12 g room narrow l), laws.heads names is core 12 narrow l)
 
-pub compiled_made : Laws → (source : List ℕ) (p : Core) → Compiles source (Ok p) → IsMade p
+pub compiled_made : Lowers → (source : List ℕ) (p : Core) → Compiles source (Ok p) → IsMade p
 compiled_made laws source p (refused r h e) = cc
 compiled_made laws source p (given ts l (refused r h e)) = cc
 compiled_made laws source p (given ts l (given is read (refused r h e))) = cc
 compiled_made laws source p (given ts l (given is read (given n h (refused r k e)))) = cc
-compiled_made laws source p (given ts l (given is read (given n h (given plain w e)))) =
-    let g = source_given laws source l.1 is n plain l.0 l.2 (subst (λ s. IsRead s (Ok is)) l.3 read) h w in
-    subst IsMade (sym e.1) (core_made laws (all_names is) (with_prelude plain) g (preds_narrow laws is (laws.small is n h)) e.0)
+compiled_made laws source p (given ts l (given is read (given n h (given new w lowered)))) =
+    core_made laws (all_names is) (with_prelude new) p (laws.given is new n (source, given ts l read) h w) (laws.room is n h) (laws.narrow is n h) lowered

@@ -18,7 +18,7 @@ use Rattle.dg_reader.specs.Read.{IsRead}
 use Rattle.dg_names.specs.Named.{Named}
 use Rattle.dg_names.specs.Counts.{IsNamed}
 use Rattle.dg_access.specs.Answer.{IsRewritten}
-use Rattle.dg_core.specs.Core.{IsLowered}
+use Rattle.dg_lower.specs.Lowered.{IsLowered}
 use Rattle.dg_compile.specs.Source.{Then, refused, given, refusal_at, Lexes, Reads, all_names, with_prelude, Becomes, Compiles, Meets}
 
 -- ## Steps
@@ -50,17 +50,11 @@ lexes_one source one (Ok ts) (Err s) h k = let no = sym h.0 ∙ k in cc
 lexes_one source one (Err r) (Ok us) h k = let no = sym k.0 ∙ h in cc
 lexes_one source one (Err r) (Err s) h k = let same = sym h ∙ k in cc
 
-lowers_one : (named : Named) (plain : List Item) → IsOne (IsLowered named plain)
-lowers_one named plain (Ok p) (Ok q) h k = ap Ok (h.1 ∙ sym k.1)
-lowers_one named plain (Ok p) (Err s) h k = let no = sym h.0 ∙ k in cc
-lowers_one named plain (Err r) (Ok q) h k = let no = sym k.0 ∙ h in cc
-lowers_one named plain (Err r) (Err s) h k = let same = sym h ∙ k in cc
-
 pub compiles_one : (source : List ℕ) → ((source : List ℕ) (ts us : List Token) → IsLexed source ts → IsLexed source us → map seen ts ≡ map seen us)
-    → ((ts : List Seen) → IsOne (IsRead ts)) → ((is : List Item) → IsOne (IsNamed is)) → ((is : List Item) → IsOne (IsRewritten is)) → IsOne (Compiles source)
-compiles_one source lexed read named rewritten =
+    → ((ts : List Seen) → IsOne (IsRead ts)) → ((is : List Item) → IsOne (IsNamed is)) → ((is : List Item) → IsOne (IsRewritten is)) → ((named : Named) (is : List Item) → IsOne (IsLowered named is)) → IsOne (Compiles source)
+compiles_one source lexed read named rewritten lowered =
     then_one _ _ (lexes_one source (lexed source)) (λ ts. then_one _ _ (read ts) (λ items.
-    then_one _ _ (named items) (λ n. then_one _ _ (rewritten items) (λ new. lowers_one (all_names items) (with_prelude new)))))
+    then_one _ _ (named items) (λ n. then_one _ _ (rewritten items) (λ new. lowered (all_names items) (with_prelude new)))))
 
 -- ## From the calls to the answer
 

@@ -16,7 +16,7 @@ use Rattle.dg_names.specs.Counts.{IsNamed}
 use Rattle.dg_names.specs.Named.{Named, firsts, predicate_in, names_of}
 use Rattle.dg_plain.specs.Items.{plain_items}
 use Rattle.dg_access.specs.Answer.{IsRewritten}
-use Rattle.dg_core.specs.Core.{IsLowered}
+use Rattle.dg_lower.specs.Lowered.{IsLowered}
 use Rattle.dg_prelude.specs.Rules.{prelude_rules}
 
 -- One step behind another: the first refuses, and that is the answer; or it gives what the second answers on.
@@ -41,14 +41,18 @@ abbrev pub with_prelude : List Item → List Item
 with_prelude new = new ++ plain_items None prelude_rules
 
 -- What items are that were read: a count of the source passes, or an access rule loops or is repeated, or of an item too much or a wrong
--- change comes once heads are plain and access rules put in, or an initial value is bad, or the entry has no rule, or they are a program, with
--- the rules of the prelude behind theirs. Nothing else is refused of items: every form that the grammar has is run.
+-- change comes once heads are plain and access rules put in, or an initial value is bad or takes too long, or the entry has no rule, or they are a
+-- program, with the rules of the prelude behind theirs. Nothing else is refused of items: every form that the grammar has is run.
 abbrev pub Becomes : List Item → Result Core Refusal → Type 0
 Becomes items = Then (IsNamed items) (λ named. Then (IsRewritten items) (λ new. IsLowered (all_names items) (with_prelude new)))
 
 -- The items of a source: it is too long or has a bad character, or its tokens are no items, or these are they.
 abbrev pub Reads : List ℕ → Result (List Item) Refusal → Type 0
 Reads source = Then (Lexes source) IsRead
+
+-- Items are those of a source.
+abbrev pub AreOfSource : List Item → Type 0
+AreOfSource items = (source : List ℕ) × Reads source (Ok items)
 
 -- What a source is: it is too long or has a bad character, or its tokens are no items, or what its items are.
 abbrev pub Compiles : List ℕ → Result Core Refusal → Type 0

@@ -18,10 +18,10 @@ use Rattle.dg_base.specs.declared.program.Pred.{Pred}
 use Rattle.dg_base.specs.declared.program.Rule.{Rule}
 use Rattle.dg_base.specs.declared.program.Term.{Term}
 use Rattle.dg_names.specs.Named.{Named}
-use Rattle.dg_core.specs.Core.{Before, outer_scope, scope_of, rule_of, failing, rules_of_item, behind_item, none_before, rules_from, pred_of, core_place, without_facts, with_rules, entry_name, core_of}
+use Rattle.dg_core.specs.Core.{Before, outer_scope, scope_of, rule_of, failing, rules_of_item, behind_item, none_before, rules_from, pred_of, bare, with_rules, entry_name}
 use Rattle.dg_core.specs.Given.{IsGiven}
 use Rattle.dg_core.specs.Goals.{Scope, place_number, in_16_bits, number_in, terms_of}
-use Rattle.dg_core.specs.Places.{is_among, values_named, declarations, place_names, placed_of}
+use Rattle.dg_core.specs.Places.{values_named, place_names}
 use Rattle.dg_core.proofs.FitLemmas.{kind_wants}
 use Rattle.dg_core.proofs.HeadLemmas.{terms_counted}
 use Rattle.dg_core.proofs.PredLemmas.{apart_from_none}
@@ -73,37 +73,32 @@ all_rules around n name [] = All-nil (HasValues name)
 all_rules around n name (i ∷ is) =
     All-append (HasValues name) (rules_of_item around n name i.said) (rules_from around (behind_item n i.said) name is) (item_rules around n name i.said) (all_rules around (behind_item n i.said) name is)
 
-kept : (name : List ℕ) (b : Bool) (rs : List Rule) → All (HasValues name) rs → All (HasValues name) (if b then [] else rs)
-kept name true rs h = All-nil (HasValues name)
-kept name false rs h = h
-
 -- the predicate of a name in the program
 abbrev pred_in : Named → List Item → List ℕ → Pred
-pred_in names items n = without_facts (place_names items) (pred_of (outer_scope names items) items n)
+pred_in names items n = pred_of (outer_scope names items) items n
 
 pred_rules : (names : Named) (items : List Item) (n : List ℕ) → All (HasValues n) (pred_in names items n).rules
-pred_rules names items n = kept n (is_among n (place_names items)) (rules_from (outer_scope names items) none_before n items) (all_rules (outer_scope names items) none_before n items)
+pred_rules names items n = all_rules (outer_scope names items) none_before n items
 
 -- the heads of every predicate are few where names have few places
 abbrev HeadsFew : ℕ → Pred → Type 0
 HeadsFew n q = All (λ (r : Rule). length r.head ≤ n) q.rules
 
-pub heads_few : (names : Named) (items : List Item) (n : ℕ) (ns : List (List ℕ)) → All (λ (m : List ℕ). values_named m ≤ n) ns → All (HeadsFew n) (map (without_facts (place_names items)) (map (pred_of (outer_scope names items) items) ns))
+pub heads_few : (names : Named) (items : List Item) (n : ℕ) (ns : List (List ℕ)) → All (λ (m : List ℕ). values_named m ≤ n) ns → All (HeadsFew n) (map (pred_of (outer_scope names items) items) ns)
 heads_few names items n [] h = All-nil (HeadsFew n)
 heads_few names items n (m ∷ ns) h =
     let few = All-head (λ (k : List ℕ). values_named k ≤ n) m ns h in
-    All-cons (HeadsFew n) (pred_in names items m) (map (without_facts (place_names items)) (map (pred_of (outer_scope names items) items) ns))
+    All-cons (HeadsFew n) (pred_in names items m) (map (pred_of (outer_scope names items) items) ns)
     (All-weaker (HasValues m) (λ (r : Rule). length r.head ≤ n) (λ r e. omega (arith, e, few)) (pred_in names items m).rules (pred_rules names items m))
     (heads_few names items n ns (All-tail (λ (k : List ℕ). values_named k ≤ n) m ns h))
 
-pred_at : (names : Named) (items : List Item) (n : List ℕ) → Contains names.preds n → length names.preds ≤ 65535 → slice_get (core_of names items).preds (number_in names.preds n) ≡ Some (pred_in names items n)
+pred_at : (names : Named) (items : List Item) (n : List ℕ) → Contains names.preds n → length names.preds ≤ 65535 → slice_get (with_rules names items).preds (number_in names.preds n) ≡ Some (pred_in names items n)
 pred_at names items n there few =
-    slice_get-map (without_facts (place_names items)) (map (pred_of (outer_scope names items) items) names.preds) (number_in names.preds n)
-    ∙ ap (option_map (without_facts (place_names items))) (slice_get-map (pred_of (outer_scope names items) items) names.preds (number_in names.preds n) ∙ ap (option_map (pred_of (outer_scope names items) items)) (numbered n names.preds there few))
+    slice_get-map (pred_of (outer_scope names items) items) names.preds (number_in names.preds n) ∙ ap (option_map (pred_of (outer_scope names items) items)) (numbered n names.preds there few)
 
 -- ---- queries and the entry
 
-pub query_fits : (names : Named) (items : List Item) (scope : Scope) (ps : Parts) → Contains names.preds (name_of ps) → length names.preds ≤ 65535 → FitsHeads (length (terms_of scope ps)) (slice_get (core_of names items).preds (number_in names.preds (name_of ps)))
+pub query_fits : (names : Named) (items : List Item) (scope : Scope) (ps : Parts) → Contains names.preds (name_of ps) → length names.preds ≤ 65535 → FitsHeads (length (terms_of scope ps)) (slice_get (with_rules names items).preds (number_in names.preds (name_of ps)))
 query_fits names items scope ps there few =
     let args = terms_counted scope ps in
     subst (λ (o : Option Pred). FitsHeads (length (terms_of scope ps)) o) (sym (pred_at names items (name_of ps) there few))
@@ -114,7 +109,7 @@ abbrev pub HasPlaces : ℕ → Option Pred → Type 0
 HasPlaces args None = ⊥
 HasPlaces args (Some q) = args ≡ values_named q.name
 
-pub query_named : (names : Named) (items : List Item) (scope : Scope) (ps : Parts) → Contains names.preds (name_of ps) → length names.preds ≤ 65535 → HasPlaces (length (terms_of scope ps)) (slice_get (core_of names items).preds (number_in names.preds (name_of ps)))
+pub query_named : (names : Named) (items : List Item) (scope : Scope) (ps : Parts) → Contains names.preds (name_of ps) → length names.preds ≤ 65535 → HasPlaces (length (terms_of scope ps)) (slice_get (with_rules names items).preds (number_in names.preds (name_of ps)))
 query_named names items scope ps there few =
     subst (λ (o : Option Pred). HasPlaces (length (terms_of scope ps)) o) (sym (pred_at names items (name_of ps) there few)) (terms_counted scope ps)
 
@@ -122,27 +117,23 @@ nothing : (ts : List Term) → length ts ≡ 0 → ts ≡ []
 nothing [] e = refl
 nothing (t ∷ ts) e = absurd (omega (arith, e))
 
-pub entry_fits : (names : Named) (items : List Item) → Contains names.preds entry_name → length names.preds ≤ 65535 → IsEntry (slice_get (core_of names items).preds (core_of names items).entry)
+pub entry_fits : (names : Named) (items : List Item) → Contains names.preds entry_name → length names.preds ≤ 65535 → IsEntry (slice_get (with_rules names items).preds (with_rules names items).entry)
 entry_fits names items there few =
     subst (λ (o : Option Pred). IsEntry o) (sym (pred_at names items entry_name there few))
     (All-weaker (HasValues entry_name) (λ (r : Rule). r.head ≡ []) (λ r e. nothing r.head e) (pred_in names items entry_name).rules (pred_rules names items entry_name))
 
 -- ---- places
 
--- the place of a name in the program
-abbrev pub place_in : Named → List Item → List ℕ → Place
-place_in names items n = core_place (outer_scope names items) (placed_of items) (declarations items) (with_rules names items).preds n
-
-place_at : (names : Named) (items : List Item) (n : List ℕ) → Contains (place_names items) n → length (place_names items) ≤ 65535 → slice_get (core_of names items).places (number_in (place_names items) n) ≡ Some (place_in names items n)
+place_at : (names : Named) (items : List Item) (n : List ℕ) → Contains (place_names items) n → length (place_names items) ≤ 65535 → slice_get (with_rules names items).places (number_in (place_names items) n) ≡ Some (bare items n)
 place_at names items n there few =
-    slice_get-map (place_in names items) (place_names items) (number_in (place_names items) n)
-    ∙ ap (option_map (place_in names items)) (numbered n (place_names items) there few)
+    slice_get-map (bare items) (place_names items) (number_in (place_names items) n)
+    ∙ ap (option_map (bare items)) (numbered n (place_names items) there few)
 
 -- a query or a change of a place has as many terms as its kind wants
-pub place_fits : (names : Named) (items : List Item) (scope : Scope) (ps : Parts) → IsGiven names items → Contains (place_names items) (name_of ps) → FitsPlace (length (terms_of scope ps)) (slice_get (core_of names items).places (number_in (place_names items) (name_of ps)))
+pub place_fits : (names : Named) (items : List Item) (scope : Scope) (ps : Parts) → IsGiven names items → Contains (place_names items) (name_of ps) → FitsPlace (length (terms_of scope ps)) (slice_get (with_rules names items).places (number_in (place_names items) (name_of ps)))
 place_fits names items scope ps g there =
-    subst (λ (o : Option Place). FitsPlace (length (terms_of scope ps)) o) (sym (place_at names items (name_of ps) there g.few_places))
+    subst (λ (o : Option Place). FitsPlace (length (terms_of scope ps)) o) (sym (place_at names items (name_of ps) there (omega (arith, g.few_places))))
     (terms_counted scope ps ∙ kind_wants items names (name_of ps) g there)
 
-pub parents_fit : (names : Named) (items : List Item) → FitsPlace 2 (slice_get (core_of names items).places 0)
+pub parents_fit : (names : Named) (items : List Item) → FitsPlace 2 (slice_get (with_rules names items).places 0)
 parents_fit names items = refl

@@ -23,7 +23,7 @@ use Rattle.dg_scopes.specs.Closures.{Layout, variables_in, places_from, behind_c
 use Rattle.dg_scopes.specs.Held.{Holds, IsSmall}
 use Rattle.dg_scopes.proofs.VariableLemmas.{all_held, all_small, rule_small}
 use Rattle.dg_core.specs.Bodies.{Closed, no_closure, a_closure}
-use Rattle.dg_core.specs.Core.{Before, outer_scope, closures_of, numbered, rows_in, behind_rows, rows_from, all_selects, inner_selects, behind_rules, core_of}
+use Rattle.dg_core.specs.Core.{Before, outer_scope, closures_of, numbered, rows_in, behind_rows, rows_from, all_selects, inner_selects, behind_rules, with_rules}
 use Rattle.dg_core.specs.Given.{IsFit, IsFitRule, IsFitItem, closures_among, IsGiven}
 use Rattle.dg_core.specs.Goals.{Scope, in_16_bits, number_in, count_selects}
 use Rattle.dg_core.specs.Matches.{Matches}
@@ -101,7 +101,7 @@ rows_among around n (i ∷ is) fit =
       rows_among around (behind_rows n i.said) is (All-tail (λ (j : Item). IsFitItem j.said) i is fit),
     )
 
-pub few_closures : (names : Named) (items : List Item) → IsGiven names items → length (core_of names items).closures ≤ 65535
+pub few_closures : (names : Named) (items : List Item) → IsGiven names items → length (with_rules names items).closures ≤ 65535
 few_closures names items g = let few : length (rows_from (outer_scope names items) (behind_rules items) items) ≤ 65535 = omega (arith, rows_among (outer_scope names items) (behind_rules items) items g.items, g.few_closures) in few
 
 -- ---- each item's closures have their rows
@@ -110,7 +110,7 @@ few_closures names items g = let few : length (rows_from (outer_scope names item
 pub record IsRuleKnown (names : Named) (items : List Item) (first : ℕ) (ps : Parts) (b : Body) : Type 0 where
   pub asked : Asked names (place_names items) (things (of_rule role.Rule ps b))
   pub fit : IsFitRule ps b
-  pub caught : AreCaught (core_of names items).closures (names_of ps b) (rule_variables ps b) first (of_rule role.Rule ps b)
+  pub caught : AreCaught (with_rules names items).closures (names_of ps b) (rule_variables ps b) first (of_rule role.Rule ps b)
 
 abbrev pub IsItemKnown : Named → List Item → ℕ → Said → Type 0
 IsItemKnown names items first (tree.rule ps b) = IsRuleKnown names items first ps b
@@ -124,7 +124,7 @@ AreItemsKnown names items first (i ∷ is) = IsItemKnown names items first i.sai
 laws : Laws
 laws = record { held = all_held; closures = all_small; rules = rule_small }
 
-rule_known : (names : Named) (items : List Item) (n : Before) (ps : Parts) (b : Body) (pre post : List ClosureBody) → Asked names (place_names items) (things (of_rule role.Rule ps b)) → IsFitRule ps b → length pre ≡ n.closures → (core_of names items).closures ≡ pre ++ (closure_rows (outer_scope names items) n.closures n.selects ps b ++ post) → IsRuleKnown names items n.closures ps b
+rule_known : (names : Named) (items : List Item) (n : Before) (ps : Parts) (b : Body) (pre post : List ClosureBody) → Asked names (place_names items) (things (of_rule role.Rule ps b)) → IsFitRule ps b → length pre ≡ n.closures → (with_rules names items).closures ≡ pre ++ (closure_rows (outer_scope names items) n.closures n.selects ps b ++ post) → IsRuleKnown names items n.closures ps b
 rule_known names items n ps b pre post a fit counted e = record {
   asked = a;
   fit = fit;
@@ -133,14 +133,14 @@ rule_known names items n ps b pre post a fit counted e = record {
       (rule_caught_among laws (outer_scope names items) n.closures n.selects ps b pre post fit.plain fit.few));
 }
 
-item_known : (names : Named) (items : List Item) (n : Before) (said : Said) (pre post : List ClosureBody) → Asked names (place_names items) (things_in said) → IsFitItem said → length pre ≡ n.closures → (core_of names items).closures ≡ pre ++ (rows_in (outer_scope names items) n said ++ post) → IsItemKnown names items n.closures said
+item_known : (names : Named) (items : List Item) (n : Before) (said : Said) (pre post : List ClosureBody) → Asked names (place_names items) (things_in said) → IsFitItem said → length pre ≡ n.closures → (with_rules names items).closures ≡ pre ++ (rows_in (outer_scope names items) n said ++ post) → IsItemKnown names items n.closures said
 item_known names items n (tree.topic w) pre post a fit counted e = tt
 item_known names items n (tree.rule ps b) pre post a fit counted e = rule_known names items n ps b pre post a fit counted e
 item_known names items n (tree.deny ps b) pre post a fit counted e = rule_known names items n ps b pre post a fit counted e
 item_known names items n (tree.access ps b) pre post a fit counted e = tt
 item_known names items n (tree.global_variable ps) pre post a fit counted e = tt
 
-known_from : (names : Named) (items : List Item) (n : Before) (is : List Item) (pre : List ClosureBody) → Asked names (place_names items) (mentioned is) → All (λ (i : Item). IsFitItem i.said) is → length pre ≡ n.closures → (core_of names items).closures ≡ pre ++ rows_from (outer_scope names items) n is → AreItemsKnown names items n.closures is
+known_from : (names : Named) (items : List Item) (n : Before) (is : List Item) (pre : List ClosureBody) → Asked names (place_names items) (mentioned is) → All (λ (i : Item). IsFitItem i.said) is → length pre ≡ n.closures → (with_rules names items).closures ≡ pre ++ rows_from (outer_scope names items) n is → AreItemsKnown names items n.closures is
 known_from names items n [] pre a fit counted e = tt
 known_from names items n (i ∷ is) pre a fit counted e =
     let around = outer_scope names items in
@@ -177,7 +177,7 @@ caught_at rs all vars first k (closed within ms) h (suc i) c e = caught_at rs al
 abbrev pub home_at : Named → List Item → List Layout → ℕ → Home
 home_at names items ls first = record { around = outer_scope names items; layouts = ls; first = first }
 
-pub ground : (names : Named) (items : List Item) (ls : List Layout) (all vars : List (List ℕ)) (first k : ℕ) (ms : Mentions) → IsGiven names items → length vars ≤ 65535 → AreCaught (core_of names items).closures all vars (first + k) ms → IsGround (core_of names items) (length vars) (scope_in (home_at names items ls first) vars (places_from k ms))
+pub ground : (names : Named) (items : List Item) (ls : List Layout) (all vars : List (List ℕ)) (first k : ℕ) (ms : Mentions) → IsGiven names items → length vars ≤ 65535 → AreCaught (with_rules names items).closures all vars (first + k) ms → IsGround (with_rules names items) (length vars) (scope_in (home_at names items ls first) vars (places_from k ms))
 ground names items ls all vars first k ms g few h = record {
   words = λ w there. number_below w names.words there g.few_words;
   objects = λ n there. number_below n names.objects there g.few_objects;
@@ -186,7 +186,7 @@ ground names items ls all vars first k ms g few h = record {
   named = λ s qs there. query_named names items s qs there g.few_preds;
   places = λ s qs there. place_fits names items s qs g there;
   parents = parents_fit names items;
-  closures = λ i c e. numbered_sound (core_of names items) (length vars) c (few_closures names items g) (caught_at (core_of names items).closures all vars first k ms h i c e);
+  closures = λ i c e. numbered_sound (with_rules names items) (length vars) c (few_closures names items g) (caught_at (with_rules names items).closures all vars first k ms h i c e);
 }
 
 -- ---- rows that are sound, with the numbers of their selects
@@ -222,7 +222,7 @@ record AreKnown (names : Named) (items : List Item) (all vars : List (List ℕ))
   matches : Matches ms cs
   held : Holds all vars ms
   small : All IsSmall (layouts_from all k ms)
-  caught : AreCaught (core_of names items).closures all vars (first + k) ms
+  caught : AreCaught (with_rules names items).closures all vars (first + k) ms
 
 behind_thing : (names : Named) (items : List Item) (all vars : List (List ℕ)) (first k : ℕ) (t : Thing) (ms : Mentions) (cs : Closed) → AreKnown names items all vars first k (thing t ms) cs → AreKnown names items all vars first k ms cs
 behind_thing names items all vars first k t ms cs h = record {
@@ -243,7 +243,7 @@ those_within names items all vars first k within ms b inner cs h =
       matches = h.matches.2;
       held = h.held.1;
       small = all_front IsSmall inside rest (All-tail IsSmall l (inside ++ rest) h.small);
-      caught = subst (λ (j : ℕ). AreCaught (core_of names items).closures all (variables_in l) j within) (omega arith) h.caught.1;
+      caught = subst (λ (j : ℕ). AreCaught (with_rules names items).closures all (variables_in l) j within) (omega arith) h.caught.1;
     }
 
 those_behind : (names : Named) (items : List Item) (all vars : List (List ℕ)) (first k : ℕ) (within ms : Mentions) (b : Body) (inner cs : Closed) → AreKnown names items all vars first k (closed within ms) (a_closure b inner cs) → AreKnown names items all vars first (behind_closure k within) ms cs
@@ -256,13 +256,13 @@ those_behind names items all vars first k within ms b inner cs h =
       matches = h.matches.3;
       held = h.held.2;
       small = all_behind IsSmall inside rest (All-tail IsSmall l (inside ++ rest) h.small);
-      caught = subst (λ (j : ℕ). AreCaught (core_of names items).closures all vars j ms) (omega arith) h.caught.2;
+      caught = subst (λ (j : ℕ). AreCaught (with_rules names items).closures all vars j ms) (omega arith) h.caught.2;
     }
 
 -- the row of one closure
-one_made : (names : Named) (items : List Item) (ls : List Layout) (all vars : List (List ℕ)) (first n k : ℕ) (within ms : Mentions) (b : Body) (inner cs : Closed) → IsGiven names items → AreKnown names items all vars first k (closed within ms) (a_closure b inner cs) → n + count_selects (of_body false b) ≤ (core_of names items).sites → let l = layout_of all k within in AreRowsMade (core_of names items) n (n + count_selects (of_body false b)) (row_with (home_at names items ls first) (captured_in vars l) n l b ∷ [])
+one_made : (names : Named) (items : List Item) (ls : List Layout) (all vars : List (List ℕ)) (first n k : ℕ) (within ms : Mentions) (b : Body) (inner cs : Closed) → IsGiven names items → AreKnown names items all vars first k (closed within ms) (a_closure b inner cs) → n + count_selects (of_body false b) ≤ (with_rules names items).sites → let l = layout_of all k within in AreRowsMade (with_rules names items) n (n + count_selects (of_body false b)) (row_with (home_at names items ls first) (captured_in vars l) n l b ∷ [])
 one_made names items ls all vars first n k within ms b inner cs g h e =
-    let p = core_of names items in
+    let p = with_rules names items in
     let l = layout_of all k within in
     let own = variables_in l in
     let s = scope_in (home_at names items ls first) own (places_from (k + 1) within) in
@@ -281,12 +281,12 @@ one_made names items ls all vars first n k within ms b inner cs g h e =
       named = All-cons (IsRowByName p) r [] made.named (All-nil (IsRowByName p));
     }
 
-laid_made : (names : Named) (items : List Item) (ls : List Layout) (all vars : List (List ℕ)) (first n k : ℕ) (ms : Mentions) (cs : Closed) → IsGiven names items → AreKnown names items all vars first k ms cs → n + selects_within cs ≤ (core_of names items).sites → AreRowsMade (core_of names items) n (n + selects_within cs) (laid (home_at names items ls first) all vars n k ms cs)
-laid_made names items ls all vars first n k nothing cs g h e = rows_none (core_of names items) n _ (omega arith)
+laid_made : (names : Named) (items : List Item) (ls : List Layout) (all vars : List (List ℕ)) (first n k : ℕ) (ms : Mentions) (cs : Closed) → IsGiven names items → AreKnown names items all vars first k ms cs → n + selects_within cs ≤ (with_rules names items).sites → AreRowsMade (with_rules names items) n (n + selects_within cs) (laid (home_at names items ls first) all vars n k ms cs)
+laid_made names items ls all vars first n k nothing cs g h e = rows_none (with_rules names items) n _ (omega arith)
 laid_made names items ls all vars first n k (thing t ms) cs g h e = laid_made names items ls all vars first n k ms cs g (behind_thing names items all vars first k t ms cs h) e
 laid_made names items ls all vars first n k (closed within ms) no_closure g h e = absurd h.matches
 laid_made names items ls all vars first n k (closed within ms) (a_closure b inner cs) g h e =
-    let p = core_of names items in
+    let p = with_rules names items in
     let home = home_at names items ls first in
     let l = layout_of all k within in
     let m = n + count_selects (of_body false b) in
@@ -301,7 +301,7 @@ laid_made names items ls all vars first n k (closed within ms) (a_closure b inne
 
 -- ---- the rows of all items
 
-rule_rows : (names : Named) (items : List Item) (n : Before) (ps : Parts) (b : Body) → IsGiven names items → IsRuleKnown names items n.closures ps b → n.selects + selects_within (closures_in_rule ps b) ≤ (core_of names items).sites → AreRowsMade (core_of names items) n.selects (n.selects + selects_within (closures_in_rule ps b)) (closure_rows (outer_scope names items) n.closures n.selects ps b)
+rule_rows : (names : Named) (items : List Item) (n : Before) (ps : Parts) (b : Body) → IsGiven names items → IsRuleKnown names items n.closures ps b → n.selects + selects_within (closures_in_rule ps b) ≤ (with_rules names items).sites → AreRowsMade (with_rules names items) n.selects (n.selects + selects_within (closures_in_rule ps b)) (closure_rows (outer_scope names items) n.closures n.selects ps b)
 rule_rows names items n ps b g h e =
     let ms = of_rule role.Rule ps b in
     let all = names_of ps b in
@@ -310,27 +310,27 @@ rule_rows names items n ps b g h e =
       matches = rule_matches ps b h.fit.plain;
       held = all_held all ms;
       small = all_small all 0 ms h.fit.few.1;
-      caught = subst (λ (k : ℕ). AreCaught (core_of names items).closures all (rule_variables ps b) k ms) (omega arith) h.caught;
+      caught = subst (λ (k : ℕ). AreCaught (with_rules names items).closures all (rule_variables ps b) k ms) (omega arith) h.caught;
     } in
-    subst (AreRowsMade (core_of names items) n.selects (n.selects + selects_within (closures_in_rule ps b))) (sym (rule_laid (outer_scope names items) n.closures n.selects ps b h.fit.plain))
+    subst (AreRowsMade (with_rules names items) n.selects (n.selects + selects_within (closures_in_rule ps b))) (sym (rule_laid (outer_scope names items) n.closures n.selects ps b h.fit.plain))
     (laid_made names items (layouts_in ps b).closures all (rule_variables ps b) n.closures n.selects 0 ms (closures_in_rule ps b) g known e)
 
-item_rows : (names : Named) (items : List Item) (n : Before) (said : Said) → IsGiven names items → IsItemKnown names items n.closures said → n.selects + selects_within (closures_of said) ≤ (core_of names items).sites → AreRowsMade (core_of names items) n.selects (n.selects + selects_within (closures_of said)) (rows_in (outer_scope names items) n said)
-item_rows names items n (tree.topic w) g h e = rows_none (core_of names items) n.selects _ (omega arith)
+item_rows : (names : Named) (items : List Item) (n : Before) (said : Said) → IsGiven names items → IsItemKnown names items n.closures said → n.selects + selects_within (closures_of said) ≤ (with_rules names items).sites → AreRowsMade (with_rules names items) n.selects (n.selects + selects_within (closures_of said)) (rows_in (outer_scope names items) n said)
+item_rows names items n (tree.topic w) g h e = rows_none (with_rules names items) n.selects _ (omega arith)
 item_rows names items n (tree.rule ps b) g h e = rule_rows names items n ps b g h e
 item_rows names items n (tree.deny ps b) g h e = rule_rows names items n ps b g h e
-item_rows names items n (tree.access ps b) g h e = rows_none (core_of names items) n.selects _ (omega arith)
-item_rows names items n (tree.global_variable ps) g h e = rows_none (core_of names items) n.selects _ (omega arith)
+item_rows names items n (tree.access ps b) g h e = rows_none (with_rules names items) n.selects _ (omega arith)
+item_rows names items n (tree.global_variable ps) g h e = rows_none (with_rules names items) n.selects _ (omega arith)
 
-items_rows : (names : Named) (items : List Item) (n : Before) (is : List Item) → IsGiven names items → AreItemsKnown names items n.closures is → n.selects + inner_selects is ≤ (core_of names items).sites → AreRowsMade (core_of names items) n.selects (n.selects + inner_selects is) (rows_from (outer_scope names items) n is)
-items_rows names items n [] g h e = rows_none (core_of names items) n.selects _ (omega arith)
+items_rows : (names : Named) (items : List Item) (n : Before) (is : List Item) → IsGiven names items → AreItemsKnown names items n.closures is → n.selects + inner_selects is ≤ (with_rules names items).sites → AreRowsMade (with_rules names items) n.selects (n.selects + inner_selects is) (rows_from (outer_scope names items) n is)
+items_rows names items n [] g h e = rows_none (with_rules names items) n.selects _ (omega arith)
 items_rows names items n (i ∷ is) g h e =
-    let p = core_of names items in
+    let p = with_rules names items in
     let around = outer_scope names items in
     let next = behind_rows n i.said in
     let all = rows_in around n i.said ++ rows_from around next is in
     rows_to p n.selects (next.selects + inner_selects is) _ all (omega arith)
     (rows_join p n.selects next.selects (next.selects + inner_selects is) (rows_in around n i.said) (rows_from around next is) (item_rows names items n i.said g h.0 (omega (arith, e))) (items_rows names items next is g h.1 (omega (arith, e))))
 
-pub closures_made : (names : Named) (items : List Item) → IsGiven names items → AreRowsMade (core_of names items) (all_selects items) (all_selects items + inner_selects items) (core_of names items).closures
+pub closures_made : (names : Named) (items : List Item) → IsGiven names items → AreRowsMade (with_rules names items) (all_selects items) (all_selects items + inner_selects items) (with_rules names items).closures
 closures_made names items g = items_rows names items (behind_rules items) items g (items_known names items g) (omega arith)

@@ -15,9 +15,9 @@ use Rattle.dg_base.specs.declared.program.Rule.{Rule}
 use Rattle.dg_base.specs.declared.program.Term.{Term}
 use Rattle.dg_meaning.specs.Few.{FormAsksFew, AsksFew, AllAskFew, HeadsAreFew}
 use Rattle.dg_names.specs.Named.{Named}
-use Rattle.dg_core.specs.Core.{outer_scope, pred_of, without_facts, core_of}
+use Rattle.dg_core.specs.Core.{outer_scope, pred_of, with_rules}
 use Rattle.dg_core.specs.Given.{IsGiven}
-use Rattle.dg_core.specs.Places.{place_names, values_named}
+use Rattle.dg_core.specs.Places.{values_named}
 use Rattle.dg_core.proofs.AskLemmas.{HasPlaces, heads_few}
 use Rattle.dg_core.proofs.ClosureLemmas.{IsRowByName, closures_made}
 use Rattle.dg_core.proofs.GoalLemmas.{FormNamed, IsByName}
@@ -27,10 +27,10 @@ use Rattle.dg_core.proofs.SoundLemmas.{IsRuleByName, IsPredByName, preds_named}
 abbrev HasFew : ℕ → Pred → Type 0
 HasFew n q = values_named q.name ≤ n
 
-names_few : (names : Named) (items : List Item) (n : ℕ) (ns : List (List ℕ)) → All (λ (m : List ℕ). values_named m ≤ n) ns → All (HasFew n) (map (without_facts (place_names items)) (map (pred_of (outer_scope names items) items) ns))
+names_few : (names : Named) (items : List Item) (n : ℕ) (ns : List (List ℕ)) → All (λ (m : List ℕ). values_named m ≤ n) ns → All (HasFew n) (map (pred_of (outer_scope names items) items) ns)
 names_few names items n [] h = All-nil (HasFew n)
 names_few names items n (m ∷ ns) h =
-    All-cons (HasFew n) (without_facts (place_names items) (pred_of (outer_scope names items) items m)) (map (without_facts (place_names items)) (map (pred_of (outer_scope names items) items) ns))
+    All-cons (HasFew n) (pred_of (outer_scope names items) items m) (map (pred_of (outer_scope names items) items) ns)
     (All-head (λ (k : List ℕ). values_named k ≤ n) m ns h) (names_few names items n ns (All-tail (λ (k : List ℕ). values_named k ≤ n) m ns h))
 
 module _ (p : Core) (n : ℕ) (few : All (HasFew n) p.preds) where
@@ -53,14 +53,14 @@ module _ (p : Core) (n : ℕ) (few : All (HasFew n) p.preds) where
   rules_few : (rules : List Rule) → All (IsRuleByName p) rules → All (λ (r : Rule). All (AsksFew n) (all_goals_of r.body)) rules
   rules_few rules h = All-weaker (IsRuleByName p) (λ (r : Rule). All (AsksFew n) (all_goals_of r.body)) (λ r. goals_few (all_goals_of r.body)) rules h
 
-pub core_asks_few : (names : Named) (items : List Item) (n : ℕ) → IsGiven names items → All (λ (m : List ℕ). values_named m ≤ n) names.preds → AllAskFew n (core_of names items)
-core_asks_few names items n g h =
-    let p = core_of names items in
+pub rules_ask_few : (names : Named) (items : List Item) (n : ℕ) → IsGiven names items → All (λ (m : List ℕ). values_named m ≤ n) names.preds → AllAskFew n (with_rules names items)
+rules_ask_few names items n g h =
+    let p = with_rules names items in
     let few : All (HasFew n) p.preds = names_few names items n names.preds h in
     record {
       preds = All-weaker (IsPredByName p) (λ (q : Pred). All (λ (r : Rule). All (AsksFew n) (all_goals_of r.body)) q.rules) (λ q. rules_few p n few q.rules) p.preds (preds_named names items names.preds g);
       closures = All-weaker (IsRowByName p) (λ (r : ClosureBody). All (AsksFew n) (all_goals_of r.body)) (λ r. goals_few p n few (all_goals_of r.body)) p.closures (closures_made names items g).named;
     }
 
-pub core_heads_few : (names : Named) (items : List Item) (n : ℕ) → All (λ (m : List ℕ). values_named m ≤ n) names.preds → HeadsAreFew n (core_of names items)
-core_heads_few names items n h = heads_few names items n names.preds h
+pub rules_heads_few : (names : Named) (items : List Item) (n : ℕ) → All (λ (m : List ℕ). values_named m ≤ n) names.preds → HeadsAreFew n (with_rules names items)
+rules_heads_few names items n h = heads_few names items n names.preds h

@@ -7,8 +7,7 @@ pub mod MatchLemmas
 pub mod MakingLemmas
 pub mod MakeLemmas
 pub mod PlaceLemmas
-pub mod FactLemmas
-pub mod DropLemmas
+pub mod BuiltInLemmas
 pub mod HeadLemmas
 pub mod FitLemmas
 pub mod AskLemmas
@@ -20,6 +19,7 @@ pub mod KeptLemmas
 pub mod SiteLemmas
 pub mod GoalLemmas
 pub mod ClosureLemmas
-pub mod StartLemmas
+pub mod LostLemmas
+pub mod DeclaredLemmas
 pub mod SoundLemmas
 pub mod FewLemmas

@@ -41,7 +41,7 @@ not_named : (n : List ℕ) (r : Rule) (p : Pred) → bytes_eq n p.name ≡ false
 not_named n r p e = ap (λ (b : Bool). record p { rules = p.rules ++ (if b then r ∷ [] else []) }) e ∙ as_it_was p
 
 -- a name is none of these
-abbrev IsApart : List ℕ → List (List ℕ) → Type 0
+abbrev pub IsApart : List ℕ → List (List ℕ) → Type 0
 IsApart n ms = AllByRecursion (λ m. bytes_eq n m ≡ false) ms
 
 pub untouched : (n : List ℕ) (r : Rule) (ps : List Pred) → IsApart n (pred_names ps) → map (with_rule n r) ps ≡ ps
@@ -60,7 +60,7 @@ other_if n m k false q same apart = q
 other_if n m k true q same apart =
     absurd (let no : true ≡ false = sym same ∙ ap (λ (x : List ℕ). bytes_eq x m) ((bytes_decides n k).0 q) ∙ apart in cc)
 
-other : (n m k : List ℕ) → bytes_eq n m ≡ true → bytes_eq k m ≡ false → bytes_eq n k ≡ false
+pub other : (n m k : List ℕ) → bytes_eq n m ≡ true → bytes_eq k m ≡ false → bytes_eq n k ≡ false
 other n m k same apart = other_if n m k (bytes_eq n k) refl same apart
 
 -- the predicate of this name is the one to which the rule comes

@@ -1,18 +1,17 @@
 -- What a rewritten tree and its names have where they come from a source that was read: hold it against docs/LANGUAGE.md, "Names", "Characters and
 -- tokens", "The world" and "Limits".
-use Rattle.std.specs.Prelude.{◌≡◌, ◌≤◌, ◌+◌, ℕ, List, [], ◌∷◌, false, All, length}
+use Rattle.std.specs.Prelude.{◌≡◌, ◌≤◌, ◌+◌, ℕ, List, [], ◌∷◌, Bool, true, false, All, length}
 use Rattle.std.specs.List.{IsDistinct}
 use Rattle.std.specs.Str.{bytes_eq}
 use Rattle.dg_base.specs.Heads.{name_of}
 use Rattle.dg_base.specs.Mentions.{Thing, query, select, closures, of_rule, of_said, mentioned}
 use Rattle.dg_base.specs.Sound.{IsName}
-use Rattle.dg_base.specs.Tree.{Parts, Value, num, dict_word, object_name, plain_list, tailed_list, Values, no_values, value, Body, Said, rule, deny, global_variable, Item}
+use Rattle.dg_base.specs.Tree.{Parts, Value, anonymous, num, dict_word, object_name, plain_list, tailed_list, Values, no_values, value, Body, Said, rule, deny, global_variable, Item}
 use Rattle.dg_base.specs.declared.mentions.Role.TheVariants as role
 use Rattle.dg_scopes.specs.Few.{HasFewVariables}
 use Rattle.dg_names.specs.Among.{IsAmong}
 use Rattle.dg_names.specs.Named.{Named}
 use Rattle.dg_core.specs.Matches.{ArePlain}
-use Rattle.dg_core.specs.Core.{is_unset}
 use Rattle.dg_core.specs.Places.{parent_name, place_names, head_values}
 
 -- What is changed has at most two values, and a select has a branch and at most 500.
@@ -34,6 +33,11 @@ abbrev mutual
   pub AreSet : Values → Type 0
   AreSet no_values = Unit {0}
   AreSet (value v vs) = IsSet v × AreSet vs
+
+-- A declared variable that is unset.
+abbrev pub is_unset : Value → Bool
+is_unset anonymous = true
+is_unset v = false
 
 -- The first of these values may be declared, or says that nothing is set.
 abbrev pub MayStart : List Value → Type 0
@@ -68,7 +72,7 @@ pub record IsGiven (names : Named) (is : List Item) : Type 0 where
   pub fit : All IsFit (mentioned is)
   pub items : All (λ (i : Item). IsFitItem i.said) is
   pub few_closures : closures_among is ≤ 65535
-  pub few_places : length (place_names is) ≤ 65535
+  pub few_places : length (place_names is) ≤ 65534
   pub preds : All IsName names.preds
   pub objects : All IsName names.objects
   pub words : All IsName names.words

@@ -1,3 +1,4 @@
 pub mod Waiting
 pub mod Making
 pub mod View
+pub mod Fewer

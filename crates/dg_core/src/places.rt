@@ -1,4 +1,4 @@
-// The places of the world, and the facts that may stand of them.
+// The places of the world.
 ghost use Rattle.std.specs.Prelude.{◌≡◌, ◌≤◌, ◌++◌, ◌∷◌, [], map, position, OnOk, IfOk};
 ghost use Rattle.std.specs.Str.{bytes_eq};
 ghost use Rattle.dg_base.specs.Heads.{name_of as head_name};

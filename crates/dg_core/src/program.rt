@@ -1,37 +1,33 @@
 // From items to the core program.
-ghost use Rattle.std.specs.Prelude.{◌≡◌, ◌+◌, ◌<◌, ◌∷◌, [], ℕ, false, not, map, length, Ok, Err, OnOk, IfOk, IfErr, IsErrOf};
+ghost use Rattle.std.specs.Prelude.{◌≡◌, ◌+◌, ◌++◌, ◌∷◌, [], ℕ, false, not, map, OnOk, IfOk};
 ghost use Rattle.std.specs.List.{IsDistinct, list_any};
 ghost use Rattle.std.specs.Str.{bytes_eq};
-ghost use Rattle.dg_base.specs.Faults.{IsFault};
 ghost use Rattle.dg_base.specs.Heads.{name_of as head_name};
 ghost use Rattle.dg_base.specs.Mentions.{of_body};
 ghost use Rattle.dg_base.specs.Names.{prelude_names, name_among};
-ghost use Rattle.dg_base.specs.Sound.{IsSound};
 ghost use Rattle.dg_base.specs.Tree.{rule};
-ghost use Rattle.dg_base.specs.TreeView.{body_view, head_view, said_view, item_view, tree_view};
+ghost use Rattle.dg_base.specs.TreeView.{body_view, head_view, said_view, item_view};
+ghost use Rattle.dg_base.specs.declared.program.PlaceKind.TheVariants.{ObjectVar};
 ghost use Rattle.dg_scopes.specs.inside.View.{layouts_view};
-ghost use Rattle.dg_names.specs.State.{listed, names_view, seen};
+ghost use Rattle.dg_names.specs.State.{listed, names_view};
 ghost use Rattle.dg_core.specs.Bodies.{direct};
 ghost use Rattle.dg_core.specs.Core as spec;
-ghost use Rattle.dg_core.specs.Given.{IsGiven};
 ghost use Rattle.dg_core.specs.Goals.{count_selects};
 ghost use Rattle.dg_core.specs.inside.Making.{bodies_view};
-ghost use Rattle.dg_core.specs.Places.{placed_of, first_bad_start as spec_first_bad};
+ghost use Rattle.dg_core.specs.Places.{placed_of};
 ghost use Rattle.dg_core.specs.Rows.{closures_in_rule};
 ghost use Rattle.dg_core.specs.Variables.{layouts_in};
-ghost use Rattle.dg_core.specs.inside.View.{scope_view, places_view, before_view, rule_in, with_rule, with_rules_in, pred_names};
+ghost use Rattle.dg_core.specs.inside.View.{scope_view, places_view, bare_in, before_view, rule_in, with_rule, with_rules_in, pred_names};
 ghost use Rattle.dg_core.specs.inside.Waiting.{rows_kept, selects_kept, Waits, Keeps};
 
-use crate::facts::first_bad;
 use crate::goals::goals_of;
-use crate::places::places_of;
+use crate::places::kind_of;
 use crate::rows::{Kept, all_rows, kept_of, number_at, scope_in};
 use crate::scope::{Places, Scope};
-use crate::starts::{drop_facts, places_with_starts};
 use crate::terms::{number_in, terms_of};
 use dg_base::{
-    Body, CoreProgram, Goal, Head, Item, ItemBody, Items, Kind, Name, PRELUDE_NAMES, Pred,
-    ReadFault, Refusal, Rule, Tree, is_named,
+    Body, CoreProgram, Goal, Head, Item, ItemBody, Items, Name, PRELUDE_NAMES, Place, PlaceKind,
+    Pred, Rule,
 };
 use dg_names::Names;
 use dg_scopes::{Layouts, layouts_of};
@@ -273,15 +269,42 @@ fn copied(alloc: Global, names: &IndexSet<Vec<u8>>) -> Result<Items<Name>, Alloc
     Ok(copies)
 }
 
-// The program of these items.
-fn program_of(
+// The places of these names, in each of which nothing starts set.
+fn bare_places(alloc: Global, places: &Places) -> Result<Items<Place>, AllocError>
+    ensures { IfOk result (λ bare. bare ≡ map (bare_in (places_view places.now).declared) (places_view places.now).names) }
+{
+    let mut bare = Items::new(alloc);
+    for name in places.names.as_slice() {
+        bare.push(Place {
+            kind: kind_of(places, name.as_slice()),
+            start: Items::new(alloc),
+        })?;
+    }
+    Ok(bare)
+}
+
+// The same, with the place for what a search answers behind them.
+fn places_with_answers(alloc: Global, places: &Places) -> Result<Items<Place>, AllocError>
+    ensures { IfOk result (λ all. all
+        ≡ map (bare_in (places_view places.now).declared) (places_view places.now).names ++ record { kind = ObjectVar; start = [] } ∷ []) }
+{
+    let mut all = bare_places(alloc, places)?;
+    all.push(Place {
+        kind: PlaceKind::ObjectVar,
+        start: Items::new(alloc),
+    })?;
+    Ok(all)
+}
+
+/// The program that is searched for how the places of a tree start.
+pub fn initial(
     alloc: Global,
     names: &Names,
     places: &Places,
     items: &[Item],
 ) -> Result<CoreProgram, AllocError>
     requires { places_view places.now ≡ placed_of (map item_view items.now) }
-    ensures { IfOk result (λ core. core ≡ spec.core_of (names_view names.now) (map item_view items.now)) }
+    ensures { IfOk result (λ core. core ≡ spec.initial_core (names_view names.now) (map item_view items.now)) }
 {
     let around = Scope {
         names,
@@ -290,118 +313,19 @@ fn program_of(
         closures: Vec::new(alloc),
     };
     let Rules {
-        mut preds,
+        preds,
         kept,
         before,
     } = rules_of(alloc, &around, items)?;
     let mut sites = before.selects;
     let closures = all_rows(alloc, &around, &mut sites, kept)?;
-    let places = places_with_starts(alloc, &around, items, preds.as_slice())?;
-    drop_facts(alloc, &around, &mut preds);
     Ok(CoreProgram {
         preds: Items::from_vec(preds),
         closures,
-        places,
+        places: places_with_answers(alloc, places)?,
         objects: copied(alloc, &names.objects)?,
         words: copied(alloc, &names.words)?,
         sites,
         entry: number_in(&names.preds, ENTRY),
     })
-}
-
-// Whether an item gives a rule to the predicate of this name.
-fn is_rule_for(name: &[u8], said: &ItemBody) -> bool
-    ensures { result ≡ spec.is_rule_for name.now (said_view said.now) }
-{
-    match said {
-        ItemBody::Rule(head, _) | ItemBody::Deny(head, _) => is_named(head.parts.as_slice(), name),
-        ItemBody::Topic(_) | ItemBody::Access(_, _) | ItemBody::Variable(_) => false,
-    }
-}
-
-fn has_entry(tree: &Tree) -> bool
-    ensures { result ≡ spec.has_entry (tree_view tree.now) }
-{
-    for item in tree.items.as_slice() {
-        if is_rule_for(ENTRY, &item.body) {
-            return true;
-        }
-    }
-    false
-}
-
-// Why a tree is refused.
-fn refusal_of(alloc: Global, tree: &Tree, places: &Places) -> Result<Option<Refusal>, AllocError>
-    requires { places_view places.now ≡ placed_of (tree_view tree.now) }
-    ensures { IfOk result (λ refusal. refusal ≡ spec.core_refusal (tree_view tree.now)
-        (spec_first_bad (placed_of (tree_view tree.now)) [] (tree_view tree.now))) }
-{
-    match first_bad(alloc, places, tree.items.as_slice())? {
-        Some(line) => Ok(Some(Refusal {
-            kind: Kind::BadInitial,
-            line,
-        })),
-        None if has_entry(tree) => Ok(None),
-        None => Ok(Some(Refusal {
-            kind: Kind::NoEntry,
-            line: 1,
-        })),
-    }
-}
-
-// The core program of a tree with these names and places, or why it is refused.
-fn lowered_with(
-    alloc: Global,
-    tree: &Tree,
-    names: &Names,
-    places: &Places,
-) -> Result<CoreProgram, ReadFault>
-    requires { places_view places.now ≡ placed_of (tree_view tree.now) }
-    ensures ok { IfOk result (λ core. spec.IsLowered (names_view names.now) (tree_view tree.now) (Ok core)) }
-    ensures refused { IfErr result (IsFault (λ r. spec.IsLowered (names_view names.now) (tree_view tree.now) (Err r))) }
-{
-    match refusal_of(alloc, tree, places)? {
-        Some(refusal) => Err(ReadFault::Refused(refusal)),
-        None => Ok(program_of(alloc, names, places, tree.items.as_slice())?),
-    }
-}
-
-// The core program of a tree with these names, or why it is refused.
-fn lowered(alloc: Global, tree: &Tree, names: &Names) -> Result<CoreProgram, ReadFault>
-    ensures ok { IfOk result (λ core. spec.IsLowered (names_view names.now) (tree_view tree.now) (Ok core)) }
-    ensures refused { IfErr result (IsFault (λ r. spec.IsLowered (names_view names.now) (tree_view tree.now) (Err r))) }
-{
-    let places = places_of(alloc, tree.items.as_slice())?;
-    let result = lowered_with(alloc, tree, names, &places);
-    drop(places);
-    result
-}
-
-// A tree without items has no entry.
-fn no_entry() -> ReadFault
-    ensures { result ≡ ReadFault.Refused (record { kind = Kind.NoEntry; line = 1 }) }
-{
-    ReadFault::Refused(Refusal {
-        kind: Kind::NoEntry,
-        line: 1,
-    })
-}
-
-/// The core program of a rewritten tree with these names, or why it is refused: its first bad initial value, or that no rule
-/// has the name of the entry.
-pub fn lower(alloc: Global, tree: Tree, names: Names) -> Result<CoreProgram, ReadFault>
-    ensures lowered { IfOk result (λ core. spec.IsLowered (names_view names) (tree_view tree) (Ok core)) }
-    ensures sound { IsGiven (names_view names) (tree_view tree) → IfOk result IsSound }
-    ensures refused { IfErr result (IsFault (λ r. spec.IsLowered (names_view names) (tree_view tree) (Err r))) }
-    ensures memory { IsErrOf result ReadFault.OutOfMemory → 0 < length (tree_view tree) }
-{
-    if tree.items.as_slice().is_empty() {
-        drop(tree);
-        drop(names);
-        return Err(no_entry());
-    }
-    let result = lowered(alloc, &tree, &names);
-    drop(tree);
-    drop(names);
-    result
 }

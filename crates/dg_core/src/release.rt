@@ -182,6 +182,18 @@ impl Scraps {
     }
 }
 
+/// Lets go of rules without recursion.
+pub fn let_go_rules(alloc: Global, rules: Items<Rule>) {
+    let mut scraps = Scraps::new(alloc);
+    scraps.clear_rules(rules);
+}
+
+/// Lets go of places without recursion.
+pub fn let_go_places(alloc: Global, places: Items<Place>) {
+    let mut scraps = Scraps::new(alloc);
+    scraps.clear_places(places);
+}
+
 /// Lets go of a program without recursion.
 pub fn let_go(alloc: Global, program: CoreProgram) {
     let mut scraps = Scraps::new(alloc);

@@ -5,16 +5,17 @@ ghost use Rattle.std.specs.Option.{option_map};
 ghost use Rattle.std.specs.Str.{bytes_eq};
 ghost use Rattle.dg_base.specs.Tree.{parts_of, values_of};
 ghost use Rattle.dg_base.specs.TreeView.{part_view, value_view, head_view};
-ghost use Rattle.dg_names.specs.State.{seen, listed as names_listed};
+ghost use Rattle.dg_names.specs.State.{seen, listed as names_listed, names_view};
 ghost use Rattle.dg_core.specs.Goals as spec;
+ghost use Rattle.dg_core.specs.Places.{head_values};
 ghost use Rattle.dg_core.specs.Bodies.{direct, in_value, in_parts};
 ghost use Rattle.dg_core.specs.inside.Making.{bodies_view, paired, last_term, term_behind, terms_behind, term_weight, terms_weight};
-ghost use Rattle.dg_core.specs.inside.View.{scope_view, scope_behind, terms_made, directs, values_view};
+ghost use Rattle.dg_core.specs.inside.View.{scope_view, scope_behind, terms_made, directs, values_view, places_view, outer_in};
 
-use crate::facts::values_in;
 use crate::places::place_in;
-use crate::scope::Scope;
-use dg_base::{Body, Boxed, Head, Items, Term, Value};
+use crate::scope::{Places, Scope};
+use dg_base::{Body, Boxed, Head, Items, Part, Term, Value};
+use dg_names::Names;
 use indexmap::IndexSet;
 use std::alloc::{AllocError, Global};
 
@@ -240,6 +241,19 @@ pub fn term_of<'a>(
     Ok(last_of(terms))
 }
 
+/// The values of a head, from left to right.
+pub fn values_in<'a>(alloc: Global, parts: &'a [Part]) -> Result<Vec<&'a Value>, AllocError>
+    ensures { IfOk result (λ values. values_view values.items ≡ head_values (parts_of (map part_view parts.now))) }
+{
+    let mut values = Vec::new(alloc);
+    for part in parts {
+        if let Part::Value(value) = part {
+            values.push(value)?;
+        }
+    }
+    Ok(values)
+}
+
 /// The terms of values.
 pub fn terms_of_values<'a>(
     alloc: Global,
@@ -269,4 +283,22 @@ pub fn terms_of<'a>(
 {
     let values = values_in(alloc, head.parts.as_slice())?;
     terms_of_values(alloc, scope, found, values.as_slice())
+}
+
+/// The term of a value that stands outside rules.
+pub fn outer_term(
+    alloc: Global,
+    names: &Names,
+    places: &Places,
+    value: &Value,
+) -> Result<Term, AllocError>
+    ensures { IfOk result (λ term. term ≡ spec.term_of (outer_in (names_view names.now) (places_view places.now).names) (value_view value.now)) }
+{
+    let outer = Scope {
+        names,
+        places,
+        variables: Vec::new(alloc),
+        closures: Vec::new(alloc),
+    };
+    term_of(alloc, &outer, &mut Items::new(alloc), value)
 }

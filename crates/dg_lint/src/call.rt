@@ -6,7 +6,7 @@ ghost use Rattle.dg_base.specs.Shelves.{KeepsAll};
 ghost use Rattle.dg_base.specs.declared.program.CoreProgram.{CoreProgram as Core};
 ghost use Rattle.dg_base.specs.Written.{texts as piece_texts, joined};
 ghost use Rattle.dg_base.specs.TreeView.{tree_view};
-ghost use Rattle.dg_compile.specs.Source.{Reads, Becomes, Compiles, refusal_at};
+ghost use Rattle.dg_compile.specs.Source.{Reads, AreOfSource, Becomes, Compiles, refusal_at};
 ghost use Rattle.dg_meaning.specs.Transcript.{no_memory_line};
 ghost use Rattle.dg_lint.specs.Call as spec;
 ghost use Rattle.dg_lint.specs.Call.{texts, file_of, usage_line, refusal_line, file_fault_line, Says, HasLines, Tells, Lints, Opens, Answers};
@@ -101,6 +101,7 @@ fn tell<K: Sink>(text: &[u8], out: &mut K) -> u8
 
 // This text, where a tree becomes a program.
 fn if_program(alloc: Global, tree: Tree, text: Vec<u8>) -> Result<Vec<u8>, ReadFault>
+    requires { AreOfSource (tree_view tree) }
     ensures program { IfOk result (λ same. (p : Core) × Becomes (tree_view tree) (Ok p) × (same.items ≡ text.items)) }
     ensures refused { IfErr result (IsFault (λ r. Becomes (tree_view tree) (Err r))) }
 {
@@ -115,6 +116,7 @@ fn if_program(alloc: Global, tree: Tree, text: Vec<u8>) -> Result<Vec<u8>, ReadF
 
 // The lines of a tree, where it becomes a program.
 fn lines_of_tree(alloc: Global, name: &[u8], tree: Tree) -> Result<Vec<u8>, ReadFault>
+    requires { AreOfSource (tree_view tree) }
     ensures lines { (source : List ℕ) → Reads source (Ok (tree_view tree)) → IfOk result (λ text. HasLines name.now source text.items) }
     ensures refused { IfErr result (IsFault (λ r. Becomes (tree_view tree) (Err r))) }
 {

@@ -1,5 +1,5 @@
 -- The rules of all predicates hold one term at most of each closure that stands directly in a rule.
-use Rattle.std.proofs.Common.{◌≡◌, ◌+◌, ◌≤◌, ℕ, List, [], ◌∷◌, ◌++◌, Bool, true, false, map, length, length-append, refl, sym, ◌∙◌, ap, arith}
+use Rattle.std.proofs.Common.{◌≡◌, ◌+◌, ◌≤◌, ℕ, List, [], ◌∷◌, ◌++◌, ◌||◌, Bool, true, false, map, length, length-append, refl, sym, ◌∙◌, ap, arith}
 use Rattle.std.specs.Prelude.{not, filter, if◌then◌else◌}
 use Rattle.std.specs.Str.{bytes_eq}
 use Rattle.std.specs.Cmp.Lexicographic.{bytes_decides}
@@ -10,17 +10,18 @@ use Rattle.dg_base.specs.declared.program.Rule.{Rule}
 use Rattle.dg_base.specs.declared.program.Pred.{Pred}
 use Rattle.dg_base.specs.declared.program.ClosureBody.{ClosureBody}
 use Rattle.dg_names.specs.Named.{firsts}
-use Rattle.dg_core.specs.Core.{Before, rule_of, failing, rules_of_item, closures_of, behind_item, rules_from, none_before, pred_of, rows_in, behind_rows, rows_from, without_facts}
+use Rattle.dg_core.specs.Core.{Before, rule_of, failing, rules_of_item, closures_of, behind_item, rules_from, none_before, pred_of, rows_in, behind_rows, rows_from}
 use Rattle.dg_core.specs.Goals.{Scope}
 use Rattle.dg_core.specs.Places.{is_among}
 use Rattle.dg_core.proofs.BodyLemmas.{many}
+use Rattle.dg_lower.specs.Lowered.{without_starts}
 use Rattle.dg_fits.specs.Once.{in_rules, in_preds, in_closures}
 use Rattle.dg_once.proofs.Rows.{rule_few, rule_rows_few, failing_behind}
 
 -- ## Names
 
 -- how often a name stands among others
-abbrev times : List ℕ → List (List ℕ) → ℕ
+abbrev pub times : List ℕ → List (List ℕ) → ℕ
 times name [] = 0
 times name (m ∷ ms) = (if bytes_eq name m then 1 else 0) + times name ms
 
@@ -53,6 +54,32 @@ once name (n ∷ ns) = by_test (bytes_eq name n) refl (once name ns)
     by_test : (b : Bool) → bytes_eq name n ≡ b → times name (firsts ns) ≤ 1 → (if b then 1 else 0) + times name (filter (λ (m : List ℕ). not (bytes_eq m n)) (firsts ns)) ≤ 1
     by_test true q few = omega (arith, left_out name n (firsts ns) q)
     by_test false q few = omega (arith, fewer (λ (m : List ℕ). not (bytes_eq m n)) name (firsts ns), few)
+
+times_none : (name : List ℕ) (ms : List (List ℕ)) → is_among name ms ≡ false → times name ms ≡ 0
+times_none name [] e = refl
+times_none name (m ∷ ms) e = by_test (bytes_eq name m) e (times_none name ms)
+  where
+    by_test : (b : Bool) → (b || is_among name ms) ≡ false → (is_among name ms ≡ false → times name ms ≡ 0) → (if b then 1 else 0) + times name ms ≡ 0
+    by_test true k rest = cc
+    by_test false k rest = omega (arith, rest k)
+
+times_last : (name n : List ℕ) (ms : List (List ℕ)) → times name (ms ++ n ∷ []) ≡ times name ms + (if bytes_eq name n then 1 else 0)
+times_last name n [] = omega arith
+times_last name n (m ∷ ms) = omega (arith, times_last name n ms)
+
+-- a name that isn't there stands once where it is put behind the others
+pub once_more : (name n : List ℕ) (ms : List (List ℕ)) → is_among n ms ≡ false → times name ms ≤ 1 → times name (ms ++ n ∷ []) ≤ 1
+once_more name n ms e few = by_test (bytes_eq name n) refl
+  where
+    by_test : (b : Bool) → bytes_eq name n ≡ b → times name (ms ++ n ∷ []) ≤ 1
+    by_test true q =
+        let same = (bytes_decides name n).0 q in
+        let none = times_none name ms (ap (λ (m : List ℕ). is_among m ms) same ∙ e) in
+        let more : times name (ms ++ n ∷ []) ≡ times name ms + 1 = times_last name n ms ∙ ap (λ (b : Bool). times name ms + (if b then 1 else 0)) q in
+        omega (arith, none, more)
+    by_test false q =
+        let more : times name (ms ++ n ∷ []) ≡ times name ms + 0 = times_last name n ms ∙ ap (λ (b : Bool). times name ms + (if b then 1 else 0)) q in
+        omega (arith, few, more)
 
 -- ## Rules
 
@@ -122,21 +149,21 @@ preds_counted : (around : Scope) (items : List Item) (ms : List (List ℕ)) → 
 preds_counted around items [] = refl
 preds_counted around items (m ∷ ms) = omega (arith, preds_counted around items ms)
 
-without_few : (placed : List (List ℕ)) (ps : List Pred) → in_preds (map (without_facts placed) ps) ≤ in_preds ps
+without_few : (placed : List (List ℕ)) (ps : List Pred) → in_preds (map (without_starts placed) ps) ≤ in_preds ps
 without_few placed [] = omega arith
 without_few placed (p ∷ ps) = by_test (is_among p.name placed) (without_few placed ps)
   where
-    by_test : (b : Bool) → in_preds (map (without_facts placed) ps) ≤ in_preds ps → in_rules (if b then [] else p.rules) + in_preds (map (without_facts placed) ps) ≤ in_preds (p ∷ ps)
+    by_test : (b : Bool) → in_preds (map (without_starts placed) ps) ≤ in_preds ps → in_rules (if b then [] else p.rules) + in_preds (map (without_starts placed) ps) ≤ in_preds (p ∷ ps)
     by_test true le = omega arith
     by_test false le = omega arith
 
-pub preds_few : (around : Scope) (items : List Item) (placed ns : List (List ℕ)) → in_preds (map (without_facts placed) (map (pred_of around items) (firsts ns))) ≤ standing items
-preds_few around items placed ns =
+pub preds_few : (around : Scope) (items : List Item) (placed ms : List (List ℕ)) → ((name : List ℕ) → times name ms ≤ 1) → in_preds (map (without_starts placed) (map (pred_of around items) ms)) ≤ standing items
+preds_few around items placed ms one =
     omega (
       arith,
-      without_few placed (map (pred_of around items) (firsts ns)),
-      preds_counted around items (firsts ns),
-      items_few around none_before (firsts ns) items (λ name. once name ns),
+      without_few placed (map (pred_of around items) ms),
+      preds_counted around items ms,
+      items_few around none_before ms items one,
     )
 
 -- ## Closures

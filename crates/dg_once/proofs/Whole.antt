@@ -1,28 +1,40 @@
 -- Each closure of a source stands in one term at most.
-use Rattle.std.proofs.Common.{ℕ, List, ◌++◌, Result, Ok, refl, sym, subst, arith}
+use Rattle.std.proofs.Common.{◌≡◌, ◌≤◌, ℕ, List, [], ◌∷◌, ◌++◌, Bool, true, false, Result, Ok, refl, sym, subst, arith}
+use Rattle.std.specs.Prelude.{if◌then◌else◌}
 use Rattle.dg_base.specs.Mentions.{mentioned, names_in}
 use Rattle.dg_base.specs.Names.{prelude_names}
 use Rattle.dg_base.specs.Tree.{Item}
 use Rattle.dg_base.specs.declared.program.CoreProgram.{CoreProgram as Core}
 use Rattle.dg_base.specs.declared.refusal.Refusal.{Refusal}
-use Rattle.dg_names.specs.Named.{predicate_in}
-use Rattle.dg_core.specs.Core.{outer_scope, with_rules, core_of, behind_rules}
-use Rattle.dg_core.specs.Places.{placed_of, declarations, place_names}
+use Rattle.dg_names.specs.Named.{firsts, predicate_in}
+use Rattle.dg_core.specs.Core.{outer_scope, behind_rules, entry_name}
+use Rattle.dg_core.specs.Places.{is_among, place_names}
 use Rattle.dg_compile.specs.Source.{Then, refused, given, all_names, with_prelude, Compiles}
 use Rattle.dg_fits.specs.Once.{StandOnce}
-use Rattle.dg_once.proofs.Preds.{preds_few, rows_few}
+use Rattle.dg_lower.specs.Lowered.{core_of, with_entry}
+use Rattle.dg_once.proofs.Preds.{times, once, once_more, preds_few, rows_few}
 use Rattle.dg_once.proofs.Starts.{places_none}
 
-core_once : (source items : List Item) → StandOnce (core_of (all_names source) items)
+-- each predicate stands once, that of the entry too
+names_once : (source : List Item) (name : List ℕ) → times name (with_entry (all_names source)).preds ≤ 1
+names_once source name = by_test (is_among entry_name (all_names source).preds) refl
+  where
+    own : List (List ℕ)
+    own = names_in predicate_in (mentioned source) ++ prelude_names
+
+    by_test : (b : Bool) → is_among entry_name (firsts own) ≡ b → times name (if b then firsts own else firsts own ++ entry_name ∷ []) ≤ 1
+    by_test true q = once name own
+    by_test false q = once_more name entry_name (firsts own) q (once name own)
+
+core_once : (source items : List Item) → StandOnce (core_of (with_entry (all_names source)) items)
 core_once source items =
-    let names = all_names source in
+    let names = with_entry (all_names source) in
     let around = outer_scope names items in
-    let own = names_in predicate_in (mentioned source) ++ prelude_names in
     omega (
       arith,
-      preds_few around items (place_names items) own,
+      preds_few around items (place_names items) names.preds (names_once source),
       rows_few around (behind_rules items) items,
-      places_none around (placed_of items) (declarations items) (with_rules names items).preds (place_names items) refl,
+      places_none names items (place_names items),
     )
 
 -- an answer behind a step that gave something
@@ -41,4 +53,4 @@ compiled_once source p h =
     let items = gave _ _ p tokens.next in
     let named = gave _ _ p items.next in
     let rewritten = gave _ _ p named.next in
-    subst StandOnce (sym (rewritten.next).1) (core_once items.from (with_prelude rewritten.from))
+    subst StandOnce (sym (rewritten.next).3) (core_once items.from (with_prelude rewritten.from))

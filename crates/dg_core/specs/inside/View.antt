@@ -9,8 +9,10 @@ use Rattle.dg_base.specs.declared.tree.Body.{Body}
 use Rattle.dg_base.specs.declared.tree.Head.{Head}
 use Rattle.dg_base.specs.declared.tree.Value.{Value}
 use Rattle.dg_base.specs.declared.program.Goal.{Goal}
+use Rattle.dg_base.specs.declared.program.Place.{Place}
 use Rattle.dg_base.specs.declared.program.Pred.{Pred}
 use Rattle.dg_base.specs.declared.program.Rule.{Rule}
+use Rattle.dg_names.specs.Named.{Named}
 use Rattle.dg_names.specs.State.{names_view, listed, seen}
 use Rattle.dg_core.specs.Core.{Before, rules_of_item, rules_from}
 use Rattle.dg_base.specs.declared.program.Term.{Term}
@@ -18,7 +20,7 @@ use Rattle.dg_core.specs.Bodies.{direct, in_value, in_parts}
 use Rattle.dg_core.specs.Goals as spec
 use Rattle.dg_core.specs.Goals.{at, past}
 use Rattle.dg_core.specs.inside.Making.{bodies_view, Terms}
-use Rattle.dg_core.specs.Places.{Placed, values_named, values_behind}
+use Rattle.dg_core.specs.Places.{Placed, kind_of, values_named, values_behind}
 use Rattle.dg_core.specs.declared.program.Before.{Before as CodeBefore}
 use Rattle.dg_core.specs.declared.scope.Places.{Places}
 use Rattle.dg_core.specs.declared.scope.Scope.{Scope}
@@ -49,6 +51,14 @@ directs (v ∷ vs) = direct (in_value v) ++ directs vs
 -- The names of places, and which of them are declared.
 abbrev pub places_view : Places → Placed
 places_view places = record { names = listed places.names; declared = listed places.declared }
+
+-- What names stand for outside rules, these being the places.
+abbrev pub outer_in : Named → List (List ℕ) → spec.Scope
+outer_in names places = record { names = names; places = places; variables = []; closures = []; before = 0 }
+
+-- A place in which nothing starts set, some names being declared.
+abbrev pub bare_in : List (List ℕ) → List ℕ → Place
+bare_in declared name = record { kind = kind_of declared name; start = [] }
 
 -- Values that are lent.
 abbrev pub values_view : List (Bor Value) → List tree.Value

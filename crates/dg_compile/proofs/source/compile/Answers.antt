@@ -17,3 +17,6 @@ returns-in-Ok-clause-goals c = meets_ok (Compiles c.args.source.now) _ c.program
 
 pub returns-in-Ok-clause-heads : goal.returns-in-Ok-clause-heads
 returns-in-Ok-clause-heads c = meets_ok (Compiles c.args.source.now) _ c.program_of.result (λ p h. (c.programs_are_sound.ensures c.args.source.now p h).2) (returns-in-Ok-clause-program c)
+
+pub program_of-requires : goal.program_of-requires
+program_of-requires c = (c.args.source.now, c.in-Ok.ensures.tree)

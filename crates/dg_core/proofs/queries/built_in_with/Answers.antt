@@ -1,5 +1,5 @@
 use Rattle.std.proofs.Common.{◌∙◌, ap}
-use Rattle.dg_core.proofs.FactLemmas.{same_built_in}
+use Rattle.dg_core.proofs.BuiltInLemmas.{same_built_in}
 use Rattle.dg_core.proofs.queries.built_in_with.Goals as goal
 
 pub returns : goal.returns

@@ -10,3 +10,6 @@ returns-in-Ok-clause-refused c = all_refused c.items_decide.ensures c.args.sourc
 
 pub returns-in-Err-clause-refused : goal.returns-in-Err-clause-refused
 returns-in-Err-clause-refused c = unread_refused c.unread_sources_are_refused.ensures c.args.source.now c.in-Err.fault c.in-Err.ensures.refused
+
+pub lines_of_tree-requires : goal.lines_of_tree-requires
+lines_of_tree-requires c = (c.args.source.now, c.in-Ok.ensures.tree)

@@ -1,7 +1,0 @@
-use Rattle.std.proofs.Common.{◌≡◌, drop, map}
-use Rattle.dg_base.specs.TreeView.{item_view}
-use Rattle.dg_core.specs.Core.{has_entry}
-use Rattle.dg_core.proofs.program.has_entry.Given as goal
-
-abbrev pub invariant-loop-item : goal.invariant-loop-item
-invariant-loop-item l = has_entry (map item_view (drop l.item-index l.item-items)) ≡ has_entry (map item_view l.tree.items)

@@ -1,0 +1,10 @@
+pub mod EntryLemmas
+pub mod OutcomeLemmas
+pub mod RulelessLemmas
+pub mod AddLemmas
+pub mod LeftLemmas
+pub mod StartLemmas
+pub mod CoreLemmas
+pub mod AnswerLemmas
+pub mod EmptyLemmas
+pub mod TakeLemmas

@@ -1,0 +1,4 @@
+pub mod Outcome
+pub mod Starts
+pub mod Lowered
+pub mod inside

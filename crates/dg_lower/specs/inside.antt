@@ -1,0 +1,4 @@
+pub mod Adding
+pub mod View
+pub mod Left
+pub mod Settled
