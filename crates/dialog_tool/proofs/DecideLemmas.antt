@@ -6,7 +6,6 @@ use Rattle.dg_base.specs.declared.run.Ending.{Ending}
 use Rattle.dg_base.specs.declared.run.Ending.TheVariants.{Done, Quit, Failed, Stopped, InputEnded, StepLimit, HeapLimit, TrailLimit, AuxLimit, KeepLimit}
 use Rattle.dg_base.specs.declared.run.RunFault.{RunFault}
 use Rattle.dg_base.specs.declared.run.RunFault.TheVariants as fault
-use Rattle.dg_make.specs.Made.{made_source}
 use Rattle.dg_story.specs.Refusals as build
 use Rattle.dg_story.specs.declared.refusal.BuildRefusal.{BuildRefusal}
 use Rattle.z_list.specs.Reads.{IsListing, IsBadAt}
@@ -19,7 +18,7 @@ use Rattle.dialog_tool.specs.Call.{Call, Outside, IsAsTold, file_at, dice_for}
 use Rattle.dialog_tool.specs.Lines.{Says, said, unsaid}
 use Rattle.dialog_tool.specs.Running.{run_of_story}
 use Rattle.dg_compile.specs.Source.{Compiles}
-use Rattle.dialog_tool.specs.Promise.{Answers, Prints, Reads, lost, refused, program, Runs, ran, input_lost, out_lost, RunsProgram, status_of_fault, TracesProgram, has_traced, has_lost, EndsStory, status_of_end, Lists, Makes, reports, overflows, refuses, Loads, lost_story, no_story, story, Builds, no_story_of, plays, HasNone, ListsAny, none_to_list, one_to_list, IsUnjoined, lost_listing, no_listing, long_listing, IsStored, held, not_held, no_room_for_it, Stores, Joins, Does, ComesTo, no_memory, does, stores, joins, status_of}
+use Rattle.dialog_tool.specs.Promise.{Answers, Prints, Reads, lost, refused, program, Runs, ran, input_lost, out_lost, RunsProgram, status_of_fault, TracesProgram, has_traced, has_lost, EndsStory, status_of_end, Lists, Makes, reports, overflows, Loads, lost_story, no_story, story, Builds, no_story_of, plays, HasNone, ListsAny, none_to_list, one_to_list, IsUnjoined, lost_listing, no_listing, long_listing, IsStored, held, not_held, no_room_for_it, Stores, Joins, Does, ComesTo, no_memory, does, stores, joins, status_of}
 
 -- a source has one answer
 abbrev IsOne : Type 0
@@ -129,19 +128,13 @@ listed c p result (inr l) = printed c 0 _ result l.prints
 
 -- ## What is made
 
-made_so : IsOne → (c : Call) (n status result : ℕ) (text : List ℕ) (q : Core) → Compiles (made_source n) (Ok q) → Prints c status text result → Makes c.dice n status text → (result ≡ 0) ⊎ Comes 3 result
-made_so one c n status result text q h p (reports r k output outcome left shows e d) = here (printed c status text result p)
+made_so : (c : Call) (n status result : ℕ) (text : List ℕ) → Prints c status text result → Makes c.dice n status text → (result ≡ 0) ⊎ Comes 3 result
+made_so c n status result text p (reports r k output outcome left shows e d) = here (printed c status text result p)
   where
     here : Comes status result → (result ≡ 0) ⊎ Comes 3 result
     here (inl s) = ended outcome.ending (s ∙ e)
     here (inr other) = inr (inr other)
-made_so one c n status result text q h p (overflows r k output outcome left shows long e d) = inr (subst (λ (s : ℕ). Comes s result) e (printed c status text result p))
-made_so one c n status result text q h p (refuses r k e d) = no_program one (made_source n) q r h k
-
-made_badly : IsOne → (c : Call) (n status result : ℕ) (text : List ℕ) (r : Refusal) → Compiles (made_source n) (Err r) → Prints c status text result → Makes c.dice n status text → Comes 1 result
-made_badly one c n status result text r h p (reports q k output outcome left shows e d) = no_program one (made_source n) q r k h
-made_badly one c n status result text r h p (overflows q k output outcome left shows long e d) = no_program one (made_source n) q r k h
-made_badly one c n status result text r h p (refuses q k e d) = subst (λ (s : ℕ). Comes s result) e (printed c status text result p)
+made_so c n status result text p (overflows r k output outcome left shows long e d) = inr (subst (λ (s : ℕ). Comes s result) e (printed c status text result p))
 
 -- ## Stories
 
@@ -240,8 +233,7 @@ decided c result one a =
           by (Some (trace t)) _ words (λ s. inr (inr s)) (λ d. trace_ended c a.outside t p result (read_well one c a.outside t.name _ result p (found o told t.name (λ l. Compiles l (Ok p)) h) d)) (λ name to e s. cc) (λ name to e s. cc);
       lists = λ o told name words p h.
           by (Some (singles name)) _ words inr (λ d. listed c p result (read_well one c a.outside name _ result p (found o told name (λ l. Compiles l (Ok p)) h) d)) (λ n to e s. cc) (λ n to e s. cc);
-      makes = λ n words p h. by (Some (make n)) _ words (λ s. inr (inr s)) (λ d. made_so one c n d.status result d.text p h d.prints d.makes) (λ name to e s. cc) (λ name to e s. cc);
-      makes_badly = λ n words r h. by (Some (make n)) _ words inr (λ d. made_badly one c n d.status result d.text r h d.prints d.makes) (λ name to e s. cc) (λ name to e s. cc);
+      makes = λ n words. by (Some (make n)) _ words (λ s. inr (inr s)) (λ d. made_so c n d.status result d.text d.prints d.makes) (λ name to e s. cc) (λ name to e s. cc);
       builds = λ o told name to words p h fits.
           by (Some (build name to)) _ words inr (λ d. a_story_to_store c name p result fits (read_well one c a.outside name _ result p (found o told name (λ l. Compiles l (Ok p)) h) d)) (λ n m e s. stored c m s.bytes result s.keeps) (λ n m e s. cc);
       builds_none = λ o told name to words p h r none.

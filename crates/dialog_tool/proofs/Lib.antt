@@ -1,6 +1,7 @@
 pub mod Never
 pub mod ReportLemmas
 pub mod MakeLemmas
+pub mod WithinLemmas
 pub mod DigitLemmas
 pub mod DiceLemmas
 pub mod SeedLemmas

@@ -1,12 +1,11 @@
 -- From what a made source comes to, to the answer of the call.
 use Rattle.std.proofs.Common.{◌≡◌, ◌<◌, ◌≤◌, ◌+◌, ◌-◌, ℕ, List, [], ◌++◌, length, length-append, Option, Some, None, Result, Ok, Err, inl, refl, sym, ◌∙◌, ap, subst, arith}
-use Rattle.std.specs.Prelude.{codes, IfOk}
+use Rattle.std.specs.Prelude.{IfOk}
 use Rattle.dg_base.specs.Causes.{Rose}
 use Rattle.dg_base.specs.Shelves.{ShelfView}
 use Rattle.dg_base.specs.Streams.{SourceView}
 use Rattle.dg_base.specs.Written.{SinkView}
 use Rattle.dg_base.specs.declared.program.CoreProgram.{CoreProgram as Core}
-use Rattle.dg_base.specs.declared.refusal.Refusal.{Refusal}
 use Rattle.dg_base.specs.declared.run.Limits.{Limits}
 use Rattle.dg_base.specs.declared.run.Outcome.{Outcome}
 use Rattle.dg_machine.specs.Program.{HasLostText, MayWriteText, up_to_goal, to_the_end, up_to_fault}
@@ -19,11 +18,11 @@ use Rattle.dg_meaning.proofs.Limits.{later_run}
 use Rattle.dg_meaning.proofs.Search.{run_within}
 use Rattle.dg_chain.proofs.Happened.{text_grows}
 use Rattle.dialog_tool.specs.Promise
-use Rattle.dialog_tool.specs.Promise.{Makes, reports, overflows, refuses}
+use Rattle.dialog_tool.specs.Promise.{Makes, reports, overflows}
 use Rattle.dialog_tool.specs.Call.{Call, Outside}
 use Rattle.dialog_tool.specs.inside.Calls.{call}
 use Rattle.dialog_tool.specs.Command.{make}
-use Rattle.dialog_tool.specs.Lines.{Says, said, unsaid, refusal_line}
+use Rattle.dialog_tool.specs.Lines.{Says, said, unsaid}
 use Rattle.dialog_tool.specs.Making.{made_limits, most_output, made_report, too_long_line}
 use Rattle.dg_compile.specs.Source.{Compiles}
 use Rattle.dialog_tool.proofs.AnswerLemmas.{answers, by_words, prints, keeps_same, nothing_here, no_room_first}
@@ -39,11 +38,6 @@ says_made n dice shelf input old new status result text makes says =
 -- no memory was found
 pub lacks_made : (n : ℕ) (dice : List ℕ) (shelf : ShelfView) (input : SourceView) (old new : SinkView) (result : ℕ) → Says 6 no_memory_line old new result → Promise.Answers (call (Some (make n)) dice shelf shelf input input old new) result
 lacks_made n dice shelf input old new result says = no_room_first (call (Some (make n)) dice shelf shelf input input old new) result refl refl says
-
--- the source is refused
-pub refuses_made : (n : ℕ) (dice : List ℕ) (shelf : ShelfView) (input : SourceView) (old new : SinkView) (result : ℕ) (r : Refusal) → Compiles (made_source n) (Err r) → Says 1 (refusal_line (codes "make") r) old new result → Promise.Answers (call (Some (make n)) dice shelf shelf input input old new) result
-refuses_made n dice shelf input old new result r is says =
-    says_made n dice shelf input old new 1 result (refusal_line (codes "make") r) (refuses r is refl refl) says
 
 -- what two clauses say of a value
 pub if_both : {A E : Type 0} (P Q R : A → Type 0) (r : Result A E) → ((x : A) → P x → Q x → R x) → IfOk r P → IfOk r Q → IfOk r R

@@ -1,6 +1,6 @@
 -- What the program promises of a call, command by command: hold it against the table of statuses in man/dialog.1. From it alone follows which status
 -- comes where.
-use Rattle.std.specs.Prelude.{◌≡◌, ◌<◌, ◌≤◌, ℕ, List, [], length, map, codes, Option, Some, None, Bool, IsTrue, IsSome, Ok, Err}
+use Rattle.std.specs.Prelude.{◌≡◌, ◌<◌, ◌≤◌, ℕ, List, [], length, map, Option, Some, None, Bool, IsTrue, IsSome, Ok, Err}
 use Rattle.dg_base.specs.Causes.{Rose}
 use Rattle.dg_base.specs.Shelves.{WhereTold, KeepsAll, KeepsOthers}
 use Rattle.dg_base.specs.Written.{Wrote}
@@ -135,8 +135,8 @@ pub record Lists (c : Call) (p : Core) (result : ℕ) : Type 0 where
 
 -- ---- sources that are made
 
--- What the source of a number comes to, as a status and a text: a report on a run of it without typed bytes, 3 where such a run writes too
--- much, or 1 and a line where it is refused.
+-- What the source of a number comes to, which is a program, as a status and a text: a report on a run of it without typed bytes, or 3 where such a run
+-- writes too much.
 pub data Makes (dice : List ℕ) (n : ℕ) (status : ℕ) (text : List ℕ) : Type 0 where
   reports : (p : Core) → Compiles (made_source n) (Ok p) → (output : List ℕ) (outcome : Outcome) (left : Option (List ℕ))
       → Shows (game p dice) [] made_limits output outcome left
@@ -144,9 +144,8 @@ pub data Makes (dice : List ℕ) (n : ℕ) (status : ℕ) (text : List ℕ) : Ty
   overflows : (p : Core) → Compiles (made_source n) (Ok p) → (output : List ℕ) (outcome : Outcome) (left : Option (List ℕ))
       → Shows (game p dice) [] made_limits output outcome left → most_output < length output
       → status ≡ 3 → text ≡ too_long_line → Makes dice n status text
-  refuses : (r : Refusal) → Compiles (made_source n) (Err r) → status ≡ 1 → text ≡ refusal_line (codes "make") r → Makes dice n status text
 
--- The source of a number is made and run, at 0, 1 and 3: out took the whole text that it comes to.
+-- The source of a number is made and run, at 0 and 3: out took the whole text that it comes to.
 pub record Reports (c : Call) (n : ℕ) (result : ℕ) : Type 0 where
   pub status : ℕ
   pub text : List ℕ

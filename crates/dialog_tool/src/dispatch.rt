@@ -2,6 +2,7 @@
 ghost use Rattle.std.specs.Prelude.{◌≡◌, ◌<◌, ℕ, List, length, Some, Ok};
 ghost use Rattle.dg_base.specs.Shelves.{ShelfView};
 ghost use Rattle.dg_base.specs.Sound.{IsSound};
+ghost use Rattle.dg_meaning.specs.Few.{AllHoldFew, HeadsAreFew};
 ghost use Rattle.dialog_tool.specs.Promise.{Answers};
 ghost use Rattle.dialog_tool.specs.inside.Calls.{call, IsFetched};
 ghost use Rattle.dialog_tool.specs.Command.{texts, command_of, debug as debug_command};
@@ -33,6 +34,8 @@ fn run_source<S: Source, K: Sink>(
     dice: &[u16],
 ) -> u8
     requires sound { IsSound program }
+    requires goals { AllHoldFew 12 program }
+    requires heads { HeadsAreFew 12 program }
     requires own { HasDice task.now }
     requires dice { 0 < length dice.now }
     ensures { (before after : ShelfView) → (file : List ℕ) → IsFetched before after task.now.name.now file → Compiles file (Ok program) →

@@ -1,8 +1,9 @@
 // Makes a source of a number, runs it, and reports on the run.
-ghost use Rattle.std.specs.Prelude.{◌≡◌, ◌<◌, ◌++◌, ℕ, Some, Ok, length, decimal, IfOk, OnOk};
+ghost use Rattle.std.specs.Prelude.{◌≡◌, ◌<◌, ◌≤◌, ◌++◌, ℕ, Some, Ok, length, decimal, IfOk, OnOk};
 ghost use Rattle.dg_base.specs.Shelves.{ShelfView};
 ghost use Rattle.dg_base.specs.Sound.{IsSound};
 ghost use Rattle.dg_base.specs.Streams.{SourceView};
+ghost use Rattle.dg_meaning.specs.Few.{AllHoldFew, HeadsAreFew};
 ghost use Rattle.dg_make.specs.Made.{made_source};
 ghost use Rattle.dialog_tool.specs.Promise.{status_of, Answers, Makes};
 ghost use Rattle.dialog_tool.specs.inside.Calls.{call};
@@ -11,13 +12,14 @@ ghost use Rattle.dialog_tool.specs.Making as spec;
 ghost use Rattle.dialog_tool.specs.Making.{made_report, too_long_line};
 ghost use Rattle.dg_compile.specs.Source.{Compiles};
 
-use crate::lines::{LIMIT, no_memory, refuse, say_text};
+use crate::lines::{LIMIT, no_memory, say_text};
 use crate::statuses::status_of;
 use dg_base::{
     CoreProgram, Ending, Limits, Outcome, ReadFault, RunFault, Sink, SureSink, SureSource,
 };
 use dg_compile::compile;
 use dg_machine::run_program;
+use dg_made::made_sources_are_programs;
 use dg_make::make_source;
 use itoa::Buffer;
 use std::alloc::{AllocError, Global};
@@ -139,6 +141,8 @@ fn report_of(
     dice: &[u16],
 ) -> Result<Report, AllocError>
     requires sound { IsSound program }
+    requires goals { AllHoldFew 12 program }
+    requires heads { HeadsAreFew 12 program }
     requires dice { 0 < length dice.now }
     ensures { IfOk result (λ report. (n : ℕ) → source.now ≡ made_source n → Compiles (made_source n) (Ok program)
         → Makes dice.now n report.status report.text.items) }
@@ -162,6 +166,8 @@ fn make_program<K: Sink>(
     dice: &[u16],
 ) -> u8
     requires sound { IsSound program }
+    requires goals { AllHoldFew 12 program }
+    requires heads { HeadsAreFew 12 program }
     requires dice { 0 < length dice.now }
     ensures { (n : ℕ) → (shelf : ShelfView) → (input : SourceView) → source.now ≡ made_source n → Compiles (made_source n) (Ok program) →
         Answers (call (Some (make_command n)) dice.now shelf shelf input input (K.view out.old) (K.view out.new)) result }
@@ -172,9 +178,11 @@ fn make_program<K: Sink>(
     }
 }
 
-/// Makes a source of a number, runs it, and reports on the run.
+/// Makes a source of a number, runs it, and reports on the run. No such source is refused.
 pub fn make<K: Sink>(alloc: Global, n: u16, out: &mut K, dice: &[u16]) -> u8
-    requires { 0 < length dice.now }
+    requires some { 1 ≤ n }
+    requires few { n ≤ 400 }
+    requires dice { 0 < length dice.now }
     ensures { (shelf : ShelfView) → (input : SourceView) →
         Answers (call (Some (make_command n)) dice.now shelf shelf input input (K.view out.old) (K.view out.new)) result }
 {
@@ -182,9 +190,10 @@ pub fn make<K: Sink>(alloc: Global, n: u16, out: &mut K, dice: &[u16]) -> u8
         Ok(source) => source,
         Err(_) => return no_memory(out),
     };
+    made_sources_are_programs();
     match compile(alloc, &source) {
         Ok(program) => make_program(alloc, &source, program, out, dice),
-        Err(ReadFault::Refused(refusal)) => refuse("make", &refusal, out),
+        Err(ReadFault::Refused(_refusal)) => unreachable!(),
         Err(ReadFault::OutOfMemory) => no_memory(out),
     }
 }

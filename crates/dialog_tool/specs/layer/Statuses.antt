@@ -2,7 +2,6 @@
 use Rattle.std.specs.Prelude.{◌≡◌, ◌<◌, ◌≤◌, ◌⊎◌, ℕ, List, length, Option, Some, None, Ok, Err}
 use Rattle.dg_base.specs.declared.program.CoreProgram.{CoreProgram as Core}
 use Rattle.dg_base.specs.declared.refusal.Refusal.{Refusal}
-use Rattle.dg_make.specs.Made.{made_source}
 use Rattle.dg_story.specs.Refusals as build
 use Rattle.dg_story.specs.declared.refusal.BuildRefusal.{BuildRefusal}
 use Rattle.z_list.specs.Reads.{IsListing, IsBadAt}
@@ -30,8 +29,8 @@ source_named (Some (trace t)) = Some t.name
 abbrev pub Comes : ℕ → ℕ → Type 0
 Comes status result = (result ≡ status) ⊎ ((result ≡ 5) ⊎ (result ≡ 6))
 
--- 2 exactly where the words are no command; 1 exactly where a source is refused, 0 and 3 where it is a program that is run, 0 where its predicates
--- are listed; 7 where it has no story, 0 where its story is stored or listed, or that of a listing is stored; 4 exactly where a file is no story or no
+-- 2 exactly where the words are no command; 1 exactly where a source is refused, 0 and 3 where it is a program that is run or is made, 0 where its
+-- predicates are listed; 7 where it has no story, 0 where its story is stored or listed, or that of a listing is stored; 4 exactly where a file is no story or no
 -- listing, and of a story the status of its run's end.
 pub record Decides (c : Call) (result : ℕ) : Type 0 where
   pub no_command : c.command ≡ None → Comes 2 result
@@ -43,8 +42,7 @@ pub record Decides (c : Call) (result : ℕ) : Type 0 where
       → (p : Core) → Compiles (file_at o t.name) (Ok p) → (result ≡ 0) ⊎ Comes 3 result
   pub lists : (o : Outside) → c.shelf.contents ≡ Some o.contents → (name : List ℕ) → c.command ≡ Some (singles name)
       → (p : Core) → Compiles (file_at o name) (Ok p) → Comes 0 result
-  pub makes : (n : ℕ) → c.command ≡ Some (make n) → (p : Core) → Compiles (made_source n) (Ok p) → (result ≡ 0) ⊎ Comes 3 result
-  pub makes_badly : (n : ℕ) → c.command ≡ Some (make n) → (r : Refusal) → Compiles (made_source n) (Err r) → Comes 1 result
+  pub makes : (n : ℕ) → c.command ≡ Some (make n) → (result ≡ 0) ⊎ Comes 3 result
   pub builds : (o : Outside) → c.shelf.contents ≡ Some o.contents → (name to : List ℕ) → c.command ≡ Some (build name to)
       → (p : Core) → Compiles (file_at o name) (Ok p) → build.build_refusal p ≡ None → Comes 0 result
   pub builds_none : (o : Outside) → c.shelf.contents ≡ Some o.contents → (name to : List ℕ) → c.command ≡ Some (build name to)

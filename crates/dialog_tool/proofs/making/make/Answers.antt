@@ -1,6 +1,6 @@
 use Rattle.std.proofs.Common.{◌∙◌, List, ℕ, Ok, Err, subst}
 use Rattle.dg_compile.specs.Source.{Compiles}
-use Rattle.dialog_tool.proofs.MakeLemmas.{lacks_made, refuses_made}
+use Rattle.dialog_tool.proofs.MakeLemmas.{lacks_made}
 use Rattle.dialog_tool.proofs.making.make.Goals as goal
 
 pub returns-in-Err : goal.returns-in-Err
@@ -12,12 +12,11 @@ returns-in-Ok-compile g c = λ shelf input.
     c.make_program.ensures c.args.n shelf input (c.deref-in-Ok-compile.ensures.value ∙ c.in-Ok.ensures)
     (subst (λ (l : List ℕ). Compiles l (Ok c.in-Ok-compile.program)) source c.in-Ok-compile.ensures.program)
 
-pub returns-in-Err-Refused : goal.returns-in-Err-Refused
-returns-in-Err-Refused g c = λ shelf input.
+pub unreachable-requires : goal.unreachable-requires
+unreachable-requires g c =
     let source = c.deref.ensures.value ∙ c.in-Ok.ensures in
-    let says = rw c.in-Err-Refused.refusal-is at c.refuse.ensures in
-    refuses_made c.args.n c.args.dice.now shelf input _ _ _ c.in-Err-Refused.refusal
-    (subst (λ (l : List ℕ). Compiles l (Err c.in-Err-Refused.refusal)) source (rw c.in-Err-Refused.field-0-is at c.in-Err-Refused.ensures.program)) says
+    c.made_sources_are_programs.ensures c.args.n c.requires.some c.requires.few c.in-Err-Refused._refusal
+    (subst (λ (l : List ℕ). Compiles l (Err c.in-Err-Refused._refusal)) source (rw c.in-Err-Refused.field-0-is at c.in-Err-Refused.ensures.program))
 
 pub returns : goal.returns
 returns g c = λ shelf input. lacks_made c.args.n c.args.dice.now shelf input _ _ _ c.no_memory-in-Err-OutOfMemory.ensures

@@ -1,0 +1,12 @@
+pub mod Items
+pub mod Mere
+pub mod Digits
+pub mod Cells
+pub mod Rows
+pub mod ReadLemmas
+pub mod NamedLemmas
+pub mod RewrittenLemmas
+pub mod AskedLemmas
+pub mod StartLemmas
+pub mod LoweredLemmas
+pub mod Whole
