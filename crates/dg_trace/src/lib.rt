@@ -1,6 +1,7 @@
 //! The trace of a run: a line for each call and for each stretch that is printed.
 #![tactic(auto)]
 
+mod joined;
 mod laws;
 mod lines;
 mod tracing;

@@ -7,7 +7,8 @@ ghost use Rattle.dg_watch.specs.declared.watch.CallEvent.{CallEvent as Call};
 ghost use Rattle.dg_trace.specs.inside.Spelled.{ended, marked, event_line, spelled, begun_after};
 ghost use Rattle.dg_trace.specs.inside.Telling.{place, ToldLines, over_sink};
 
-use dg_base::{CoreProgram, Failed, Sink, write_pieces};
+use crate::joined::write_joined;
+use dg_base::{CoreProgram, Failed, Sink};
 use dg_watch::{CallEvent, Showing};
 
 /// The lines of a trace, with what is known of those that were written: whether the newest is the open line of a
@@ -88,7 +89,7 @@ impl<'p> Lines<'p> {
         ensures told { (ts : List Told) → spelled (names_of self.old.program.now) self.old.begun ts ≡ joined (texts pieces.now) →
             begun_after self.old.begun ts ≡ begun → ToldLines (place self.old (K.view sink.old)) (place self.new (K.view sink.new)) ts }
     {
-        match write_pieces(sink, pieces) {
+        match write_joined(sink, pieces) {
             Ok(()) => self.begun = begun,
             Err(_) => self.broken = true,
         }
