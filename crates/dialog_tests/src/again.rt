@@ -30,7 +30,7 @@ const LASTING: &[u8] = b"(global variable (score 0))
 (q 1)
 ";
 
-fn machine_of(alloc: Global, source: &[u8]) -> Result<Machine, AllocError>
+pub fn machine_of(alloc: Global, source: &[u8]) -> Result<Machine, AllocError>
     ensures { IfOk result (λ m. (p : TheProgram) × IsReady p m.limits m.code m.tables m.resting) }
 {
     let limits = Limits {

@@ -1,9 +1,9 @@
 // What fails outside: files, the input and the output, and the adapters over the forms in memory.
-use crate::calls::{answers, words};
+use crate::calls::{answers, called, shelf_of};
 use crate::checks::same;
 use crate::playing::{ASK, story};
-use dg_base::{ByteSink, ByteSource, Failed, MapShelf, Sink, Source, SureShelf, SureSource};
-use dialog_tool::{StdinSource, StdoutSink, dice_of, tool};
+use dg_base::{ByteSink, ByteSource, Failed, MapShelf, Sink, Source, SureSource};
+use dialog_tool::{StdinSource, StdoutSink, dice_of};
 use std::alloc::Global;
 use std::process::Abort;
 use std::test::Fail;
@@ -21,8 +21,7 @@ fn fails_at_input(
     text: &str,
 ) -> Result<(), Fail> {
     let mut input = failing_input(alloc)?;
-    let mut shelf = SureShelf::new(alloc);
-    shelf.add("p", file)?;
+    let mut shelf = shelf_of(alloc, "p", file)?;
     answers(rt, alloc, line, &mut shelf, &mut input, 99, (5, text))
 }
 
@@ -44,8 +43,7 @@ fn a_failing_output_ends_a_story(rt: HostRuntime) -> Result<(), Fail> {
     let alloc = rt.alloc();
     let story = story(alloc, ASK)?;
     let mut input = SureSource::new(Vec::new(alloc));
-    let mut shelf = SureShelf::new(alloc);
-    shelf.add("s.z8", &story)?;
+    let mut shelf = shelf_of(alloc, "s.z8", &story)?;
     let line = "play s.z8";
     answers(&rt, alloc, line, &mut shelf, &mut input, 1, (5, "h"))
 }
@@ -61,10 +59,9 @@ fn failing_shelf(alloc: Global, file: &[u8]) -> Result<MapShelf, Fail> {
 
 // Calls the tool with an output whose third call fails.
 fn fails_at_output(rt: &impl Abort, alloc: Global, shelf: &mut MapShelf) -> Result<(), Fail> {
-    let words = words(alloc, "debug p.dg")?;
     let mut input = failing_input(alloc)?;
     let mut out = ByteSink::new(alloc, 99, vec![in alloc; 2]?)?;
-    let status = tool(alloc, &words, shelf, &mut input, &mut out, &[0]);
+    let status = called(alloc, "debug p.dg", shelf, &mut input, &mut out)?;
     let wanted = (5, b"x ".as_slice());
     same(rt, &(status, out.taken()), &wanted, "a failing output");
     Ok(())
@@ -110,12 +107,11 @@ const MISSING: &[(&[u64], &str)] = &[(&[], "q.dg: file fault\n"), (&[0], "")];
 #[test]
 fn a_source_that_is_not_there_is_named(rt: HostRuntime) -> Result<(), Fail> {
     let alloc = rt.alloc();
-    let words = words(alloc, "debug q.dg")?;
     for (fail_at, text) in MISSING {
         let mut shelf = MapShelf::new(alloc, Vec::new(alloc));
         let mut input = failing_input(alloc)?;
         let mut out = ByteSink::new(alloc, 99, fail_at.to_vec(alloc)?)?;
-        let status = tool(alloc, &words, &mut shelf, &mut input, &mut out, &[0]);
+        let status = called(alloc, "debug q.dg", &mut shelf, &mut input, &mut out)?;
         same(&rt, &(status, out.taken()), &(5, text.as_bytes()), text);
     }
     Ok(())

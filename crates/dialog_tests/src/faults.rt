@@ -1,132 +1,180 @@
-// Each call of the input and of the output refused in turn, over a game that is typed to.
-use crate::calls::{Case, case_of, words};
+// Each call of the shelf, of the input and of the output refused in turn, over a game that is typed to, under each command.
+use crate::calls::{Case, called, story_of};
 use crate::checks::same;
-use crate::typing::GAME;
-use dg_base::{ByteSink, ByteSource, SureShelf};
-use dialog_tool::tool;
-use std::alloc::Global;
+use crate::typing::{GAME, game};
+use dg_base::{ByteSink, ByteSource, MapShelf};
+use std::alloc::{AllocError, Global};
 use std::process::Abort;
 use std::test::Fail;
 
-const CLOSING: &[u8] = b"[Input fault]\n";
+// A command over the game, with its story, whether it stores that, and how many bytes of a piece the output takes at most.
+#[derive(Clone, Copy)]
+struct Trial<'a> {
+    line: &'a str,
+    builds: bool,
+    game: Case<'a>,
+    story: &'a [u8],
+    most: usize,
+}
 
-// Calls the tool with this input and this output.
-fn status_of(
+// The calls that fail, by their numbers from 0.
+#[derive(Clone, Copy)]
+struct Fails {
+    shelf: usize,
+    input: usize,
+    output: usize,
+}
+
+// So many calls no run has.
+const MANY: usize = 1000;
+
+const NONE: Fails = Fails {
+    shelf: MANY,
+    input: MANY,
+    output: MANY,
+};
+
+// What stands in front of a typed byte: the text up to the prompt of its line.
+fn in_front<'a>(text: &'a str, typed: &str, byte: usize) -> Option<&'a str> {
+    let lines = typed.bytes().take(byte).filter(|c| *c == b'\n').count();
+    let mut behind = text;
+    for _ in 0..=lines {
+        (_, behind) = behind.split_once('>')?;
+    }
+    text.strip_suffix(behind)
+}
+
+// The status, and what is written where no call of the output fails, in two pieces. The calls of the shelf are for the names in turn, and
+// those of the input for the bytes.
+fn whole<'a>(trial: &Trial<'a>, fails: Fails) -> (u8, &'a str, &'a str) {
+    if let Some(name) = trial.line.split_whitespace().skip(1).nth(fails.shelf) {
+        return (5, name, ": file fault\n");
+    }
+    if trial.builds {
+        return (0, "", "");
+    }
+    match in_front(trial.game.text, trial.game.typed, fails.input) {
+        Some(front) => (5, front, "\n[Input fault]\n"),
+        None => (0, trial.game.text, ""),
+    }
+}
+
+fn shelf_of(alloc: Global, trial: &Trial<'_>, call: usize) -> Result<MapShelf, AllocError> {
+    let mut shelf = MapShelf::new(alloc, vec![in alloc; call as u64]?);
+    shelf.add("p.dg", trial.game.source.as_bytes())?;
+    shelf.add("s.z8", trial.story)?;
+    Ok(shelf)
+}
+
+// The status of a command.
+fn run(
     alloc: Global,
-    case: &Case<'_>,
-    input: &mut ByteSource,
+    trial: &Trial<'_>,
+    call: usize,
+    shelf: &mut MapShelf,
     out: &mut ByteSink,
-) -> Result<u8, Fail> {
-    let words = words(alloc, case.line)?;
-    let mut shelf = SureShelf::new(alloc);
-    shelf.add("p.dg", case.source.as_bytes())?;
-    Ok(tool(alloc, &words, &mut shelf, input, out, &[0]))
+) -> Result<u8, AllocError> {
+    let typed = trial.game.typed.as_bytes().to_vec(alloc)?;
+    let mut input = ByteSource::new(typed, vec![in alloc; call as u64]?);
+    called(alloc, trial.line, shelf, &mut input, out)
 }
 
-fn typed(alloc: Global, case: &Case<'_>, fail_at: Vec<u64>) -> Result<ByteSource, Fail> {
-    let bytes = case.typed.as_bytes();
-    Ok(ByteSource::new(bytes.to_vec(alloc)?, fail_at))
+// Whether some bytes are a front of two texts, one behind the other.
+fn is_front(taken: &[u8], first: &str, second: &str) -> bool {
+    match taken.strip_prefix(first.as_bytes()) {
+        Some(rest) => second.as_bytes().starts_with(rest),
+        None => first.as_bytes().starts_with(taken),
+    }
 }
 
-// Whether some bytes begin with others.
-fn begins(whole: &[u8], part: &[u8]) -> bool {
-    whole.starts_with(part)
+// What is taken is a front of the whole, and the status that of a fault where it isn't all of it. Answers whether it is.
+fn is_whole(rt: &impl Abort, trial: &Trial<'_>, fails: Fails, found: u8, taken: &[u8]) -> bool {
+    let (status, first, second) = whole(trial, fails);
+    let is_whole = taken.len() == first.len().saturating_add(second.len());
+    let wanted = if is_whole { status } else { 5 };
+    let is_front = is_front(taken, first, second);
+    same(rt, &(found, is_front), &(wanted, true), trial.line);
+    is_whole
 }
 
-// The call of the output fails: what was written before is a part of the whole, and the status is that of a fault. Answers whether the
-// run came to that call.
-fn put_fails(
+// A story is stored exactly where one that builds it answers that it is.
+fn stores(rt: &impl Abort, trial: &Trial<'_>, status: u8, shelf: &MapShelf) {
+    let wanted = if trial.builds && status == 0 {
+        Some(trial.story)
+    } else {
+        None
+    };
+    same(rt, &shelf.contents("t.z8"), &wanted, trial.line);
+}
+
+// Runs a command; answers whether no call of the output failed.
+fn passes(
     rt: &impl Abort,
     alloc: Global,
-    case: &Case<'_>,
-    most: usize,
-    call: u64,
-) -> Result<bool, Fail> {
-    let mut input = typed(alloc, case, Vec::new(alloc))?;
-    let mut out = ByteSink::short(alloc, 4000, most.max(1), vec![in alloc; call]?)?;
-    let status = status_of(alloc, case, &mut input, &mut out)?;
-    let is_part = begins(case.text.as_bytes(), out.taken());
-    let is_whole = out.taken().len() == case.text.len();
-    same(rt, &(is_part, status == 0), &(true, is_whole), "a put");
-    Ok(!is_whole)
+    trial: &Trial<'_>,
+    fails: Fails,
+) -> Result<bool, AllocError> {
+    let mut shelf = shelf_of(alloc, trial, fails.shelf)?;
+    let fail_at = vec![in alloc; fails.output as u64]?;
+    let mut out = ByteSink::short(alloc, 999, trial.most.max(1), fail_at)?;
+    let status = run(alloc, trial, fails.input, &mut shelf, &mut out)?;
+    stores(rt, trial, status, &shelf);
+    Ok(is_whole(rt, trial, fails, status, out.taken()))
 }
 
-// What stands in front of the line of a fault, or nothing.
-fn in_front(text: &[u8]) -> &[u8] {
-    text.strip_suffix(CLOSING).unwrap_or(b"")
-}
-
-// What stands in front of the newline that closes it, if it was not there before.
-fn unclosed<'a>(whole: &[u8], text: &'a [u8]) -> &'a [u8] {
-    if begins(whole, text) {
-        return text;
-    }
-    text.strip_suffix(b"\n").unwrap_or(text)
-}
-
-// The call of the input fails: what was written before is a part of the whole, and the line of the fault is behind it.
-fn next_fails(
+// Refuses the calls of the output in turn, from this one on, until a run meets none that fails.
+fn puts_fail(
     rt: &impl Abort,
     alloc: Global,
-    case: &Case<'_>,
-    most: usize,
-    call: u64,
-) -> Result<bool, Fail> {
-    let mut input = typed(alloc, case, vec![in alloc; call]?)?;
-    let mut out = ByteSink::short(alloc, 4000, most.max(1), Vec::new(alloc))?;
-    let status = status_of(alloc, case, &mut input, &mut out)?;
-    if status == 0 {
-        same(rt, &out.taken(), &case.text.as_bytes(), "a whole run");
-        return Ok(false);
-    }
-    let text = unclosed(case.text.as_bytes(), in_front(out.taken()));
-    let is_part = begins(case.text.as_bytes(), text);
-    same(
-        rt,
-        &(is_part, status),
-        &(true, 5),
-        "a byte that is not read",
-    );
-    Ok(true)
-}
-
-// Refuses each call in turn until a run meets none that fails; answers how many there are.
-fn each_fails(rt: &impl Abort, alloc: Global, case: &Case<'_>, most: usize) -> Result<u64, Fail> {
-    for call in 0..5000 {
-        let is_put = put_fails(rt, alloc, case, most, call)?;
-        let is_next = next_fails(rt, alloc, case, most, call)?;
-        if !is_put && !is_next {
-            return Ok(call);
+    trial: &Trial<'_>,
+    fails: Fails,
+    first: usize,
+) -> Result<(), AllocError> {
+    for output in first..=MANY {
+        if passes(rt, alloc, trial, Fails { output, ..fails })? {
+            return Ok(());
         }
     }
-    Ok(0)
+    same(rt, &trial.line, &"a run that ends", trial.line);
+    Ok(())
 }
 
-// What is typed at the game, and what it writes.
-const TYPED: &str = "take lamp\nquit\n";
+// Refuses each call of the shelf, with each one of the output behind it, until a run meets none that fails, and then each of the input.
+fn calls_fail(rt: &impl Abort, alloc: Global, trial: &Trial<'_>) -> Result<(), AllocError> {
+    for shelf in 0..trial.line.split_whitespace().count() {
+        puts_fail(rt, alloc, trial, Fails { shelf, ..NONE }, 0)?;
+    }
+    for input in 0..=trial.game.typed.len() {
+        puts_fail(rt, alloc, trial, Fails { input, ..NONE }, MANY)?;
+    }
+    Ok(())
+}
 
-const TEXT: &str = "The hall.\nThere is a brass lamp here.\n\n>\nTaken.\n\n>\nGoodbye.\n";
+const COMMANDS: &[&str] = &["debug p.dg", "run p.dg", "play s.z8", "build p.dg t.z8"];
 
-// The game in little memory; its run has more calls than typed bytes.
-fn game_fails(rt: &impl Abort, alloc: Global, most: usize) -> Result<(), Fail> {
-    let game = GAME.trim_start().strip_prefix(">>> ").unwrap_or("");
-    let case = Case {
-        line: "debug p.dg --heap 3000 --trail 1000",
-        typed: TYPED,
-        text: TEXT,
-        ..case_of(game).expect(rt, GAME)
-    };
-    let calls = each_fails(rt, alloc, &case, most)?;
-    same(rt, &(TYPED.len() as u64 <= calls), &true, "refused calls");
+// Each command over the game, with an output that takes so many bytes of a piece at most.
+fn commands_fail(rt: &impl Abort, alloc: Global, most: usize) -> Result<(), Fail> {
+    let game = game().expect(rt, GAME);
+    let story = story_of(rt, alloc, game.source)?;
+    for line in COMMANDS {
+        let trial = Trial {
+            line,
+            builds: line.starts_with("build"),
+            game,
+            story: &story,
+            most,
+        };
+        calls_fail(rt, alloc, &trial)?;
+    }
     Ok(())
 }
 
 #[test]
-fn calls_of_a_run_fail_in_turn(rt: HostRuntime) -> Result<(), Fail> {
-    game_fails(&rt, rt.alloc(), usize::MAX)
+fn calls_fail_in_turn(rt: HostRuntime) -> Result<(), Fail> {
+    commands_fail(&rt, rt.alloc(), usize::MAX)
 }
 
 #[test]
-fn calls_of_a_run_with_short_puts_fail_in_turn(rt: HostRuntime) -> Result<(), Fail> {
-    game_fails(&rt, rt.alloc(), 3)
+fn calls_with_short_puts_fail_in_turn(rt: HostRuntime) -> Result<(), Fail> {
+    commands_fail(&rt, rt.alloc(), 3)
 }

@@ -15,7 +15,7 @@ use z_asm::Table;
 use z_lang::{Act, Args, Atom, Comparison, Function, Print, Routine, Test, Width};
 use z_model::ZEnd;
 use z_play::Player;
-use z_story::{Parts, build};
+use z_story::{Parts, Placed, build};
 
 fn routine_of(alloc: Global, locals: u8, body: &[Act]) -> Result<Routine, AllocError>
     ensures { IfOk result (λ r. r ≡ record { locals = locals; body = body.now }) }
@@ -53,6 +53,12 @@ fn parts_of(alloc: Global, main: &[Act], other: &[Act]) -> Result<Parts, AllocEr
     })
 }
 
+// The byte at which a routine begins: the number of its locals.
+fn locals_at(placed: &Placed, routine: usize) -> Option<u8> {
+    let (from, _) = placed.places.get(routine)?;
+    placed.story.get(*from as usize).copied()
+}
+
 // What a story of two routines writes.
 fn played(
     alloc: Global,
@@ -67,7 +73,10 @@ fn played(
     requires other_short { body_bytes other.now < 8000 }
 {
     let parts = parts_of(alloc, main, other)?;
-    let mut player = Player::load(alloc, build(alloc, parts)?.story)?;
+    let placed = build(alloc, parts)?;
+    let locals = (locals_at(&placed, 0), locals_at(&placed, 1));
+    same(rt, &locals, &(Some(0), Some(2)), "locals");
+    let mut player = Player::load(alloc, placed.story)?;
     let mut source = SureSource::new(b"Xyzzy\n".as_slice().to_vec(alloc)?);
     let mut sink = SureSink::new(alloc, 100)?;
     let end = player.run(100, &mut source, &[0], &mut sink)?;

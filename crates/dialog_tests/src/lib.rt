@@ -24,11 +24,17 @@ mod instructions;
 #[cfg(test)]
 mod lasting;
 #[cfg(test)]
+mod layers;
+#[cfg(test)]
 mod listings;
 #[cfg(test)]
 mod playing;
 #[cfg(test)]
+mod programs;
+#[cfg(test)]
 mod prompts;
+#[cfg(test)]
+mod quiet;
 #[cfg(test)]
 mod refusals;
 #[cfg(test)]
@@ -49,5 +55,7 @@ mod transcripts;
 mod typing;
 #[cfg(test)]
 mod unifying;
+#[cfg(test)]
+mod watching;
 #[cfg(test)]
 mod worlds;

@@ -1,10 +1,9 @@
 // Listings that are read back, and the first bad lines of others; the listing of a source's story, joined, and played with a rule left out.
-use crate::calls::{answers, case_of, story_of, words};
+use crate::calls::{answers, output_of, shelf_of, story_of};
 use crate::checks::same;
-use crate::typing::GAME;
-use dg_base::{SureShelf, SureSink, SureSource};
+use crate::typing::{GAME, game};
+use dg_base::SureSource;
 use dg_compile::compile;
-use dialog_tool::tool;
 use std::alloc::Global;
 use std::process::Abort;
 use std::test::Fail;
@@ -76,12 +75,8 @@ const SOURCE: &str = "(a) x (b)\n(a) y\n(b) (c)\n(program entry point) (a) z\n";
 
 // What `list` prints of a source.
 fn listed(rt: &impl Abort, alloc: Global, source: &str) -> Result<Vec<u8>, Fail> {
-    let words = words(alloc, "list p.dg")?;
-    let mut input = SureSource::new(Vec::new(alloc));
-    let mut shelf = SureShelf::new(alloc);
-    shelf.add("p.dg", source.as_bytes())?;
-    let mut out = SureSink::new(alloc, 4_000_000)?;
-    let status = tool(alloc, &words, &mut shelf, &mut input, &mut out, &[0]);
+    let file = source.as_bytes();
+    let (status, out) = output_of(alloc, "list p.dg", "p.dg", file, b"", 4_000_000)?;
     same(rt, &status, &0, "list");
     Ok(Vec::from_slice(alloc, out.taken())?)
 }
@@ -89,12 +84,10 @@ fn listed(rt: &impl Abort, alloc: Global, source: &str) -> Result<Vec<u8>, Fail>
 #[test]
 fn the_listing_of_a_source_is_joined_to_its_story(rt: HostRuntime) -> Result<(), Fail> {
     let alloc = rt.alloc();
-    let game = GAME.trim_start().strip_prefix(">>> ").unwrap_or("");
-    let source = case_of(game).expect(&rt, GAME).source;
+    let source = game().expect(&rt, GAME).source;
     let text = listed(&rt, alloc, source)?;
     let mut input = SureSource::new(Vec::new(alloc));
-    let mut shelf = SureShelf::new(alloc);
-    shelf.add("l.txt", &text)?;
+    let mut shelf = shelf_of(alloc, "l.txt", &text)?;
     let line = "join l.txt s.z8";
     answers(&rt, alloc, line, &mut shelf, &mut input, 99, (0, ""))?;
     let story = story_of(&rt, alloc, source)?;
@@ -149,12 +142,7 @@ const ALL: &[&str] = &["x y z\n"];
 
 // Plays a story.
 fn printed(rt: &impl Abort, alloc: Global, story: &[u8]) -> Result<Vec<u8>, Fail> {
-    let words = words(alloc, "play s.z8")?;
-    let mut input = SureSource::new(Vec::new(alloc));
-    let mut shelf = SureShelf::new(alloc);
-    shelf.add("s.z8", story)?;
-    let mut out = SureSink::new(alloc, 99)?;
-    let status = tool(alloc, &words, &mut shelf, &mut input, &mut out, &[0]);
+    let (status, out) = output_of(alloc, "play s.z8", "s.z8", story, b"", 99)?;
     same(rt, &status, &0, "play");
     Ok(Vec::from_slice(alloc, out.taken())?)
 }

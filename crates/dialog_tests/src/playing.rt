@@ -23,7 +23,7 @@ pub fn story(alloc: Global, code: [u8; 8]) -> Result<Vec<u8>, Fail>
 }
 
 // print "hi"; new_line; quit
-const HI: [u8; 8] = [0xB2, 0xB5, 0xC5, 0xBB, 0xBA, 0, 0, 0];
+pub const HI: [u8; 8] = [0xB2, 0xB5, 0xC5, 0xBB, 0xBA, 0, 0, 0];
 
 const BAD: [u8; 8] = [0, 0xB5, 0xC5, 0xBB, 0xBA, 0, 0, 0];
 

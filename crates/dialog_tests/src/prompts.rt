@@ -1,92 +1,111 @@
-// How much was written when a byte was asked for: a prompt stands before what is typed at it.
-ghost use Rattle.std.specs.Prelude.{Some};
-
-use crate::calls::words;
+// What a terminal shows: a prompt stands before what is typed at it.
+use crate::calls::{called, shelf_of};
 use crate::checks::same;
 use crate::playing::{ASK, story};
-use dg_base::{Failed, Sink, Source, SureShelf, SureSink, SureSource};
-use dialog_tool::tool;
-use std::alloc::Global;
-use std::cell::Cell;
+use crate::typing::{GAME, game};
+use dg_base::{Failed, Sink, Source, SureSource};
+use std::alloc::{AllocError, Global};
+use std::cell::RefCell;
 use std::process::Abort;
 use std::test::Fail;
 
-// An output that tells how many bytes it has taken.
+type Log = RefCell<Vec<u8>>;
+
+// An input and an output in one. Its log has what is written and each byte that is asked for in order, and `^D` where none is left.
 #[derive(Drop)]
-struct Telling<'a> {
-    inner: SureSink,
-    written: &'a Cell<usize>,
+struct Terminal<'a> {
+    typed: SureSource,
+    log: &'a Log,
 }
 
-impl Sink for Telling<'_> {
-    ghost view = { λ s. record { taken = Some s.inner.bytes; room = Some s.inner.room; faults = s.inner.faults } };
+// A log that has no room for them lacks them.
+fn note(log: &Log, bytes: &[u8]) {
+    if let Ok(mut log) = log.try_borrow_mut() {
+        let _room = log.extend_from_slice(bytes);
+    }
+}
+
+impl Source for Terminal<'_> {
+    ghost use Rattle.std.specs.Prelude.{Some};
+
+    ghost view = { λ t. record { left = Some t.typed; faults = 0 } };
+
+    fn next(&mut self) -> Result<Option<u8>, Failed> {
+        let next = self.typed.next()?;
+        match next {
+            Some(byte) => note(self.log, &[byte]),
+            None => note(self.log, b"^D"),
+        }
+        Ok(next)
+    }
+}
+
+impl Sink for Terminal<'_> {
+    ghost use Rattle.std.specs.Prelude.{None};
+
+    ghost view = { λ t. record { taken = None; room = None; faults = 0 } };
 
     ghost more = { λ old new piece result. Unit {0} };
 
     fn put(&mut self, piece: &[u8]) -> Result<usize, Failed> {
-        let taken = self.inner.put(piece)?;
-        self.written.set(self.written.get().saturating_add(taken));
-        Ok(taken)
+        note(self.log, piece);
+        Ok(piece.len())
     }
 }
 
-// An input that notes at each call how many bytes are written.
-#[derive(Drop)]
-struct Noting<'a> {
-    inner: SureSource,
-    written: &'a Cell<usize>,
-    notes: Vec<usize>,
+fn terminal_of<'a>(alloc: Global, typed: &str, log: &'a Log) -> Result<Terminal<'a>, AllocError> {
+    let typed = SureSource::new(typed.as_bytes().to_vec(alloc)?);
+    Ok(Terminal { typed, log })
 }
 
-impl Source for Noting<'_> {
-    ghost view = { λ s. record { left = Some s.inner; faults = 0 } };
-
-    fn next(&mut self) -> Result<Option<u8>, Failed> {
-        if self.notes.push(self.written.get()).is_err() {
-            self.notes.clear();
-        }
-        self.inner.next()
-    }
+// Calls the tool at a terminal, with this file.
+fn run(alloc: Global, line: &str, file: &[u8], typed: &str, log: &Log) -> Result<u8, AllocError> {
+    let mut shelf = shelf_of(alloc, "p", file)?;
+    let mut input = terminal_of(alloc, typed, log)?;
+    let mut output = terminal_of(alloc, "", log)?;
+    called(alloc, line, &mut shelf, &mut input, &mut output)
 }
 
-fn notes_of(alloc: Global, line: &str, file: &[u8], typed: &str) -> Result<Vec<usize>, Fail> {
-    let words = words(alloc, line)?;
-    let mut shelf = SureShelf::new(alloc);
-    shelf.add("p", file)?;
-    let written = Cell::new(0);
-    let mut input = Noting {
-        inner: SureSource::new(typed.as_bytes().to_vec(alloc)?),
-        written: &written,
-        notes: Vec::new(alloc),
-    };
-    let mut out = Telling {
-        inner: SureSink::new(alloc, 99)?,
-        written: &written,
-    };
-    tool(alloc, &words, &mut shelf, &mut input, &mut out, &[0]);
-    Ok(input.notes)
+// Compares what a terminal shows.
+fn shows(
+    rt: &impl Abort,
+    alloc: Global,
+    line: &str,
+    file: &[u8],
+    typed: &str,
+    wanted: &str,
+) -> Result<(), Fail> {
+    let log = RefCell::new(Vec::new(alloc));
+    run(alloc, line, file, typed, &log)?;
+    let log = log.into_inner();
+    same(rt, &log.as_slice(), &wanted.as_bytes(), line);
+    Ok(())
 }
 
-// Sources, what is typed, and how many bytes stand before each byte that is taken.
-const DEBUGGED: &[(&str, &str, &[usize])] = &[
-    ("(program entry point) > (get input $W) $W", "x\n", &[1, 1]),
+// Sources, what is typed, and what a terminal shows.
+const DEBUGGED: &[(&str, &str, &str)] = &[
+    (
+        "(program entry point) > (get input $W) $W",
+        "x\n",
+        ">x\n\n[x]\n",
+    ),
     (
         "(program entry point) a (get input $A) b (get input $B) $A $B",
         "x\ny\n",
-        &[1, 1, 3, 3],
+        "ax\n\nby\n\n[x] [y]\n",
     ),
     (
         "(program entry point) two words (no space) > (get input $)",
         "",
-        &[10],
+        "two words>^D\n[End of input]\n",
     ),
 ];
 
 #[test]
 fn prompts_are_written_before_input_is_taken(rt: HostRuntime) -> Result<(), Fail> {
     for (source, typed, wanted) in DEBUGGED {
-        let notes = notes_of(rt.alloc(), "debug p", source.as_bytes(), typed)?;
-        same(&rt, &notes.as_slice(), wanted, source);
+        let (line, file) = ("debug p", source.as_bytes());
+        shows(&rt, rt.alloc(), line, file, typed, wanted)?;
     }
     Ok(())
 }
@@ -94,7 +113,58 @@ fn prompts_are_written_before_input_is_taken(rt: HostRuntime) -> Result<(), Fail
 #[test]
 fn a_story_writes_before_it_reads(rt: HostRuntime) -> Result<(), Fail> {
     let story = story(rt.alloc(), ASK)?;
-    let notes = notes_of(rt.alloc(), "play p", &story, "")?;
-    same(&rt, &notes.as_slice(), &[2].as_slice(), "hi");
+    let wanted = "hi^D\n[End of input]\n";
+    shows(&rt, rt.alloc(), "play p", &story, "", wanted)
+}
+
+// The game at a terminal.
+const PLAYED: &str = "The hall.
+There is a brass lamp here.
+
+>look
+
+The hall.
+There is a brass lamp here.
+
+>take lamp
+
+Taken.
+
+>inventory
+
+You carry a brass lamp.
+
+>go north
+
+The cellar.
+
+>drop lamp
+
+Dropped.
+
+>look
+
+The cellar.
+There is a brass lamp here.
+
+>dance
+
+What?
+
+>quit
+
+Goodbye.
+";
+
+const LINES: &[&str] = &["debug p", "run p"];
+
+// Each byte of the game is asked for behind the prompt of its line, and no byte more.
+#[test]
+fn a_game_asks_behind_its_prompts(rt: HostRuntime) -> Result<(), Fail> {
+    let game = game().expect(&rt, GAME);
+    let source = game.source.as_bytes();
+    for line in LINES {
+        shows(&rt, rt.alloc(), line, source, game.typed, PLAYED)?;
+    }
     Ok(())
 }

@@ -20,10 +20,39 @@ p.dg:1: cannot be changed here
 === 1
 p.dg:2: cannot be changed here
 >>> debug p.dg
-($X is open) ($X = #lid)
-(program entry point) (now) (#lid is open)
+($ is lit) hello
+(program entry point) (now) (#a is lit)
 === 1
 p.dg:1: bad initial value
+>>> debug p.dg
+(loop) (loop)
+($ is lit) (loop)
+(program entry point) (now) (#a is lit)
+=== 1
+p.dg:2: initial value takes too long
+>>> debug p.dg
+%% An item that isn't quiet comes before a search, and a search before the missing entry.
+($ is lit) (loop)
+(loop) (loop)
+($X is open) ($X is lit)
+(p) (now) (#a is lit) (now) (#a is open)
+=== 1
+p.dg:4: bad initial value
+>>> debug p.dg
+(loop) (loop)
+($ is lit) (loop)
+(p) (now) (#a is lit)
+=== 1
+p.dg:2: initial value takes too long
+>>> debug p.dg
+%% The places come in order, and the objects of each: a value that a place can't have, before a search that takes too long.
+(loop) (loop)
+(#a is in [])
+($X is in [$X])
+($ is lit) (loop)
+(program entry point) (now) (#a is in #b) (now) (#a is lit)
+=== 1
+p.dg:3: bad initial value
 >>> debug p.dg
 (global variable (score 0))
 (p) x

@@ -1,12 +1,10 @@
 // Sources and their traces, worked out by hand from what a trace is; and traces without their calls, beside the transcripts of the
 // same sources.
-use crate::calls::{Case, case_of, play_all, words};
+use crate::calls::{Case, cases_of, output_of, play_all};
 use crate::checks::same;
 use crate::transcripts::SOURCES;
 use crate::typing::{GAME, TYPED};
 use crate::worlds::WORLDS;
-use dg_base::{SureShelf, SureSink, SureSource};
-use dialog_tool::tool;
 use std::alloc::{AllocError, Global};
 use std::process::Abort;
 use std::test::Fail;
@@ -147,15 +145,9 @@ fn erased(alloc: Global, lines: &[u8]) -> Result<Vec<u8>, AllocError> {
 
 // Traces the source of a case, and compares what is left without calls with what `debug` writes.
 fn erases(rt: &impl Abort, alloc: Global, case: &Case<'_>, options: &str) -> Result<(), Fail> {
-    let mut words = words(alloc, "trace p.dg")?;
-    for word in options.split_whitespace() {
-        words.push(String::from_str(alloc, word)?)?;
-    }
-    let mut input = SureSource::new(case.typed.as_bytes().to_vec(alloc)?);
-    let mut shelf = SureShelf::new(alloc);
-    shelf.add("p.dg", case.source.as_bytes())?;
-    let mut out = SureSink::new(alloc, 1_000_000)?;
-    let status = tool(alloc, &words, &mut shelf, &mut input, &mut out, &[0]);
+    let line = format!(in alloc; "trace p.dg{options}")?;
+    let (source, typed) = (case.source.as_bytes(), case.typed.as_bytes());
+    let (status, out) = output_of(alloc, &line, "p.dg", source, typed, 1_000_000)?;
     let text = erased(alloc, out.taken())?;
     let found = (status, text.as_slice());
     same(rt, &found, &(0, case.text.as_bytes()), case.source);
@@ -164,10 +156,9 @@ fn erases(rt: &impl Abort, alloc: Global, case: &Case<'_>, options: &str) -> Res
 
 // The cases of a table that `debug` runs without a limit.
 fn erase_all(rt: &impl Abort, alloc: Global, table: &str) -> Result<(), Fail> {
-    for text in table.split(">>> ").skip(1) {
-        let case = case_of(text).expect(rt, text);
+    for case in &cases_of(rt, alloc, table)? {
         match case.line.strip_prefix("debug p.dg") {
-            Some(options) if case.status == 0 => erases(rt, alloc, &case, options)?,
+            Some(options) if case.status == 0 => erases(rt, alloc, case, options)?,
             _ => {}
         }
     }

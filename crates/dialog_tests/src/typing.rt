@@ -1,5 +1,5 @@
 // Sources that read what is typed. A row is written as calls.rt says.
-use crate::calls::{gives, play_all, run_all};
+use crate::calls::{Case, case_of, gives, play_all, run_all};
 use std::test::Fail;
 
 pub const TYPED: &str = r#"
@@ -133,6 +133,7 @@ drop lamp
 look
 dance
 quit
+
 === 0
 The hall.
 There is a brass lamp here.
@@ -163,6 +164,10 @@ What?
 >
 Goodbye.
 "##;
+
+pub fn game() -> Option<Case<'static>> {
+    case_of(GAME.strip_prefix("\n>>> ")?)
+}
 
 const ECHO: &[u8] = b"(program entry point) (get input $W) $W";
 

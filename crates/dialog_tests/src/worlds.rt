@@ -46,6 +46,26 @@ n
 === 0
 #a done
 >>> debug p.dg
+($X is open) ($X = #lid)
+(program entry point) (now) (#lid is open)
+=== 0
+>>> debug p.dg
+(room #hall)
+(room #den)
+(#lamp has parent #hall)
+($X is lit) (room $X)
+(program entry point) (now) ~(#hall is lit) (exhaust) { *($X is lit) $X }
+=== 0
+#den
+>>> debug p.dg
+%% Values that rules find: the first answer decides, and what has none is unset.
+(#a size 3)
+($X weighs $N) *($X size $S) ($S times 2 into $N)
+($ weighs 9) (fail)
+(program entry point) (now) (#b weighs 1) (exhaust) { *($X weighs $N) $X $N }
+=== 0
+#a 6 #b 1
+>>> debug p.dg
 #hall
 #lamp
 (program entry point) *(object $X) $X (fail)
