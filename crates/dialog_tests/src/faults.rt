@@ -12,7 +12,7 @@ use std::test::Fail;
 struct Trial<'a> {
     line: &'a str,
     builds: bool,
-    game: Case<'a>,
+    game: Case<'static>,
     story: &'a [u8],
     most: usize,
 }
