@@ -14,8 +14,6 @@ mod choosing;
 #[cfg(test)]
 mod failing;
 #[cfg(test)]
-mod faults;
-#[cfg(test)]
 mod forms;
 #[cfg(test)]
 mod images;
